@@ -1,0 +1,53 @@
+/*
+ * The block engine's functions for C and C++. Link libjob.a, which `rt staticlib job` makes.
+ *
+ * Buffers. A buffer is lent for the call alone, as a pointer and a length in bytes, and needs no
+ * alignment. A pointer may not be null: for an empty buffer pass any other pointer with length 0.
+ * `out` may overlap no other buffer, and nobody may write to a lent buffer during the call.
+ *
+ * Threads. The engine has no global state, takes no memory from the heap and makes no system
+ * calls. Each function may be called from any thread, by several at once. A call takes about
+ * 100 KB of the caller's stack.
+ *
+ * Answers. 0 is accepted; any other answer is the number of the first question that was answered
+ * with no. A refused call leaves `out` as it was.
+ */
+#ifndef TPAL_H
+#define TPAL_H
+
+#include <stddef.h>
+#include <stdint.h>
+
+#ifdef __cplusplus
+extern "C" {
+#endif
+
+/* Questions about an image of B blocks and I instructions, in the order in which they are put.
+ * 6 and 7 are put block by block, then 8 and 9 instruction by instruction. */
+#define TPAL_ACCEPTED 0
+#define TPAL_HEADER 1        /* 8 bytes or more? */
+#define TPAL_MARK 2          /* mark TPB? */
+#define TPAL_VERSION 3       /* version 1? */
+#define TPAL_COUNTS 4        /* B in 1 to 128 and I in 1 to 1,024? */
+#define TPAL_LENGTH 5        /* length 8 + 10 B + 12 I? */
+#define TPAL_BLOCK_START 6   /* block 0 at 0, a later one after its predecessor, all below I? */
+#define TPAL_ANNOTATION 7    /* annotation as laid out, label below B? */
+#define TPAL_FIELDS 8        /* opcode, registers, labels and zeros as laid out? */
+#define TPAL_LAST_IN_BLOCK 9 /* opcode 13, 14 or 15 exactly when last in its block? */
+#define TPAL_BUFFER 15       /* every lent buffer of the right length? (put last) */
+
+/* Length of the largest image: 128 blocks and 1,024 instructions. */
+#define TPAL_IMAGE_MAX 13576
+
+/* Tests an image of any length. Answers 0, or 1 to 9. */
+uint8_t tpal_image_check(const uint8_t *image, size_t image_len);
+
+/* Reads an image of any length and writes its program back: `out`, of the image's length, then
+ * holds the image's bytes again. Answers 0; or 1 to 9; or 15 when out_len is not image_len. */
+uint8_t tpal_image_rewrite(const uint8_t *image, size_t image_len, uint8_t *out, size_t out_len);
+
+#ifdef __cplusplus
+}
+#endif
+
+#endif

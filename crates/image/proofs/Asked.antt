@@ -1,0 +1,77 @@
+-- Questions put one after the other: the first no decides.
+use mathlib.Core.Path.{_≡_, refl, ap, _∙_}
+use mathlib.Core.Bool.{Bool, true, false}
+use Prim.Native.Nat.{ℕ, zero, suc, _+_, _-_, _<_, _≤_}
+use native.Mathlib.Omega.{arith}
+use borrow.Author.Tests.{eq-eqb, ne-eqb, eqb-true, eqb-false}
+use lib.Dec.{eqb}
+use Rattle.image.specs.Questions.{ask, orElse, firstNo}
+
+-- a question whose number is not 0 and whose answer is 0 was answered with yes, and so were those after it
+pub ask-yes : (t : Bool) (n after : ℕ) → ask t (suc n) after ≡ 0 → (t ≡ true) × (after ≡ 0)
+ask-yes true n after h = (refl, h)
+ask-yes false n after h = absurd (omega arith)
+
+pub or-else-no : (a b : ℕ) → (a ≡ 0 → ⊥) → orElse a b ≡ a
+unfolding orElse
+or-else-no a b h = rw (ne-eqb a 0 h)
+
+pub or-else-yes : (a b : ℕ) → a ≡ 0 → orElse a b ≡ b
+unfolding orElse
+or-else-yes a b h = rw (eq-eqb a 0 h)
+
+pub or-else-both : (a b : ℕ) → orElse a b ≡ 0 → (a ≡ 0) × (b ≡ 0)
+unfolding orElse
+or-else-both zero b h = (refl, h)
+or-else-both (suc a) b h = absurd (omega (arith, or-else-no (suc a) b (λ e. (omega arith))))
+
+-- ---- the questions at i, i + 1, .., to - 1
+
+less-one : (n : ℕ) → suc n - 1 ≡ n
+less-one n = omega arith
+
+pub first-no-skips : (f : ℕ → ℕ) (n i : ℕ) → 0 < n → f i ≡ 0 → firstNo f n i ≡ firstNo f (n - 1) (i + 1)
+unfolding firstNo
+first-no-skips f zero i h e = absurd (omega arith)
+first-no-skips f (suc n) i h e = rw (or-else-yes (f i) (firstNo f n (i + 1)) e, less-one n)
+
+pub first-no-stops : (f : ℕ → ℕ) (n i : ℕ) → 0 < n → (f i ≡ 0 → ⊥) → firstNo f n i ≡ f i
+unfolding firstNo
+first-no-stops f zero i h e = absurd (omega arith)
+first-no-stops f (suc n) i h e = or-else-no (f i) (firstNo f n (i + 1)) e
+
+pub begins : (f : ℕ → ℕ) (to : ℕ) → firstNo f to 0 ≡ firstNo f (to - 0) 0
+begins f to = ap (λ (n : ℕ). firstNo f n 0) (whole to)
+  where
+    whole : (n : ℕ) → n ≡ n - 0
+    whole n = omega arith
+
+module _ (f : ℕ → ℕ) (to i : ℕ) where
+  rest : i < to → to - i - 1 ≡ to - (i + 1)
+  rest h = omega arith
+
+  none : to ≤ i → to - i ≡ 0
+  none h = omega arith
+
+  pub goes-on : i < to → f i ≡ 0 → firstNo f (to - i) i ≡ firstNo f (to - (i + 1)) (i + 1)
+  goes-on h e = first-no-skips f (to - i) i (omega arith) e ∙ ap (λ (n : ℕ). firstNo f n (i + 1)) (rest h)
+
+  pub decides : i < to → (f i ≡ 0 → ⊥) → firstNo f (to - i) i ≡ f i
+  decides h e = first-no-stops f (to - i) i (omega arith) e
+
+  pub no-more : to ≤ i → firstNo f (to - i) i ≡ 0
+  unfolding firstNo
+  no-more h = rw (none h)
+
+-- all of them were answered with yes
+pub first-no-all : (f : ℕ → ℕ) (n i : ℕ) → firstNo f n i ≡ 0 → (j : ℕ) → i ≤ j → j < i + n → f j ≡ 0
+unfolding firstNo
+first-no-all f zero i h j p q = absurd (omega arith)
+first-no-all f (suc n) i h j p q = go (λ k. first-no-all f n (i + 1) (both .1) j k (omega arith)) (eqb j i) refl
+  where
+    both : (f i ≡ 0) × (firstNo f n (i + 1) ≡ 0)
+    both = or-else-both (f i) (firstNo f n (i + 1)) h
+
+    go : (i + 1 ≤ j → f j ≡ 0) → (t : Bool) → eqb j i ≡ t → f j ≡ 0
+    go later true e = ap f (eqb-true j i e) ∙ both .0
+    go later false e = later (omega (arith, eqb-false j i e))

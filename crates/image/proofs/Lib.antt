@@ -1,0 +1,4 @@
+pub mod Asked
+pub mod Counts
+pub mod Pairs
+pub mod Marking

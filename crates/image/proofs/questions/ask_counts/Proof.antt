@@ -1,0 +1,28 @@
+-- `ask_counts` meets its contract.
+use borrow.Author.Tests.{le-leb, lt-leb}
+use Rattle.image.specs.Questions.{countsNo}
+use Rattle.image.proofs.questions.ask_counts.Statement.{statement}
+use Rattle.image.proofs.questions.ask_counts.Tie as tie
+
+returns : tie.Need-returns
+unfolding countsNo
+returns c = simp (lt-leb _ _ (c .if1 .taken))
+
+returns-2 : tie.Need-returns-2
+unfolding countsNo
+returns-2 c = simp (le-leb _ _ (c .before .if1 .left), lt-leb _ _ (c .if2 .taken))
+
+returns-3 : tie.Need-returns-3
+unfolding countsNo
+returns-3 c = simp (le-leb _ _ (c .before .before .if1 .left), le-leb _ _ (c .before .if2 .left), lt-leb _ _ (c .if3 .taken))
+
+returns-4 : tie.Need-returns-4
+unfolding countsNo
+returns-4 c = simp (le-leb _ _ (c .before .before .before .if1 .left), le-leb _ _ (c .before .before .if2 .left), le-leb _ _ (c .before .if3 .left), lt-leb _ _ (c .if4 .taken))
+
+returns-5 : tie.Need-returns-5
+unfolding countsNo
+returns-5 c = simp (le-leb _ _ (c .before .before .before .if1 .left), le-leb _ _ (c .before .before .if2 .left), le-leb _ _ (c .before .if3 .left), le-leb _ _ (c .if4 .left))
+
+pub ask-counts-spec : {M : Type 1} → statement M
+ask-counts-spec = tie.close (tie.spec returns returns-2 returns-3 returns-4 returns-5)

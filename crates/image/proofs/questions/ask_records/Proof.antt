@@ -1,0 +1,41 @@
+-- `ask_records` meets its contract.
+use mathlib.Core.Path.{sym, _∙_}
+use Rattle.image.specs.Questions.{recordsNo, firstNo, blockNo, instructionNo}
+use Rattle.image.specs.Layout.{blockCount, instructionCount}
+use Rattle.image.proofs.Asked.{or-else-no, or-else-yes}
+use Rattle.image.proofs.Marking.{marked-none}
+use Rattle.image.proofs.Counts.{counted, two-cells}
+use borrow.Author.Needs.{needs}
+use Rattle.image.proofs.questions.ask_records.Statement.{statement}
+use Rattle.image.proofs.questions.ask_records.Tie as tie
+
+slice-aggregate-ask-blocks : tie.Need-slice-aggregate-ask-blocks
+slice-aggregate-ask-blocks c = search needs
+
+ask-blocks-requires : tie.Need-ask-blocks-requires
+ask-blocks-requires c κs = let k = counted (blockCount (c .before .before .args .cells .now)) (instructionCount (c .before .before .args .cells .now)) (c .before .before .pre) in (two-cells (c .before .before .args .cells .now) (c .before .before .pre), k .blocks-fit, k .instructions-fit, marked-none (c .before .before .args .cells .now))
+
+returns : tie.Need-returns
+unfolding recordsNo
+returns c = c .before .before .ask-blocks .ensures .0 ∙ sym (or-else-no (firstNo (blockNo (c .before .before .before .before .before .args .cells .now)) (blockCount (c .before .before .before .before .before .args .cells .now)) 0) (firstNo (instructionNo (c .before .before .before .before .before .args .cells .now)) (instructionCount (c .before .before .before .before .before .args .cells .now)) 0) (λ e. c .if1 .taken (c .before .before .ask-blocks .ensures .0 ∙ e)))
+
+slice-aggregate-ask-instructions : tie.Need-slice-aggregate-ask-instructions
+slice-aggregate-ask-instructions c = search needs
+
+ask-instructions-requires : tie.Need-ask-instructions-requires
+ask-instructions-requires c κs = let k = counted (blockCount (c .before .before .before .before .before .before .args .cells .now)) (instructionCount (c .before .before .before .before .before .before .args .cells .now)) (c .before .before .before .before .before .before .pre) in (two-cells (c .before .before .before .before .before .before .args .cells .now) (c .before .before .before .before .before .before .pre), k .instructions-fit, c .before .before .before .ask-blocks .ensures .1 (c .before .if1 .left))
+
+returns-2 : tie.Need-returns-2
+unfolding recordsNo
+returns-2 c = c .ask-instructions .ensures ∙ sym (or-else-yes (firstNo (blockNo (c .before .before .before .before .before .before .before .args .cells .now)) (blockCount (c .before .before .before .before .before .before .before .args .cells .now)) 0) (firstNo (instructionNo (c .before .before .before .before .before .before .before .args .cells .now)) (instructionCount (c .before .before .before .before .before .before .before .args .cells .now)) 0) (sym (c .before .before .before .before .ask-blocks .ensures .0) ∙ c .before .before .if1 .left))
+
+pub ask-records-spec : {M : Type 1} → statement M
+ask-records-spec =
+    tie.close
+    (tie.spec
+    slice-aggregate-ask-blocks
+    ask-blocks-requires
+    returns
+    slice-aggregate-ask-instructions
+    ask-instructions-requires
+    returns-2)

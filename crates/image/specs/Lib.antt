@@ -1,0 +1,4 @@
+pub mod Layout
+pub mod Questions
+pub mod Marks
+pub mod Doors

@@ -1,0 +1,16 @@
+-- Which instructions start a block, marked once for all of them.
+use mathlib.Core.Path.{_≡_}
+use mathlib.Core.Bool.{Bool, true, false}
+use mathlib.Core.List.{List}
+use Prim.Native.Nat.{ℕ, _<_}
+use lib.ListN.{length, getD}
+use Rattle.image.specs.Questions.{startsAt}
+
+abbrev pub flag : Bool → ℕ
+flag true = 1
+flag false = 0
+
+-- the marks of the instructions at which one of the first n blocks starts
+pub record Marked (cells : List ℕ) (n : ℕ) (marks : List ℕ) : Type 0 where
+  pub sized : length marks ≡ 1024
+  pub marked : (i : ℕ) → i < 1024 → getD marks i 0 ≡ flag (startsAt cells n i)

@@ -1,0 +1,137 @@
+-- The questions put to a program, 4 and 6 to 9: the first no decides. An answer is 0, or the number of the question that was answered with no.
+use mathlib.Core.Bool.{Bool, true, false, not, cond, _&&_, _||_}
+use mathlib.Core.List.{List, [], _∷_}
+use Prim.Native.Nat.{ℕ, zero, suc, _+_, _-_, _*_, _/_, _%_}
+use lib.ListN.{length, getD}
+use lib.Dec.{eqb, ltb, leb}
+use Rattle.image.specs.declared.Block.{Block}
+use Rattle.image.specs.declared.Instruction.{Instruction}
+use Rattle.image.specs.Layout.{blockCount, instructionCount, blockOf, instructionOf}
+
+-- the answer n where the test fails, else the answer after it
+abbrev pub ask : Bool → ℕ → ℕ → ℕ
+ask true n after = after
+ask false n after = n
+
+-- the first answer, or the second where that was 0
+unfoldable pub orElse : ℕ → ℕ → ℕ
+orElse a b = cond (eqb a 0) b a
+
+-- the first answer of f at i, i + 1, .. (n of them) that is not 0, or 0
+unfoldable pub firstNo : (ℕ → ℕ) → ℕ → ℕ → ℕ
+firstNo f zero i = 0
+firstNo f (suc n) i = orElse (f i) (firstNo f n (i + 1))
+
+-- B in 1 to 128 and I in 1 to 1,024? (4)
+unfoldable pub countsNo : ℕ → ℕ → ℕ
+countsNo blocks instructions =
+    ask (leb 1 blocks && (leb blocks 128 && (leb 1 instructions && leb instructions 1024))) 4 0
+
+-- ---- blocks
+
+-- does block 0 start at 0, a later one after its predecessor, all below I? (6)
+unfoldable pub starts : List ℕ → ℕ → Bool
+starts cells b =
+    ltb (blockOf cells b .first) (instructionCount cells)
+    && cond (eqb b 0) (eqb (blockOf cells b .first) 0) (ltb (blockOf cells (b - 1) .first) (blockOf cells b .first))
+
+-- n pair bytes in strictly rising order of target (the low four bits), and nothing after them
+unfoldable pub rising : ℕ → ℕ → Bool
+rising zero bytes = eqb bytes 0
+rising (suc zero) bytes = ltb bytes 256
+rising (suc (suc n)) bytes = ltb (bytes % 16) (bytes / 256 % 16) && rising (suc n) (bytes / 256)
+
+-- policy and pairs belong to annotation 2 only
+unfoldable pub unjoined : Block → Bool
+unjoined k = eqb (k .policy) 0 && (eqb (k .pairs) 0 && eqb (k .packed) 0)
+
+-- policy 0 or 1, up to four pairs
+unfoldable pub joined : Block → Bool
+joined k = leb (k .policy) 1 && (leb (k .pairs) 4 && rising (k .pairs) (k .packed))
+
+-- is the annotation as laid out, label below B? (7) Annotation 0 none, 1 promotion-ready, 2 join target
+unfoldable pub annotated : ℕ → Block → Bool
+annotated blocks k =
+    cond (eqb (k .annotation) 0) (eqb (k .label) 0 && unjoined k)
+    (ltb (k .label) blocks && cond (eqb (k .annotation) 1) (unjoined k) (eqb (k .annotation) 2 && joined k))
+
+-- a block that a short buffer lacks is a no to 6
+unfoldable pub blockNo : List ℕ → ℕ → ℕ
+blockNo cells b =
+    ask (leb (2 + 6 * b + 6) (length cells)) 6
+    (ask (starts cells b) 6
+    (ask (annotated (blockCount cells) (blockOf cells b)) 7 0))
+
+-- ---- instructions
+
+-- which of r, s and v each opcode has, fifteen rows
+abbrev pub fields : List ℕ
+fields =
+    1 ∷ 0 ∷ 1  -- 1 r := v
+    ∷ 1 ∷ 1 ∷ 1  -- 2 r := s + v
+    ∷ 1 ∷ 1 ∷ 1  -- 3 r := s - v
+    ∷ 1 ∷ 1 ∷ 1  -- 4 r := s * v
+    ∷ 1 ∷ 1 ∷ 1  -- 5 r := s / v
+    ∷ 1 ∷ 1 ∷ 1  -- 6 r := s % v
+    ∷ 1 ∷ 1 ∷ 1  -- 7 r := s < v
+    ∷ 1 ∷ 1 ∷ 1  -- 8 r := s = v
+    ∷ 1 ∷ 0 ∷ 1  -- 9 r := word v
+    ∷ 0 ∷ 1 ∷ 1  -- 10 if-jump s, v
+    ∷ 1 ∷ 0 ∷ 1  -- 11 r := jralloc v
+    ∷ 0 ∷ 1 ∷ 1  -- 12 fork s, v
+    ∷ 0 ∷ 0 ∷ 1  -- 13 jump v
+    ∷ 0 ∷ 0 ∷ 0  -- 14 halt
+    ∷ 0 ∷ 0 ∷ 1  -- 15 join v
+    ∷ []
+
+abbrev pub has : ℕ → ℕ → ℕ
+has opcode field = getD fields (3 * (opcode - 1) + field) 0
+
+-- a register number 0 to 15, or 0 where the opcode has none
+unfoldable pub register : ℕ → ℕ → Bool
+register has x = cond (eqb has 0) (eqb x 0) (leb x 15)
+
+-- kind 1 a register 0 to 15, 2 a label below B, 3 an integer; kind and operand 0 where the opcode has no v
+unfoldable pub operandFits : ℕ → ℕ → ℕ → ℕ → Bool
+operandFits blocks has kind operand =
+    cond (eqb has 0) (eqb kind 0 && eqb operand 0)
+    (cond (eqb kind 1) (leb operand 15) (cond (eqb kind 2) (ltb operand blocks) (eqb kind 3)))
+
+-- are opcode, registers, labels and zeros as laid out? (8)
+unfoldable pub laidOut : ℕ → Instruction → Bool
+laidOut blocks x =
+    leb 1 (x .opcode)
+    && (leb (x .opcode) 15
+    && (register (has (x .opcode) 0) (x .r)
+    && (register (has (x .opcode) 1) (x .s) && operandFits blocks (has (x .opcode) 2) (x .kind) (x .operand))))
+
+-- does one of the first n blocks start at instruction i?
+unfoldable pub startsAt : List ℕ → ℕ → ℕ → Bool
+startsAt cells zero i = false
+startsAt cells (suc n) i = eqb (blockOf cells n .first) i || startsAt cells n i
+
+-- the next instruction starts a block, or there is none
+unfoldable pub lastInBlock : List ℕ → ℕ → Bool
+lastInBlock cells i = eqb (i + 1) (instructionCount cells) || startsAt cells (blockCount cells) (i + 1)
+
+abbrev pub same : Bool → Bool → Bool
+same true b = b
+same false b = not b
+
+-- is it opcode 13, 14 or 15 exactly when last in its block? (9) An instruction that a short buffer lacks is a no to 8
+unfoldable pub instructionNo : List ℕ → ℕ → ℕ
+instructionNo cells i =
+    ask (leb (770 + 5 * i + 5) (length cells)) 8
+    (ask (laidOut (blockCount cells) (instructionOf cells i)) 8
+    (ask (same (leb 13 (instructionOf cells i .opcode)) (lastInBlock cells i)) 9 0))
+
+-- ---- a program
+
+-- for each block 6 then 7, then for each instruction 8 then 9
+unfoldable pub recordsNo : List ℕ → ℕ
+recordsNo cells =
+    orElse (firstNo (blockNo cells) (blockCount cells) 0) (firstNo (instructionNo cells) (instructionCount cells) 0)
+
+-- 4 and 6 to 9
+unfoldable pub programNo : List ℕ → ℕ
+programNo cells = orElse (countsNo (blockCount cells) (instructionCount cells)) (recordsNo cells)

@@ -1,0 +1,11 @@
+//! The engine's exports compared with the model, on seeded images.
+//!
+//! A case is named by a seed and a number, and made from these two alone, so that one that failed
+//! can be run again by itself: `cargo run --release --bin soak -- 1 SEED NUMBER`.
+
+pub mod compare;
+pub mod coverage;
+pub mod generate;
+pub mod layout;
+pub mod random;
+pub mod run;

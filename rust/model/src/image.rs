@@ -1,0 +1,607 @@
+//! Program images: reader, writer, and the questions that they put.
+
+use crate::question;
+use std::iter;
+
+pub const MARK: [u8; 3] = *b"TPB";
+pub const VERSION: u16 = 1;
+pub const MAX_BLOCKS: usize = 128;
+pub const MAX_INSTRUCTIONS: usize = 1024;
+pub const MAX_PAIRS: usize = 4;
+
+pub const HEADER_BYTES: usize = 8;
+pub const BLOCK_BYTES: usize = 10;
+pub const INSTRUCTION_BYTES: usize = 12;
+
+const HIGHEST_REGISTER: u8 = 15;
+
+/// A program as an image spells it. The fields are public and hold any number, so a program need
+/// not be valid: [`Program::check`] tells.
+#[derive(Clone, Debug, PartialEq, Eq)]
+pub struct Program {
+    pub blocks: Vec<Block>,
+    pub instructions: Vec<Instruction>,
+}
+
+#[derive(Clone, Copy, Debug, PartialEq, Eq)]
+pub struct Block {
+    pub first: u16,
+    /// 0 none, 1 promotion-ready, 2 join target.
+    pub annotation: u8,
+    /// 0 assoc, 1 assoc-comm.
+    pub policy: u8,
+    /// The handler block of annotation 1, the combining block of annotation 2.
+    pub label: u8,
+    pub pair_count: u8,
+    /// High four bits: the child's register; low four bits: the target.
+    pub pairs: [u8; MAX_PAIRS],
+}
+
+#[derive(Clone, Copy, Debug, PartialEq, Eq)]
+pub struct Instruction {
+    pub opcode: u8,
+    pub r: u8,
+    pub s: u8,
+    /// 0 absent, 1 register, 2 label, 3 integer.
+    pub kind: u8,
+    pub operand: u64,
+}
+
+/// The largest number, and for the kind also the least, that an opcode's fields may hold. An
+/// absent field is one that may hold only 0.
+struct Limits {
+    r: u8,
+    s: u8,
+    least_kind: u8,
+    kind: u8,
+}
+
+const fn with(r: bool, s: bool, v: bool) -> Limits {
+    Limits {
+        r: if r { HIGHEST_REGISTER } else { 0 },
+        s: if s { HIGHEST_REGISTER } else { 0 },
+        least_kind: if v { 1 } else { 0 },
+        kind: if v { 3 } else { 0 },
+    }
+}
+
+const R_V: Limits = with(true, false, true);
+const R_S_V: Limits = with(true, true, true);
+const S_V: Limits = with(false, true, true);
+const V: Limits = with(false, false, true);
+const NONE: Limits = with(false, false, false);
+
+/// Which fields each opcode has, from opcode 1 on.
+static FIELDS: [Limits; 15] = [
+    R_V, R_S_V, R_S_V, R_S_V, R_S_V, R_S_V, R_S_V, R_S_V, R_V, S_V, R_V, S_V, V, NONE, V,
+];
+
+/// The largest operand of each kind, in a program of `block_count` blocks.
+fn largest_operands(block_count: usize) -> [u64; 4] {
+    [
+        0,
+        u64::from(HIGHEST_REGISTER),
+        block_count as u64 - 1,
+        u64::MAX,
+    ]
+}
+
+impl Instruction {
+    /// Question 8. The tests are joined by `&`: the opcodes of a program follow no pattern that a
+    /// branch predictor could learn.
+    fn is_as_laid_out(&self, largest: &[u64; 4]) -> bool {
+        match FIELDS.get(usize::from(self.opcode).wrapping_sub(1)) {
+            None => false,
+            Some(limits) => {
+                (self.r <= limits.r)
+                    & (self.s <= limits.s)
+                    & (self.kind >= limits.least_kind)
+                    & (self.kind <= limits.kind)
+                    & (self.operand <= largest[usize::from(self.kind & 3)])
+            }
+        }
+    }
+
+    /// Jump, halt and join: control does not go on to the next instruction.
+    fn ends_block(&self) -> bool {
+        matches!(self.opcode, 13..=15)
+    }
+
+    fn decode(record: &[u8]) -> Self {
+        Instruction {
+            opcode: record[0],
+            r: record[1],
+            s: record[2],
+            kind: record[3],
+            operand: u64::from_le_bytes(record[4..12].try_into().unwrap()),
+        }
+    }
+
+    fn encode(&self, record: &mut [u8]) {
+        record[..4].copy_from_slice(&[self.opcode, self.r, self.s, self.kind]);
+        record[4..].copy_from_slice(&self.operand.to_le_bytes());
+    }
+}
+
+impl Block {
+    /// Question 7.
+    fn is_annotated_as_laid_out(&self, block_count: usize) -> bool {
+        let label_in_range = usize::from(self.label) < block_count;
+        let no_policy_or_pairs =
+            self.policy == 0 && self.pair_count == 0 && self.pairs == [0; MAX_PAIRS];
+        match self.annotation {
+            0 => self.label == 0 && no_policy_or_pairs,
+            1 => label_in_range && no_policy_or_pairs,
+            2 => label_in_range && self.policy <= 1 && self.has_rising_pairs(),
+            _ => false,
+        }
+    }
+
+    /// Used pairs first, in strictly rising order of target, the unused ones 0.
+    fn has_rising_pairs(&self) -> bool {
+        let count = usize::from(self.pair_count);
+        if count > MAX_PAIRS {
+            return false;
+        }
+        let (used, unused) = self.pairs.split_at(count);
+        used.windows(2).all(|w| w[0] & 15 < w[1] & 15) && unused.iter().all(|&pair| pair == 0)
+    }
+
+    fn decode(record: &[u8]) -> Self {
+        Block {
+            first: u16::from_le_bytes([record[0], record[1]]),
+            annotation: record[2],
+            policy: record[3],
+            label: record[4],
+            pair_count: record[5],
+            pairs: record[6..10].try_into().unwrap(),
+        }
+    }
+
+    fn encode(&self, record: &mut [u8]) {
+        record[..2].copy_from_slice(&self.first.to_le_bytes());
+        record[2..6].copy_from_slice(&[self.annotation, self.policy, self.label, self.pair_count]);
+        record[6..].copy_from_slice(&self.pairs);
+    }
+}
+
+impl Program {
+    /// Length of this program's image.
+    pub fn image_len(&self) -> usize {
+        image_len(self.blocks.len(), self.instructions.len())
+    }
+
+    /// The questions about a program that is at hand: 4, then 6 and 7 block by block, then 8 and 9
+    /// instruction by instruction.
+    pub fn check(&self) -> Result<(), u8> {
+        check_counts(self.blocks.len(), self.instructions.len())?;
+        self.check_blocks()?;
+        self.check_instructions()
+    }
+
+    fn check_blocks(&self) -> Result<(), u8> {
+        let mut expected = 0..=0;
+        for block in &self.blocks {
+            let first = usize::from(block.first);
+            if !expected.contains(&first) || first >= self.instructions.len() {
+                return Err(question::BLOCK_START);
+            }
+            if !block.is_annotated_as_laid_out(self.blocks.len()) {
+                return Err(question::ANNOTATION);
+            }
+            expected = first + 1..=usize::MAX;
+        }
+        Ok(())
+    }
+
+    /// Expects what `check_blocks` has asked: the blocks divide the instructions, none is empty.
+    fn check_instructions(&self) -> Result<(), u8> {
+        let largest = largest_operands(self.blocks.len());
+        let starts = self.blocks.iter().map(|block| usize::from(block.first));
+        let ends = starts
+            .clone()
+            .skip(1)
+            .chain(iter::once(self.instructions.len()));
+        for (start, end) in starts.zip(ends) {
+            for (i, instruction) in self.instructions[start..end].iter().enumerate() {
+                if !instruction.is_as_laid_out(&largest) {
+                    return Err(question::FIELDS);
+                }
+                let is_last = start + i + 1 == end;
+                if instruction.ends_block() != is_last {
+                    return Err(question::LAST_IN_BLOCK);
+                }
+            }
+        }
+        Ok(())
+    }
+
+    /// `image` has this program's image length.
+    fn encode(&self, image: &mut [u8]) {
+        let (header, records) = image.split_at_mut(HEADER_BYTES);
+        header[..3].copy_from_slice(&MARK);
+        header[3..5].copy_from_slice(&VERSION.to_le_bytes());
+        header[5] = self.blocks.len() as u8;
+        header[6..].copy_from_slice(&(self.instructions.len() as u16).to_le_bytes());
+
+        let (blocks, instructions) = records.split_at_mut(BLOCK_BYTES * self.blocks.len());
+        for (block, record) in self.blocks.iter().zip(blocks.chunks_exact_mut(BLOCK_BYTES)) {
+            block.encode(record);
+        }
+        for (instruction, record) in self
+            .instructions
+            .iter()
+            .zip(instructions.chunks_exact_mut(INSTRUCTION_BYTES))
+        {
+            instruction.encode(record);
+        }
+    }
+}
+
+fn image_len(block_count: usize, instruction_count: usize) -> usize {
+    HEADER_BYTES + BLOCK_BYTES * block_count + INSTRUCTION_BYTES * instruction_count
+}
+
+fn check_counts(block_count: usize, instruction_count: usize) -> Result<(), u8> {
+    let allowed = (1..=MAX_BLOCKS).contains(&block_count)
+        && (1..=MAX_INSTRUCTIONS).contains(&instruction_count);
+    if allowed {
+        Ok(())
+    } else {
+        Err(question::COUNTS)
+    }
+}
+
+/// The program of an image, or the number of the first question that is answered with no.
+pub fn read(image: &[u8]) -> Result<Program, u8> {
+    if image.len() < HEADER_BYTES {
+        return Err(question::HEADER);
+    }
+    let (header, records) = image.split_at(HEADER_BYTES);
+    if header[..3] != MARK {
+        return Err(question::MARK);
+    }
+    if u16::from_le_bytes([header[3], header[4]]) != VERSION {
+        return Err(question::VERSION);
+    }
+    let block_count = usize::from(header[5]);
+    let instruction_count = usize::from(u16::from_le_bytes([header[6], header[7]]));
+    check_counts(block_count, instruction_count)?;
+    if image.len() != image_len(block_count, instruction_count) {
+        return Err(question::LENGTH);
+    }
+
+    let (blocks, instructions) = records.split_at(BLOCK_BYTES * block_count);
+    let program = Program {
+        blocks: blocks
+            .chunks_exact(BLOCK_BYTES)
+            .map(Block::decode)
+            .collect(),
+        instructions: instructions
+            .chunks_exact(INSTRUCTION_BYTES)
+            .map(Instruction::decode)
+            .collect(),
+    };
+    program.check_blocks()?;
+    program.check_instructions()?;
+    Ok(program)
+}
+
+/// The program's image, or the number of the first of questions 4 and 6 to 9 that is answered
+/// with no.
+pub fn write(program: &Program) -> Result<Vec<u8>, u8> {
+    program.check()?;
+    let mut image = vec![0; program.image_len()];
+    program.encode(&mut image);
+    Ok(image)
+}
+
+/// Writes the program's image over `out`, which has its length. A refusal leaves `out` as it was.
+pub fn write_into(program: &Program, out: &mut [u8]) -> Result<(), u8> {
+    program.check()?;
+    if out.len() != program.image_len() {
+        return Err(question::BUFFER);
+    }
+    program.encode(out);
+    Ok(())
+}
+
+/// Reads an image and writes its program over `out`, which has the image's length. A refusal
+/// leaves `out` as it was.
+pub fn rewrite(image: &[u8], out: &mut [u8]) -> Result<(), u8> {
+    write_into(&read(image)?, out)
+}
+
+#[cfg(test)]
+mod tests {
+    use super::*;
+
+    const PLAIN: Block = Block {
+        first: 0,
+        annotation: 0,
+        policy: 0,
+        label: 0,
+        pair_count: 0,
+        pairs: [0; MAX_PAIRS],
+    };
+
+    const HALT: Instruction = Instruction {
+        opcode: 14,
+        r: 0,
+        s: 0,
+        kind: 0,
+        operand: 0,
+    };
+
+    const MOVE: Instruction = Instruction {
+        opcode: 1,
+        kind: 3,
+        ..HALT
+    };
+
+    /// One block for each number of instructions given, all plain moves and a halt at the end.
+    fn program(sizes: &[usize]) -> Program {
+        let mut program = Program {
+            blocks: Vec::new(),
+            instructions: Vec::new(),
+        };
+        for &size in sizes {
+            let first = program.instructions.len() as u16;
+            program.blocks.push(Block { first, ..PLAIN });
+            program.instructions.extend(vec![MOVE; size - 1]);
+            program.instructions.push(HALT);
+        }
+        program
+    }
+
+    fn with_block(block: Block) -> Result<(), u8> {
+        let mut program = program(&[1, 1, 1]);
+        program.blocks[1] = Block { first: 1, ..block };
+        program.check()
+    }
+
+    fn with_instruction(instruction: Instruction) -> Result<(), u8> {
+        let mut program = program(&[2, 1, 1]);
+        let at = usize::from(instruction.ends_block());
+        program.instructions[at] = instruction;
+        program.check()
+    }
+
+    #[test]
+    fn the_least_image_is_these_bytes() {
+        let image = write(&program(&[1])).unwrap();
+        let mut expected = b"TPB\x01\0\x01\x01\0".to_vec();
+        expected.extend([0; 10]);
+        expected.extend([14, 0, 0, 0, 0, 0, 0, 0, 0, 0, 0, 0]);
+        assert_eq!(image, expected);
+        assert_eq!(read(&image), Ok(program(&[1])));
+    }
+
+    #[test]
+    fn records_are_little_endian_and_in_this_order() {
+        let mut program = program(&[258, 1, 1, 1]);
+        program.blocks[1] = Block {
+            first: 258,
+            annotation: 2,
+            policy: 1,
+            label: 3,
+            pair_count: 2,
+            pairs: [0x51, 0x42, 0, 0],
+        };
+        program.instructions[0] = Instruction {
+            opcode: 2,
+            r: 4,
+            s: 5,
+            kind: 3,
+            operand: 0x0807_0605_0403_0201,
+        };
+        let image = write(&program).unwrap();
+        assert_eq!(image[5..8], [4, 0x05, 0x01]);
+        assert_eq!(image[18..28], [2, 1, 2, 1, 3, 2, 0x51, 0x42, 0, 0]);
+        assert_eq!(image[48..60], [2, 4, 5, 3, 1, 2, 3, 4, 5, 6, 7, 8]);
+        assert_eq!(read(&image), Ok(program));
+    }
+
+    #[test]
+    fn counts() {
+        let blocks = |n: usize| program(&vec![1; n]).check();
+        let instructions = |n: usize| program(&[n]).check();
+        assert_eq!(blocks(0), Err(4));
+        assert_eq!(blocks(128), Ok(()));
+        assert_eq!(blocks(129), Err(4));
+        assert_eq!(instructions(1024), Ok(()));
+        assert_eq!(instructions(1025), Err(4));
+        let no_instructions = Program {
+            blocks: vec![PLAIN],
+            instructions: Vec::new(),
+        };
+        assert_eq!(write(&no_instructions), Err(4));
+    }
+
+    #[test]
+    fn block_starts() {
+        let starts = |starts: &[u16]| {
+            let mut program = program(&[1, 1, 1]);
+            for (block, &first) in program.blocks.iter_mut().zip(starts) {
+                block.first = first;
+            }
+            program.check()
+        };
+        assert_eq!(starts(&[0, 1, 2]), Ok(()));
+        assert_eq!(starts(&[1, 2, 3]), Err(6));
+        assert_eq!(starts(&[0, 0, 2]), Err(6));
+        assert_eq!(starts(&[0, 2, 1]), Err(6));
+        assert_eq!(starts(&[0, 1, 3]), Err(6));
+    }
+
+    #[test]
+    fn annotations() {
+        let none = PLAIN;
+        let ready = Block {
+            annotation: 1,
+            label: 2,
+            ..PLAIN
+        };
+        let target = Block {
+            annotation: 2,
+            policy: 1,
+            label: 2,
+            pair_count: 4,
+            pairs: [0xf0, 0xe1, 0x0e, 0x0f],
+            ..PLAIN
+        };
+        for block in [none, ready, target] {
+            assert_eq!(with_block(block), Ok(()), "{:?}", block);
+        }
+        let refused = [
+            Block {
+                annotation: 3,
+                ..none
+            },
+            Block { policy: 1, ..none },
+            Block { label: 1, ..none },
+            Block {
+                pair_count: 1,
+                ..none
+            },
+            Block {
+                pairs: [0, 0, 0, 1],
+                ..none
+            },
+            Block { label: 3, ..ready },
+            Block { policy: 1, ..ready },
+            Block {
+                pair_count: 1,
+                ..ready
+            },
+            Block {
+                pairs: [1, 0, 0, 0],
+                ..ready
+            },
+            Block {
+                policy: 2,
+                ..target
+            },
+            Block { label: 3, ..target },
+            Block {
+                pair_count: 5,
+                ..target
+            },
+            Block {
+                pair_count: 3,
+                ..target
+            },
+            Block {
+                pairs: [0xf0, 0xe1, 0x0f, 0x0e],
+                ..target
+            },
+            Block {
+                pairs: [0x00, 0x10, 0x02, 0x03],
+                ..target
+            },
+        ];
+        for block in refused {
+            assert_eq!(with_block(block), Err(7), "{:?}", block);
+        }
+    }
+
+    #[test]
+    fn each_opcode_has_its_fields_and_no_other() {
+        for opcode in 0..=255 {
+            let (r, s, v) = match opcode {
+                1 | 9 | 11 => (true, false, true),
+                2..=8 => (true, true, true),
+                10 | 12 => (false, true, true),
+                13 | 15 => (false, false, true),
+                14 => (false, false, false),
+                _ => {
+                    assert_eq!(with_instruction(Instruction { opcode, ..MOVE }), Err(8));
+                    assert_eq!(with_instruction(Instruction { opcode, ..HALT }), Err(8));
+                    continue;
+                }
+            };
+            let answer = |fits: bool| if fits { Ok(()) } else { Err(8) };
+            let least = Instruction {
+                opcode,
+                kind: u8::from(v),
+                ..HALT
+            };
+            assert_eq!(with_instruction(least), Ok(()));
+            for n in 1..=255 {
+                let fits = n < 16;
+                assert_eq!(
+                    with_instruction(Instruction { r: n, ..least }),
+                    answer(r && fits)
+                );
+                assert_eq!(
+                    with_instruction(Instruction { s: n, ..least }),
+                    answer(s && fits)
+                );
+            }
+            for kind in 0..=255 {
+                let bare = Instruction { kind, ..least };
+                assert_eq!(
+                    with_instruction(bare),
+                    answer(if v {
+                        (1..=3).contains(&kind)
+                    } else {
+                        kind == 0
+                    })
+                );
+                for operand in [1, 2, 3, 15, 16, 255, 256, 1 << 32, 1 << 63, u64::MAX] {
+                    let instruction = Instruction { operand, ..bare };
+                    let fits = match kind {
+                        1 => operand < 16,
+                        2 => operand < 3,
+                        3 => true,
+                        _ => false,
+                    };
+                    assert_eq!(with_instruction(instruction), answer(v && fits));
+                }
+            }
+        }
+    }
+
+    #[test]
+    fn last_in_block() {
+        let mut early = program(&[3]);
+        early.instructions[1] = HALT;
+        assert_eq!(early.check(), Err(9));
+        let mut open = program(&[3, 2]);
+        open.instructions[2] = MOVE;
+        assert_eq!(open.check(), Err(9));
+        let mut open_at_end = program(&[3, 2]);
+        open_at_end.instructions[4] = MOVE;
+        assert_eq!(open_at_end.check(), Err(9));
+    }
+
+    #[test]
+    fn a_refused_write_leaves_the_buffer_as_it_was() {
+        let good = program(&[2, 1]);
+        let mut bad = good.clone();
+        bad.instructions[0].r = 16;
+        let len = good.image_len();
+        for size in [0, len - 1, len, len + 1] {
+            let mut out = vec![0xa5; size];
+            assert_eq!(write_into(&bad, &mut out), Err(8));
+            assert_eq!(out, vec![0xa5; size]);
+            if size != len {
+                assert_eq!(write_into(&good, &mut out), Err(15));
+                assert_eq!(out, vec![0xa5; size]);
+            }
+        }
+        let mut out = vec![0xa5; len];
+        assert_eq!(write_into(&good, &mut out), Ok(()));
+        assert_eq!(Ok(out), write(&good));
+    }
+
+    #[test]
+    fn reading_and_writing_undo_each_other() {
+        let program = program(&[3, 1, 7, 2]);
+        let image = write(&program).unwrap();
+        assert_eq!(read(&image), Ok(program));
+        let mut out = vec![0; image.len()];
+        assert_eq!(rewrite(&image, &mut out), Ok(()));
+        assert_eq!(out, image);
+    }
+}
