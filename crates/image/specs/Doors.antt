@@ -1,5 +1,5 @@
 -- What the doors answer, and what they leave in the lent buffers.
-use mathlib.Core.Bool.{cond, _&&_}
+use mathlib.Core.Bool.{Bool, cond, _&&_}
 use mathlib.Core.List.{List}
 use Prim.Native.Nat.{ℕ, _+_, _*_}
 use lib.ListN.{length, getD}
@@ -12,11 +12,15 @@ use Rattle.image.specs.Questions.{ask, orElse, countsNo, recordsNo, prog
 unfoldable pub unlessRefused : {A : Type 0} → ℕ → A → A → A
 unlessRefused answer new old = cond (eqb answer 0) new old
 
+-- the letters TPB
+unfoldable pub markIn : List ℕ → Bool
+markIn bytes = eqb (getD bytes 0 0) 84 && (eqb (getD bytes 1 0) 80 && eqb (getD bytes 2 0) 66)
+
 -- Reading an image, questions 1 to 9
 unfoldable pub headerNo : List ℕ → ℕ
 headerNo bytes =
     ask (leb 8 (length bytes)) 1  -- 8 bytes or more?
-    (ask (eqb (getD bytes 0 0) 84 && (eqb (getD bytes 1 0) 80 && eqb (getD bytes 2 0) 66)) 2  -- mark TPB?
+    (ask (markIn bytes) 2  -- mark TPB?
     (ask (eqb (little 2 bytes 3) 1) 3  -- version 1?
     (orElse (countsNo (blocksIn bytes) (instructionsIn bytes))  -- 4
     (ask (eqb (length bytes) (imageLength (blocksIn bytes) (instructionsIn bytes))) 5 0))))  -- the length?

@@ -39,7 +39,10 @@ blockIn bytes at = record {
 }
 
 abbrev pub blockBytes : Block → List ℕ
-blockBytes k = bytesOf 2 (k .first) ++ (k .annotation ∷ k .policy ∷ k .label ∷ k .pairs ∷ bytesOf 4 (k .packed))
+blockBytes k =
+    bytesOf 2 (k .first)
+    ++ (bytesOf 1 (k .annotation)
+    ++ (bytesOf 1 (k .policy) ++ (bytesOf 1 (k .label) ++ (bytesOf 1 (k .pairs) ++ bytesOf 4 (k .packed)))))
 
 -- the instruction record at an offset: opcode, r, s, operand kind, operand (64 bits)
 abbrev pub instructionIn : List ℕ → ℕ → Instruction
@@ -52,7 +55,9 @@ instructionIn bytes at = record {
 }
 
 abbrev pub instructionBytes : Instruction → List ℕ
-instructionBytes x = x .opcode ∷ x .r ∷ x .s ∷ x .kind ∷ bytesOf 8 (x .operand)
+instructionBytes x =
+    bytesOf 1 (x .opcode)
+    ++ (bytesOf 1 (x .r) ++ (bytesOf 1 (x .s) ++ (bytesOf 1 (x .kind) ++ bytesOf 8 (x .operand))))
 
 -- ---- The program buffer: cell 0 the number of blocks, 1 the number of instructions, then room for 128 blocks and 1,024 instructions
 
@@ -110,9 +115,12 @@ cellsIn bytes =
     (λ i. instructionIn bytes (8 + 10 * blocksIn bytes + 12 * i))
 
 -- the image that a program buffer is written to
+abbrev pub headerOf : List ℕ → List ℕ
+headerOf cells = mark ++ (bytesOf 2 1 ++ (bytesOf 1 (blockCount cells) ++ bytesOf 2 (instructionCount cells)))
+
 unfoldable pub imageOf : List ℕ → List ℕ
 imageOf cells =
-    (mark ++ (bytesOf 2 1 ++ (blockCount cells ∷ bytesOf 2 (instructionCount cells))))
+    headerOf cells
     ++ (rows (λ b. blockBytes (blockOf cells b)) (blockCount cells)
     ++ rows (λ i. instructionBytes (instructionOf cells i)) (instructionCount cells))
 

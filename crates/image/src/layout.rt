@@ -1,10 +1,11 @@
-// Records taken out of a program buffer and put into one. Callers test that the record is inside.
+// Records taken out of images and program buffers, and put into them. Callers test that a record is inside.
 use crate::Block;
 use crate::Instruction;
 ghost use mathlib.Core.Path.{_≡_};
 ghost use Prim.Native.Nat.{_+_, _*_, _≤_};
 ghost use lib.ListN.{length};
-ghost use Rattle.image.specs.Layout.{blockOf, instructionOf};
+ghost use lib.Seq.{sets};
+ghost use Rattle.image.specs.Layout.{blockIn, blockBytes, blockOf, blockCells, instructionIn, instructionBytes, instructionOf, instructionCells};
 
 pub fn block_of(cells: &[u64], b: usize) -> Block
     requires { ⌜ 2 + 6 * b + 6 ≤ length (now cells) ⌝ }
@@ -33,4 +34,94 @@ pub fn instruction_of(cells: &[u64], i: usize) -> Instruction
         kind: cells[at + 3],
         operand: cells[at + 4],
     }
+}
+
+pub fn put_block(cells: &mut [u64], at: usize, k: Block)
+    requires { ⌜ at + 6 ≤ length (now cells) ⌝ }
+    ensures { λ _. ⌜ now (cells .exit) ≡ sets (now (cells .entry)) at (blockCells k) ⌝ }
+{
+    cells[at] = k.first;
+    cells[at + 1] = k.annotation;
+    cells[at + 2] = k.policy;
+    cells[at + 3] = k.label;
+    cells[at + 4] = k.pairs;
+    cells[at + 5] = k.packed;
+}
+
+pub fn put_instruction(cells: &mut [u64], at: usize, x: Instruction)
+    requires { ⌜ at + 5 ≤ length (now cells) ⌝ }
+    ensures { λ _. ⌜ now (cells .exit) ≡ sets (now (cells .entry)) at (instructionCells x) ⌝ }
+{
+    cells[at] = x.opcode;
+    cells[at + 1] = x.r;
+    cells[at + 2] = x.s;
+    cells[at + 3] = x.kind;
+    cells[at + 4] = x.operand;
+}
+
+pub fn wide(x: u8) -> u64
+    ensures { λ r. ⌜ r ≡ x ⌝ }
+{
+    x as u64
+}
+
+pub fn block_in(image: &[u8], at: usize) -> Block
+    requires { ⌜ at + 10 ≤ length (now image) ⌝ }
+    ensures { λ r. ⌜ r ≡ blockIn (now (image .entry)) at ⌝ }
+{
+    let first = int64::read_u16(image, at);
+    let packed = int64::read_u32(image, at + 6);
+    let annotation = wide(image[at + 2]);
+    let policy = wide(image[at + 3]);
+    let label = wide(image[at + 4]);
+    let pairs = wide(image[at + 5]);
+    Block {
+        first,
+        annotation,
+        policy,
+        label,
+        pairs,
+        packed,
+    }
+}
+
+pub fn instruction_in(image: &[u8], at: usize) -> Instruction
+    requires { ⌜ at + 12 ≤ length (now image) ⌝ }
+    ensures { λ r. ⌜ r ≡ instructionIn (now (image .entry)) at ⌝ }
+{
+    let operand = int64::read_u64(image, at + 4);
+    let opcode = wide(image[at]);
+    let r = wide(image[at + 1]);
+    let s = wide(image[at + 2]);
+    let kind = wide(image[at + 3]);
+    Instruction {
+        opcode,
+        r,
+        s,
+        kind,
+        operand,
+    }
+}
+
+pub fn put_block_bytes(image: &mut [u8], at: usize, k: Block)
+    requires { ⌜ at + 10 ≤ length (now image) ⌝ }
+    ensures { λ _. ⌜ now (image .exit) ≡ sets (now (image .entry)) at (blockBytes k) ⌝ }
+{
+    int64::write_u16(image, at, k.first);
+    image[at + 2] = (k.annotation % 256) as u8;
+    image[at + 3] = (k.policy % 256) as u8;
+    image[at + 4] = (k.label % 256) as u8;
+    image[at + 5] = (k.pairs % 256) as u8;
+    int64::write_u32(image, at + 6, k.packed);
+}
+
+pub fn put_instruction_bytes(image: &mut [u8], at: usize, x: Instruction)
+    requires { ⌜ at + 12 ≤ length (now image) ⌝ }
+    ensures { λ _. ⌜ now (image .exit) ≡ sets (now (image .entry)) at (instructionBytes x) ⌝ }
+{
+    image[at] = (x.opcode % 256) as u8;
+    image[at + 1] = (x.r % 256) as u8;
+    image[at + 2] = (x.s % 256) as u8;
+    image[at + 3] = (x.kind % 256) as u8;
+    int64::write_u64(image, at + 4, x.operand);
 }

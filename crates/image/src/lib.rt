@@ -1,6 +1,7 @@
 // Program images: the reader, the writer, and the questions that are put to a program.
 pub mod layout;
 pub mod questions;
+pub mod reader;
 
 // A block record. `packed` has the four pair bytes, the first in its low eight bits.
 pub struct Block {

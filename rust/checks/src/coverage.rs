@@ -1,9 +1,8 @@
 //! What a run of cases has covered, and what it ought to.
 
 use crate::compare::Answers;
-use crate::generate::{
-    Case, Field, Shape, BLOCK_FIELDS, HEADER_FIELDS, INSTRUCTION_FIELDS, SHAPES,
-};
+use crate::damage::{Field, BLOCK_FIELDS, HEADER_FIELDS, INSTRUCTION_FIELDS};
+use crate::generate::{Case, Shape, SHAPES};
 use std::collections::BTreeMap;
 use std::fmt;
 

@@ -5,6 +5,8 @@
 
 pub mod compare;
 pub mod coverage;
+pub mod damage;
+mod draft;
 pub mod generate;
 pub mod layout;
 pub mod random;

@@ -1,0 +1,2 @@
+// The proof that all orders of picks agree stands in specs/.
+pub fn none() {}
