@@ -29,7 +29,9 @@ module _ (blocks instructions : ℕ) (block : ℕ → Block) (instruction : ℕ 
 
   pub buffer-length : length whole ≡ programCells
   unfolding buffer
-  buffer-length = length-sets _ 770 _ ∙ length-sets _ 0 front ∙ zeros-length
+  buffer-length =
+      length-sets filled 770 (rows (λ i. instructionCells (instruction i)) instructions)
+      ∙ length-sets (replicate programCells 0) 0 front ∙ zeros-length
 
   in-front : (k : ℕ) → k < 2 + 6 * blocks → getD whole k 0 ≡ getD front k 0
   unfolding buffer

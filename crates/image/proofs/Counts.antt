@@ -9,11 +9,8 @@ use lib.Dec.{leb, ltb}
 use borrow.Author.Tests.{leb-true, ltb-true, ltb-false}
 use Rattle.image.specs.Layout.{blockCount, instructionCount}
 use Rattle.image.specs.Questions.{countsNo, recordsNo, programNo}
-use Rattle.image.proofs.Asked.{ask-yes, or-else-no}
-
-pub and-both : (a b : Bool) → a && b ≡ true → (a ≡ true) × (b ≡ true)
-and-both true b h = (refl, h)
-and-both false b h = absurd (let z : _≡_ {A = ℕ} 0 1 = cc in omega arith)
+use Rattle.image.proofs.Booleans.{both-true}
+use Rattle.image.proofs.Asked.{ask-yes, or-else-no, or-else-both}
 
 pub record Counted (blocks instructions : ℕ) : Type 0 where
   pub some-block : 1 ≤ blocks
@@ -25,9 +22,9 @@ pub counted : (b i : ℕ) → countsNo b i ≡ 0 → Counted b i
 unfolding countsNo
 counted b i h =
     let t = ask-yes (leb 1 b && (leb b 128 && (leb 1 i && leb i 1024))) 3 0 h .0 in
-    let p = and-both (leb 1 b) (leb b 128 && (leb 1 i && leb i 1024)) t in
-    let q = and-both (leb b 128) (leb 1 i && leb i 1024) (p .1) in
-    let r = and-both (leb 1 i) (leb i 1024) (q .1) in
+    let p = both-true (leb 1 b) (leb b 128 && (leb 1 i && leb i 1024)) t in
+    let q = both-true (leb b 128) (leb 1 i && leb i 1024) (p .1) in
+    let r = both-true (leb 1 i) (leb i 1024) (q .1) in
     record {
       some-block = leb-true 1 b (p .0);
       blocks-fit = leb-true b 128 (q .0);
@@ -57,3 +54,7 @@ two-cells cells h = go (ltb 1 (length cells)) refl
         let z : instructionCount cells ≡ 0 = List·getD-eq-default cells 0 (ltb-false 1 (length cells) e) in
         let k = counted (blockCount cells) (instructionCount cells) h in
         absurd (omega arith)
+
+pub program-counted : (cells : List ℕ) → programNo cells ≡ 0 → countsNo (blockCount cells) (instructionCount cells) ≡ 0
+unfolding programNo
+program-counted cells h = or-else-both (countsNo (blockCount cells) (instructionCount cells)) (recordsNo cells) h .0

@@ -13,7 +13,8 @@ use Rattle.image.specs.Layout.{rows, blocksIn, instructionsIn, imageLeng
 use Rattle.image.specs.Questions.{ask, orElse, countsNo}
 use Rattle.image.specs.Doors.{markIn, headerNo}
 use Rattle.image.proofs.Asked.{ask-yes, or-else-both}
-use Rattle.image.proofs.Counts.{and-both, Counted, counted}
+use Rattle.image.proofs.Booleans.{both-true}
+use Rattle.image.proofs.Counts.{Counted, counted}
 use Rattle.image.proofs.Buffer.{buffer-blocks, buffer-instructions}
 
 pub record Header (bytes : List ℕ) : Type 0 where
@@ -26,8 +27,8 @@ pub record Header (bytes : List ℕ) : Type 0 where
 letters : (bytes : List ℕ) → markIn bytes ≡ true → (getD bytes 0 0 ≡ 84) × (getD bytes 1 0 ≡ 80) × (getD bytes 2 0 ≡ 66)
 unfolding markIn
 letters bytes h =
-    let p = and-both (eqb (getD bytes 0 0) 84) (eqb (getD bytes 1 0) 80 && eqb (getD bytes 2 0) 66) h in
-    let q = and-both (eqb (getD bytes 1 0) 80) (eqb (getD bytes 2 0) 66) (p .1) in
+    let p = both-true (eqb (getD bytes 0 0) 84) (eqb (getD bytes 1 0) 80 && eqb (getD bytes 2 0) 66) h in
+    let q = both-true (eqb (getD bytes 1 0) 80) (eqb (getD bytes 2 0) 66) (p .1) in
     (eqb-true (getD bytes 0 0) 84 (p .0), eqb-true (getD bytes 1 0) 80 (q .0), eqb-true (getD bytes 2 0) 66 (q .1))
 
 pub header : (bytes : List ℕ) → headerNo bytes ≡ 0 → Header bytes

@@ -1,3 +1,4 @@
+pub mod Booleans
 pub mod Asked
 pub mod Counts
 pub mod Pairs
@@ -5,3 +6,6 @@ pub mod Marking
 pub mod Rows
 pub mod Buffer
 pub mod Header
+pub mod Copying
+pub mod Accepted
+pub mod Written

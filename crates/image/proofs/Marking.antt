@@ -13,7 +13,7 @@ use Rattle.image.specs.Layout.{blockCount, instructionCount, blockOf}
 use Rattle.image.specs.Questions.{ask, starts, startsAt, lastInBlock, annotated, blockNo}
 use Rattle.image.specs.Marks.{flag, Marked}
 use Rattle.image.proofs.Asked.{ask-yes}
-use Rattle.image.proofs.Counts.{and-both}
+use Rattle.image.proofs.Booleans.{both-true}
 
 -- ---- what question 6 tells of a block
 
@@ -26,7 +26,7 @@ unfolding blockNo starts
 first-below cells b h =
     let p = ask-yes (leb (2 + 6 * b + 6) (length cells)) 5 _ h in
     let q = ask-yes (starts cells b) 5 (ask (annotated (blockCount cells) (blockOf cells b)) 7 0) (p .1) in
-    ltb-true (blockOf cells b .first) (instructionCount cells) (and-both (ltb (blockOf cells b .first) (instructionCount cells)) _ (q .0) .0)
+    ltb-true (blockOf cells b .first) (instructionCount cells) (both-true (ltb (blockOf cells b .first) (instructionCount cells)) _ (q .0) .0)
 
 -- ---- the marks
 

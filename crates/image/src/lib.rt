@@ -1,7 +1,12 @@
 // Program images: the reader, the writer, and the questions that are put to a program.
+ghost use mathlib.Core.Path.{_≡_};
+ghost use lib.ListN.{length};
+ghost use Rattle.image.specs.Doors.{rewriteNo, unlessRefused};
+
 pub mod layout;
 pub mod questions;
 pub mod reader;
+pub mod writer;
 
 // A block record. `packed` has the four pair bytes, the first in its low eight bits.
 pub struct Block {
@@ -20,4 +25,21 @@ pub struct Instruction {
     pub s: u64,
     pub kind: u64,
     pub operand: u64,
+}
+
+// Reads an image and writes its program back: an accepted image comes back byte for byte.
+pub fn rewrite(image: &[u8], out: &mut [u8]) -> u8
+    ensures { λ r. ⌜ r ≡ rewriteNo (now (image .entry)) (length (now (out .entry))) ⌝ }
+    ensures { λ r. ⌜ now (out .exit) ≡ unlessRefused r (now (image .entry)) (now (out .entry)) ⌝ }
+{
+    let mut cells = [0u64; 5890];
+    let no = reader::scan(image, &mut cells);
+    if no != 0 {
+        return no;
+    }
+    if out.len() != image.len() {
+        return 15;
+    }
+    writer::encode(&cells, out);
+    0
 }

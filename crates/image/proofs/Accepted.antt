@@ -1,0 +1,239 @@
+-- What a program that passes questions 4 and 6 to 9 is like, at each block and at each instruction.
+use mathlib.Core.Path.{_≡_, refl}
+use mathlib.Core.Bool.{Bool, true, false, cond, _&&_, _||_}
+use mathlib.Core.List.{List}
+use Prim.Native.Nat.{ℕ, zero, suc, _+_, _*_, _-_, _^_, _<_, _≤_}
+use native.Mathlib.Omega.{arith}
+use lib.ListN.{length}
+use lib.Dec.{eqb, ltb, leb}
+use borrow.Author.Tests.{eqb-true, ltb-true, leb-true, lt-leb, eq-eqb}
+use Rattle.image.specs.declared.Block.{Block}
+use Rattle.image.specs.Layout.{blockCount, instructionCount, blockOf, instructionOf}
+use Rattle.image.specs.Questions.{firstNo, countsNo, starts, rising, unjoined, joined, annotated, blockNo, has, register, operandFits, laidOut, startsAt, lastInBlock, same, instructionNo, recordsNo, programNo}
+use Rattle.image.proofs.Booleans.{clash, both-true}
+use Rattle.image.proofs.Asked.{ask-yes, or-else-both, first-no-all}
+use Rattle.image.proofs.Counts.{counted}
+use Rattle.image.proofs.Pairs.{rising-fits}
+
+pub record BlockAccepted (cells : List ℕ) (b : ℕ) : Type 0 where
+  pub is-stored : 2 + 6 * b + 6 ≤ length cells
+  pub first-below : blockOf cells b .first < instructionCount cells
+  pub annotation-known : blockOf cells b .annotation ≤ 2
+  pub label-below : blockOf cells b .label < blockCount cells
+  pub policy-known : blockOf cells b .policy ≤ 1
+  pub pairs-few : blockOf cells b .pairs ≤ 4
+  pub packed-fits : blockOf cells b .packed < 256 ^ 4
+
+pub record InstructionAccepted (cells : List ℕ) (i : ℕ) : Type 0 where
+  pub is-stored : 770 + 5 * i + 5 ≤ length cells
+  pub opcode-least : 1 ≤ instructionOf cells i .opcode
+  pub opcode-most : instructionOf cells i .opcode ≤ 15
+  pub r-small : instructionOf cells i .r ≤ 15
+  pub s-small : instructionOf cells i .s ≤ 15
+  pub register-small : instructionOf cells i .kind ≡ 1 → instructionOf cells i .operand ≤ 15
+  pub label-below : instructionOf cells i .kind ≡ 2 → instructionOf cells i .operand < blockCount cells
+  pub kind-known : instructionOf cells i .kind ≤ 3
+  -- question 9: only opcodes 13 to 15 are last
+  pub next-below : instructionOf cells i .opcode < 13 → i + 1 < instructionCount cells
+
+pub record Accepted (cells : List ℕ) : Type 0 where
+  pub some-block : 1 ≤ blockCount cells
+  pub few-blocks : blockCount cells ≤ 128
+  pub some-instruction : 1 ≤ instructionCount cells
+  pub few-instructions : instructionCount cells ≤ 1024
+  pub at-start : blockOf cells 0 .first ≡ 0
+  pub block : (b : ℕ) → b < blockCount cells → BlockAccepted cells b
+  pub instruction : (i : ℕ) → i < instructionCount cells → InstructionAccepted cells i
+
+-- ---- blocks
+
+record Annotated (blocks : ℕ) (k : Block) : Type 0 where
+  known : k .annotation ≤ 2
+  below : k .label < blocks
+  policy : k .policy ≤ 1
+  few : k .pairs ≤ 4
+  packed : k .packed < 256 ^ 4
+
+record Unjoined (k : Block) : Type 0 where
+  no-policy : k .policy ≡ 0
+  no-pairs : k .pairs ≡ 0
+  nothing-packed : k .packed ≡ 0
+
+unjoined-is : (k : Block) → unjoined k ≡ true → Unjoined k
+unfolding unjoined
+unjoined-is k h =
+    let p = both-true (eqb (k .policy) 0) (eqb (k .pairs) 0 && eqb (k .packed) 0) h in
+    let q = both-true (eqb (k .pairs) 0) (eqb (k .packed) 0) (p .1) in
+    record {
+      no-policy = eqb-true (k .policy) 0 (p .0);
+      no-pairs = eqb-true (k .pairs) 0 (q .0);
+      nothing-packed = eqb-true (k .packed) 0 (q .1);
+    }
+
+annotated-is : (blocks : ℕ) (k : Block) → 1 ≤ blocks → annotated blocks k ≡ true → Annotated blocks k
+unfolding annotated joined
+annotated-is blocks k some h = bare (eqb (k .annotation) 0) refl
+  where
+    plain : k .annotation ≤ 2 → k .label < blocks → Unjoined k → Annotated blocks k
+    plain a l u = record {
+      known = a;
+      below = l;
+      policy = omega (arith, u .no-policy);
+      few = omega (arith, u .no-pairs);
+      packed = omega (arith, u .nothing-packed);
+    }
+
+    ready : (t : Bool) → eqb (k .annotation) 1 ≡ t → k .label < blocks → cond (eqb (k .annotation) 1) (unjoined k) (eqb (k .annotation) 2 && joined k) ≡ true
+        → Annotated blocks k
+    ready true t l h = plain (omega (arith, eqb-true (k .annotation) 1 t)) l (unjoined-is k (rw t at h))
+    ready false t l h =
+        let p = both-true (eqb (k .annotation) 2) (joined k) (rw t at h) in
+        let q = both-true (leb (k .policy) 1) (leb (k .pairs) 4 && rising (k .pairs) (k .packed)) (p .1) in
+        let r = both-true (leb (k .pairs) 4) (rising (k .pairs) (k .packed)) (q .1) in
+        let n : k .pairs ≤ 4 = leb-true (k .pairs) 4 (r .0) in
+        record {
+          known = omega (arith, eqb-true (k .annotation) 2 (p .0));
+          below = l;
+          policy = leb-true (k .policy) 1 (q .0);
+          few = n;
+          packed = rising-fits (k .pairs) (k .packed) n (r .1);
+        }
+
+    bare : (t : Bool) → eqb (k .annotation) 0 ≡ t → Annotated blocks k
+    bare true t =
+        let p = both-true (eqb (k .label) 0) (unjoined k) (rw t at h) in
+        plain (omega (arith, eqb-true (k .annotation) 0 t)) (omega (arith, eqb-true (k .label) 0 (p .0))) (unjoined-is k (p .1))
+    bare false t =
+        let p = both-true (ltb (k .label) blocks) _ (rw t at h) in
+        ready (eqb (k .annotation) 1) refl (ltb-true (k .label) blocks (p .0)) (p .1)
+
+block-is : (cells : List ℕ) (b : ℕ) → 1 ≤ blockCount cells → blockNo cells b ≡ 0 → BlockAccepted cells b
+unfolding blockNo starts
+block-is cells b some e =
+    let p = ask-yes (leb (2 + 6 * b + 6) (length cells)) 5 _ e in
+    let q = ask-yes (starts cells b) 5 _ (p .1) in
+    let r = ask-yes (annotated (blockCount cells) (blockOf cells b)) 6 _ (q .1) in
+    let s = both-true (ltb (blockOf cells b .first) (instructionCount cells)) _ (q .0) in
+    let a = annotated-is (blockCount cells) (blockOf cells b) some (r .0) in
+    record {
+      is-stored = leb-true (2 + 6 * b + 6) (length cells) (p .0);
+      first-below = ltb-true (blockOf cells b .first) (instructionCount cells) (s .0);
+      annotation-known = a .known;
+      label-below = a .below;
+      policy-known = a .policy;
+      pairs-few = a .few;
+      packed-fits = a .packed;
+    }
+
+first-is : (cells : List ℕ) → blockNo cells 0 ≡ 0 → blockOf cells 0 .first ≡ 0
+unfolding blockNo starts
+first-is cells e =
+    let p = ask-yes (leb (2 + 6 * 0 + 6) (length cells)) 5 _ e in
+    let q = ask-yes (starts cells 0) 5 _ (p .1) in
+    let s = both-true (ltb (blockOf cells 0 .first) (instructionCount cells)) (eqb (blockOf cells 0 .first) 0) (q .0) in
+    eqb-true (blockOf cells 0 .first) 0 (s .1)
+
+-- ---- instructions
+
+register-is : (has x : ℕ) → register has x ≡ true → x ≤ 15
+unfolding register
+register-is has x h = go (eqb has 0) refl
+  where
+    go : (t : Bool) → eqb has 0 ≡ t → x ≤ 15
+    go true t = omega (arith, eqb-true x 0 (rw t at h))
+    go false t = leb-true x 15 (rw t at h)
+
+module _ (blocks has kind operand : ℕ) (h : operandFits blocks has kind operand ≡ true) where
+  operand-register : kind ≡ 1 → operand ≤ 15
+  unfolding operandFits
+  operand-register k = go (eqb has 0) refl
+    where
+      go : (t : Bool) → eqb has 0 ≡ t → operand ≤ 15
+      go true t =
+          let p = both-true (eqb kind 0) (eqb operand 0) (rw t at h) in
+          omega (arith, eqb-true operand 0 (p .1))
+      go false t = leb-true operand 15 (rw (t, k) at h)
+
+  operand-label : kind ≡ 2 → operand < blocks
+  unfolding operandFits
+  operand-label k = go (eqb has 0) refl
+    where
+      go : (t : Bool) → eqb has 0 ≡ t → operand < blocks
+      go true t =
+          let p = both-true (eqb kind 0) (eqb operand 0) (rw t at h) in
+          absurd (omega (arith, eqb-true kind 0 (p .0)))
+      go false t = ltb-true operand blocks (rw (t, k) at h)
+
+  operand-kind : kind ≤ 3
+  unfolding operandFits
+  operand-kind = go (eqb has 0) refl
+    where
+      two? : (t : Bool) → eqb kind 2 ≡ t → cond (eqb kind 2) (ltb operand blocks) (eqb kind 3) ≡ true → kind ≤ 3
+      two? true t h = omega (arith, eqb-true kind 2 t)
+      two? false t h = omega (arith, eqb-true kind 3 (rw t at h))
+
+      one? : (t : Bool) → eqb kind 1 ≡ t → cond (eqb kind 1) (leb operand 15) (cond (eqb kind 2) (ltb operand blocks) (eqb kind 3)) ≡ true → kind ≤ 3
+      one? true t h = omega (arith, eqb-true kind 1 t)
+      one? false t h = two? (eqb kind 2) refl (rw t at h)
+
+      go : (t : Bool) → eqb has 0 ≡ t → kind ≤ 3
+      go true t = omega (arith, eqb-true kind 0 (both-true (eqb kind 0) (eqb operand 0) (rw t at h) .0))
+      go false t = one? (eqb kind 1) refl (rw t at h)
+
+either-false : (a b : Bool) → same false (a || b) ≡ true → a ≡ false
+either-false true b h = clash h refl
+either-false false b h = refl
+
+-- question 9 of an instruction that is not 13, 14 or 15: it isn't the program's last
+next-is : (cells : List ℕ) (i : ℕ) → i < instructionCount cells → same (leb 13 (instructionOf cells i .opcode)) (lastInBlock cells i) ≡ true
+    → instructionOf cells i .opcode < 13 → i + 1 < instructionCount cells
+unfolding lastInBlock
+next-is cells i below h small =
+    let t : leb 13 (instructionOf cells i .opcode) ≡ false = lt-leb 13 (instructionOf cells i .opcode) small in
+    let p : eqb (i + 1) (instructionCount cells) ≡ false =
+    either-false (eqb (i + 1) (instructionCount cells)) (startsAt cells (blockCount cells) (i + 1)) (rw t at h) in
+    let q : i + 1 ≡ instructionCount cells → ⊥ = λ z. clash (eq-eqb (i + 1) (instructionCount cells) z) p in
+    omega arith
+
+instruction-is : (cells : List ℕ) (i : ℕ) → i < instructionCount cells → instructionNo cells i ≡ 0 → InstructionAccepted cells i
+unfolding instructionNo laidOut
+instruction-is cells i below e =
+    let x = instructionOf cells i in
+    let p = ask-yes (leb (770 + 5 * i + 5) (length cells)) 7 _ e in
+    let q = ask-yes (laidOut (blockCount cells) x) 7 _ (p .1) in
+    let r = ask-yes (same (leb 13 (x .opcode)) (lastInBlock cells i)) 8 0 (q .1) in
+    let a = both-true (leb 1 (x .opcode)) _ (q .0) in
+    let b = both-true (leb (x .opcode) 15) _ (a .1) in
+    let c = both-true (register (has (x .opcode) 0) (x .r)) _ (b .1) in
+    let d = both-true (register (has (x .opcode) 1) (x .s)) (operandFits (blockCount cells) (has (x .opcode) 2) (x .kind) (x .operand)) (c .1) in
+    record {
+      is-stored = leb-true (770 + 5 * i + 5) (length cells) (p .0);
+      opcode-least = leb-true 1 (x .opcode) (a .0);
+      opcode-most = leb-true (x .opcode) 15 (b .0);
+      r-small = register-is (has (x .opcode) 0) (x .r) (c .0);
+      s-small = register-is (has (x .opcode) 1) (x .s) (d .0);
+      register-small = operand-register (blockCount cells) (has (x .opcode) 2) (x .kind) (x .operand) (d .1);
+      label-below = operand-label (blockCount cells) (has (x .opcode) 2) (x .kind) (x .operand) (d .1);
+      kind-known = operand-kind (blockCount cells) (has (x .opcode) 2) (x .kind) (x .operand) (d .1);
+      next-below = next-is cells i below (r .0);
+    }
+
+-- ---- a program
+
+pub accepted : (cells : List ℕ) → programNo cells ≡ 0 → Accepted cells
+unfolding programNo recordsNo
+accepted cells e =
+    let B = blockCount cells in
+    let I = instructionCount cells in
+    let p = or-else-both (countsNo B I) (recordsNo cells) e in
+    let q = or-else-both (firstNo (blockNo cells) B 0) (firstNo (instructionNo cells) I 0) (p .1) in
+    let c = counted B I (p .0) in
+    record {
+      some-block = c .some-block;
+      few-blocks = c .blocks-fit;
+      some-instruction = c .some-instruction;
+      few-instructions = c .instructions-fit;
+      at-start = first-is cells (first-no-all (blockNo cells) B 0 (q .0) 0 (omega arith) (omega arith));
+      block = λ b h. block-is cells b (c .some-block) (first-no-all (blockNo cells) B 0 (q .0) b (omega arith) (omega arith));
+      instruction = λ i h. instruction-is cells i h (first-no-all (instructionNo cells) I 0 (q .1) i (omega arith) (omega arith));
+    }

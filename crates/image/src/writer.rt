@@ -1,0 +1,80 @@
+// Writing a program buffer to an image.
+use crate::layout;
+use crate::questions;
+ghost use mathlib.Core.Path.{_≡_};
+ghost use Prim.Native.Nat.{_+_, _*_, _<_, _≤_};
+ghost use lib.ListN.{length};
+ghost use lib.Seq.{sets};
+ghost use Rattle.image.specs.Layout.{rows, imageLength, programCells, blockCount, instructionCount, blockOf, instructionOf, blockBytes, instructionBytes, headerOf, imageOf};
+ghost use Rattle.image.specs.Questions.{countsNo};
+ghost use Rattle.image.specs.Doors.{writeNo, unlessRefused};
+
+// The mark, the version and the two counts.
+fn encode_header(cells: &[u64], image: &mut [u8])
+    requires { ⌜ (1 < length (now cells)) × (8 ≤ length (now image)) ⌝ }
+    ensures { λ _. ⌜ now (image .exit) ≡ sets (now (image .entry)) 0 (headerOf (now (cells .entry))) ⌝ }
+{
+    let mark = b"TPB";
+    image[0] = mark[0];
+    image[1] = mark[1];
+    image[2] = mark[2];
+    int64::write_u16(image, 3, 1);
+    image[5] = (cells[0] % 256) as u8;
+    int64::write_u16(image, 6, cells[1]);
+}
+
+fn encode_blocks(cells: &[u64], image: &mut [u8])
+    requires { ⌜ (length (now cells) ≡ programCells) × (blockCount (now cells) ≤ 128) × (8 + 10 * blockCount (now cells) ≤ length (now image)) ⌝ }
+    ensures { λ _. ⌜ now (image .exit) ≡ sets (now (image .entry)) 8 (rows (λ b. blockBytes (blockOf (now (cells .entry)) b)) (blockCount (now (cells .entry)))) ⌝ }
+{
+    let blocks = cells[0] as usize;
+    let mut b = 0;
+    while b < blocks {
+        let k = layout::block_of(cells, b);
+        layout::put_block_bytes(image, 8 + 10 * b, k);
+        b = b + 1;
+    }
+}
+
+fn encode_instructions(cells: &[u64], image: &mut [u8])
+    requires { ⌜ (length (now cells) ≡ programCells) × (instructionCount (now cells) ≤ 1024) × (length (now image) ≡ imageLength (blockCount (now cells)) (instructionCount (now cells))) ⌝ }
+    ensures { λ _. ⌜ now (image .exit) ≡ sets (now (image .entry)) (8 + 10 * blockCount (now (cells .entry))) (rows (λ i. instructionBytes (instructionOf (now (cells .entry)) i)) (instructionCount (now (cells .entry)))) ⌝ }
+{
+    let start = 8 + 10 * (cells[0] as usize);
+    let instructions = cells[1] as usize;
+    let mut i = 0;
+    while i < instructions {
+        let x = layout::instruction_of(cells, i);
+        layout::put_instruction_bytes(image, start + 12 * i, x);
+        i = i + 1;
+    }
+}
+
+// The image of an accepted program, into a buffer of its length.
+pub fn encode(cells: &[u64], image: &mut [u8])
+    requires { ⌜ (length (now cells) ≡ programCells) × (countsNo (blockCount (now cells)) (instructionCount (now cells)) ≡ 0) × (length (now image) ≡ imageLength (blockCount (now cells)) (instructionCount (now cells))) ⌝ }
+    ensures { λ _. ⌜ now (image .exit) ≡ imageOf (now (cells .entry)) ⌝ }
+{
+    encode_header(cells, image);
+    encode_blocks(cells, image);
+    encode_instructions(cells, image);
+}
+
+// Writes a program to the lent image buffer, the whole of it; a refusal leaves the buffer as it was.
+pub fn write(cells: &[u64], image: &mut [u8]) -> u8
+    ensures { λ r. ⌜ r ≡ writeNo (now (cells .entry)) (length (now (image .entry))) ⌝ }
+    ensures { λ r. ⌜ now (image .exit) ≡ unlessRefused r (imageOf (now (cells .entry))) (now (image .entry)) ⌝ }
+{
+    let no = questions::ask_program(cells);
+    if no != 0 {
+        return no;
+    }
+    if cells.len() != 5890 {
+        return 15;
+    }
+    if image.len() as u64 != 8 + 10 * cells[0] + 12 * cells[1] {
+        return 15;
+    }
+    encode(cells, image);
+    0
+}
