@@ -75,3 +75,9 @@ first-no-all f (suc n) i h j p q = go (λ k. first-no-all f n (i + 1) (both .1) 
     go : (i + 1 ≤ j → f j ≡ 0) → (t : Bool) → eqb j i ≡ t → f j ≡ 0
     go later true e = ap f (eqb-true j i e) ∙ both .0
     go later false e = later (omega (arith, eqb-false j i e))
+
+pub first-no-none : (f : ℕ → ℕ) (n i : ℕ) → ((j : ℕ) → i ≤ j → j < i + n → f j ≡ 0) → firstNo f n i ≡ 0
+unfolding firstNo
+first-no-none f zero i h = refl
+first-no-none f (suc n) i h =
+    or-else-yes (f i) (firstNo f n (i + 1)) (h i (omega arith) (omega arith)) ∙ first-no-none f n (i + 1) (λ j p q. h j (omega arith) (omega arith))

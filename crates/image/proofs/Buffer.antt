@@ -11,7 +11,7 @@ use Rattle.image.specs.declared.Instruction.{Instruction}
 use Rattle.image.specs.Layout.{rows, programCells, blockCount, instructionCount, blockOf, blockCells, instructionOf, instructionCells, buffer}
 use Rattle.image.proofs.Rows.{length-rows, getD-rows, rows-same}
 
-module _ (blocks instructions : ℕ) (block : ℕ → Block) (instruction : ℕ → Instruction) (fit : blocks ≤ 128) (fit′ : instructions ≤ 1024) where
+module _ (blocks instructions : ℕ) (block : ℕ → Block) (instruction : ℕ → Instruction) where
   abbrev front : List ℕ
   front = blocks ∷ instructions ∷ rows (λ b. blockCells (block b)) blocks
 
@@ -33,53 +33,54 @@ module _ (blocks instructions : ℕ) (block : ℕ → Block) (instruction : ℕ 
       length-sets filled 770 (rows (λ i. instructionCells (instruction i)) instructions)
       ∙ length-sets (replicate programCells 0) 0 front ∙ zeros-length
 
-  in-front : (k : ℕ) → k < 2 + 6 * blocks → getD whole k 0 ≡ getD front k 0
+  in-front : (k : ℕ) → k < 770 → k < 2 + 6 * blocks → getD whole k 0 ≡ getD front k 0
   unfolding buffer
-  in-front k h =
+  in-front k room h =
       let e : 0 + k ≡ k = omega arith in
       getD-sets-before filled 770 (rows (λ i. instructionCells (instruction i)) instructions) k 0 (omega arith)
       ∙ ap (λ (n : ℕ). getD filled n 0) (sym e)
       ∙ getD-sets-inside (replicate programCells 0) 0 front k 0 (omega (arith, front-length)) (omega (arith, zeros-length))
 
   pub buffer-blocks : blockCount whole ≡ blocks
-  buffer-blocks = in-front 0 (omega arith)
+  buffer-blocks = in-front 0 (omega arith) (omega arith)
 
   pub buffer-instructions : instructionCount whole ≡ instructions
-  buffer-instructions = in-front 1 (omega arith)
+  buffer-instructions = in-front 1 (omega arith) (omega arith)
 
-  block-cell : (b j k : ℕ) → b < blocks → j < 6 → k ≡ 2 + (6 * b + j) → getD whole k 0 ≡ getD (blockCells (block b)) j 0
-  block-cell b j k h q e =
-      in-front k (omega arith) ∙ ap (λ (n : ℕ). getD front n 0) e
-      ∙ getD-append-add (blocks ∷ instructions ∷ []) (rows (λ b. blockCells (block b)) blocks) (6 * b + j) 0
-      ∙ getD-rows (λ b. blockCells (block b)) 6 (λ b. refl) blocks b j h q
+  module _ (fit : blocks ≤ 128) (fit′ : instructions ≤ 1024) where
+    block-cell : (b j k : ℕ) → b < blocks → j < 6 → k ≡ 2 + (6 * b + j) → getD whole k 0 ≡ getD (blockCells (block b)) j 0
+    block-cell b j k h q e =
+        in-front k (omega arith) (omega arith) ∙ ap (λ (n : ℕ). getD front n 0) e
+        ∙ getD-append-add (blocks ∷ instructions ∷ []) (rows (λ b. blockCells (block b)) blocks) (6 * b + j) 0
+        ∙ getD-rows (λ b. blockCells (block b)) 6 (λ b. refl) blocks b j h q
 
-  pub buffer-block : (b : ℕ) → b < blocks → blockOf whole b ≡ block b
-  buffer-block b h = λ i. record {
-    first = block-cell b 0 (2 + 6 * b) h (omega arith) (omega arith) i;
-    annotation = block-cell b 1 (2 + 6 * b + 1) h (omega arith) (omega arith) i;
-    policy = block-cell b 2 (2 + 6 * b + 2) h (omega arith) (omega arith) i;
-    label = block-cell b 3 (2 + 6 * b + 3) h (omega arith) (omega arith) i;
-    pairs = block-cell b 4 (2 + 6 * b + 4) h (omega arith) (omega arith) i;
-    packed = block-cell b 5 (2 + 6 * b + 5) h (omega arith) (omega arith) i;
-  }
+    pub buffer-block : (b : ℕ) → b < blocks → blockOf whole b ≡ block b
+    buffer-block b h = λ i. record {
+      first = block-cell b 0 (2 + 6 * b) h (omega arith) (omega arith) i;
+      annotation = block-cell b 1 (2 + 6 * b + 1) h (omega arith) (omega arith) i;
+      policy = block-cell b 2 (2 + 6 * b + 2) h (omega arith) (omega arith) i;
+      label = block-cell b 3 (2 + 6 * b + 3) h (omega arith) (omega arith) i;
+      pairs = block-cell b 4 (2 + 6 * b + 4) h (omega arith) (omega arith) i;
+      packed = block-cell b 5 (2 + 6 * b + 5) h (omega arith) (omega arith) i;
+    }
 
-  instruction-cell : (x j k : ℕ) → x < instructions → j < 5 → k ≡ 770 + (5 * x + j) → getD whole k 0 ≡ getD (instructionCells (instruction x)) j 0
-  unfolding buffer
-  instruction-cell x j k h q e =
-      let r = length-rows (λ i. instructionCells (instruction i)) 5 (λ i. refl) instructions in
-      ap (λ (n : ℕ). getD whole n 0) e
-      ∙ getD-sets-inside filled 770 (rows (λ i. instructionCells (instruction i)) instructions) (5 * x + j) 0
-      (omega (arith, r)) (omega (arith, length-sets (replicate programCells 0) 0 front, zeros-length))
-      ∙ getD-rows (λ i. instructionCells (instruction i)) 5 (λ i. refl) instructions x j h q
+    instruction-cell : (x j k : ℕ) → x < instructions → j < 5 → k ≡ 770 + (5 * x + j) → getD whole k 0 ≡ getD (instructionCells (instruction x)) j 0
+    unfolding buffer
+    instruction-cell x j k h q e =
+        let r = length-rows (λ i. instructionCells (instruction i)) 5 (λ i. refl) instructions in
+        ap (λ (n : ℕ). getD whole n 0) e
+        ∙ getD-sets-inside filled 770 (rows (λ i. instructionCells (instruction i)) instructions) (5 * x + j) 0
+        (omega (arith, r)) (omega (arith, length-sets (replicate programCells 0) 0 front, zeros-length))
+        ∙ getD-rows (λ i. instructionCells (instruction i)) 5 (λ i. refl) instructions x j h q
 
-  pub buffer-instruction : (x : ℕ) → x < instructions → instructionOf whole x ≡ instruction x
-  buffer-instruction x h = λ i. record {
-    opcode = instruction-cell x 0 (770 + 5 * x) h (omega arith) (omega arith) i;
-    r = instruction-cell x 1 (770 + 5 * x + 1) h (omega arith) (omega arith) i;
-    s = instruction-cell x 2 (770 + 5 * x + 2) h (omega arith) (omega arith) i;
-    kind = instruction-cell x 3 (770 + 5 * x + 3) h (omega arith) (omega arith) i;
-    operand = instruction-cell x 4 (770 + 5 * x + 4) h (omega arith) (omega arith) i;
-  }
+    pub buffer-instruction : (x : ℕ) → x < instructions → instructionOf whole x ≡ instruction x
+    buffer-instruction x h = λ i. record {
+      opcode = instruction-cell x 0 (770 + 5 * x) h (omega arith) (omega arith) i;
+      r = instruction-cell x 1 (770 + 5 * x + 1) h (omega arith) (omega arith) i;
+      s = instruction-cell x 2 (770 + 5 * x + 2) h (omega arith) (omega arith) i;
+      kind = instruction-cell x 3 (770 + 5 * x + 3) h (omega arith) (omega arith) i;
+      operand = instruction-cell x 4 (770 + 5 * x + 4) h (omega arith) (omega arith) i;
+    }
 
 -- buffers of equal records are equal
 pub buffer-same : (blocks instructions : ℕ) (f g : ℕ → Block) (u v : ℕ → Instruction) → ((b : ℕ) → b < blocks → f b ≡ g b)

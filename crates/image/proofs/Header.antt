@@ -7,15 +7,14 @@ use native.Mathlib.Omega.{arith}
 use lib.ListN.{length, getD, set, replicate, length-replicate}
 use lib.Seq.{sets}
 use lib.Dec.{eqb, leb}
-use borrow.Author.Tests.{leb-true, eqb-true}
+use borrow.Author.Tests.{leb-true, eqb-true, le-leb, eq-eqb}
 use Rattle.int64.specs.Little.{little}
 use Rattle.image.specs.Layout.{rows, blocksIn, instructionsIn, imageLength, programCells, blockCount, instructionCount, blockIn, instructionIn, blockCells, instructionCells, buffer, cellsIn}
 use Rattle.image.specs.Questions.{ask, orElse, countsNo}
 use Rattle.image.specs.Doors.{markIn, headerNo}
-use Rattle.image.proofs.Asked.{ask-yes, or-else-both}
+use Rattle.image.proofs.Asked.{ask-yes, or-else-both, or-else-yes}
 use Rattle.image.proofs.Booleans.{both-true}
-use Rattle.image.proofs.Counts.{Counted, counted}
-use Rattle.image.proofs.Buffer.{buffer-blocks, buffer-instructions}
+use Rattle.image.proofs.Buffer.{buffer-length, buffer-blocks, buffer-instructions}
 
 pub record Header (bytes : List ℕ) : Type 0 where
   pub long : 8 ≤ length bytes
@@ -47,6 +46,13 @@ header bytes h =
       size = eqb-true (length bytes) (imageLength (blocksIn bytes) (instructionsIn bytes)) (e .0);
     }
 
+-- and back
+pub headed : (bytes : List ℕ) → Header bytes → headerNo bytes ≡ 0
+unfolding headerNo markIn
+headed bytes h =
+    rw (le-leb 8 (length bytes) (h .long), h .mark .0, h .mark .1, h .mark .2, h .version)
+    (or-else-yes (countsNo (blocksIn bytes) (instructionsIn bytes)) _ (h .counts) ∙ rw (eq-eqb (length bytes) (imageLength (blocksIn bytes) (instructionsIn bytes)) (h .size)))
+
 module _ (bytes : List ℕ) where
   -- the cells that the reader lays into a cleared buffer
   pub decoded : (l l₁ l₂ : List ℕ) (b i : ℕ) → l ≡ replicate programCells 0 → b ≡ blocksIn bytes → i ≡ instructionsIn bytes
@@ -56,17 +62,17 @@ module _ (bytes : List ℕ) where
   unfolding cellsIn buffer
   decoded l l₁ l₂ b i e p q u v = v ∙ rw (u, e, p, q)
 
-  module _ (h : countsNo (blocksIn bytes) (instructionsIn bytes) ≡ 0) where
-    abbrev count : Counted (blocksIn bytes) (instructionsIn bytes)
-    count = counted (blocksIn bytes) (instructionsIn bytes) h
+  pub cells-in-blocks : blockCount (cellsIn bytes) ≡ blocksIn bytes
+  unfolding cellsIn
+  cells-in-blocks = buffer-blocks (blocksIn bytes) (instructionsIn bytes) _ _
 
-    pub cells-in-blocks : blockCount (cellsIn bytes) ≡ blocksIn bytes
-    unfolding cellsIn
-    cells-in-blocks = buffer-blocks (blocksIn bytes) (instructionsIn bytes) _ _ (count .blocks-fit) (count .instructions-fit)
+  pub cells-in-instructions : instructionCount (cellsIn bytes) ≡ instructionsIn bytes
+  unfolding cellsIn
+  cells-in-instructions = buffer-instructions (blocksIn bytes) (instructionsIn bytes) _ _
 
-    pub cells-in-instructions : instructionCount (cellsIn bytes) ≡ instructionsIn bytes
-    unfolding cellsIn
-    cells-in-instructions = buffer-instructions (blocksIn bytes) (instructionsIn bytes) _ _ (count .blocks-fit) (count .instructions-fit)
+  pub cells-in-counts : countsNo (blocksIn bytes) (instructionsIn bytes) ≡ 0 → countsNo (blockCount (cellsIn bytes)) (instructionCount (cellsIn bytes)) ≡ 0
+  cells-in-counts h = rw (cells-in-blocks, cells-in-instructions) h
 
-    pub cells-in-counts : countsNo (blockCount (cellsIn bytes)) (instructionCount (cellsIn bytes)) ≡ 0
-    cells-in-counts = rw (cells-in-blocks, cells-in-instructions) h
+  pub cells-in-length : length (cellsIn bytes) ≡ programCells
+  unfolding cellsIn
+  cells-in-length = buffer-length (blocksIn bytes) (instructionsIn bytes) _ _

@@ -9,3 +9,9 @@ pub mod Header
 pub mod Copying
 pub mod Accepted
 pub mod Written
+pub mod SmallBytes
+pub mod Chunks
+pub mod WrittenBack
+pub mod ReadBack
+pub mod Alike
+pub mod RoundTrip

@@ -1,6 +1,6 @@
 -- What the writer's three parts add up to: the image.
 use mathlib.Core.Path.{_≡_, refl, sym, ap, _∙_}
-use mathlib.Core.List.{List, [], _++_, append-assoc, append-nil}
+use mathlib.Core.List.{List, _++_, append-assoc, append-nil}
 use Prim.Native.Nat.{ℕ, _+_, _*_, _≤_}
 use native.Mathlib.Omega.{arith}
 use lib.ListN.{length, drop, length-append, drop-of-length-le}
@@ -22,11 +22,11 @@ module _ (cells : List ℕ) where
   abbrev instructionRows : List ℕ
   instructionRows = rows (λ i. instructionBytes (instructionOf cells i)) (instructionCount cells)
 
-  block-rows-length : length blockRows ≡ 10 * blockCount cells
+  pub block-rows-length : length blockRows ≡ 10 * blockCount cells
   unfolding bytesOf
   block-rows-length = length-rows (λ b. blockBytes (blockOf cells b)) 10 (λ b. refl) (blockCount cells)
 
-  instruction-rows-length : length instructionRows ≡ 12 * instructionCount cells
+  pub instruction-rows-length : length instructionRows ≡ 12 * instructionCount cells
   unfolding bytesOf
   instruction-rows-length = length-rows (λ i. instructionBytes (instructionOf cells i)) 12 (λ i. refl) (instructionCount cells)
 

@@ -2,3 +2,4 @@ pub mod Layout
 pub mod Questions
 pub mod Marks
 pub mod Doors
+pub mod RoundTrip

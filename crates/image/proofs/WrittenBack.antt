@@ -1,0 +1,72 @@
+-- An accepted image is written back byte for byte.
+use mathlib.Core.Path.{_≡_, refl, sym, ap, ap₂, _∙_}
+use mathlib.Core.List.{List, [], _∷_, _++_}
+use Prim.Native.Nat.{ℕ, _+_, _*_, _<_, _≤_}
+use native.Mathlib.Omega.{arith}
+use lib.ListN.{length, getD, take}
+use lib.Seq.{take-all}
+use Rattle.int64.specs.Little.{little, bytesOf}
+use Rattle.image.specs.Layout.{mark, rows, blocksIn, instructionsIn, imageLength, blockCount, instructionCount, blockOf, instructionOf, blockIn, instructionIn, blockBytes, instructionBytes, headerOf, cellsIn, imageOf}
+use Rattle.image.proofs.Counts.{Counted, counted}
+use Rattle.image.proofs.Rows.{rows-same}
+use Rattle.image.proofs.Buffer.{buffer-block, buffer-instruction}
+use Rattle.image.proofs.Header.{Header, cells-in-blocks, cells-in-instructions}
+use Rattle.image.proofs.Chunks.{chunk, chunk-append, rows-chunk, number-chunk, byte-chunk, block-chunk, instruction-chunk}
+
+module _ (bytes : List ℕ) (small : (i : ℕ) → getD bytes i 0 < 256) (h : Header bytes) where
+  abbrev B : ℕ
+  B = blocksIn bytes
+
+  abbrev I : ℕ
+  I = instructionsIn bytes
+
+  count : Counted B I
+  count = counted B I (h .counts)
+
+  block-read : (b : ℕ) → b < B → blockOf (cellsIn bytes) b ≡ blockIn bytes (8 + 10 * b)
+  unfolding cellsIn
+  block-read b q = buffer-block B I _ _ (count .blocks-fit) (count .instructions-fit) b q
+
+  instruction-read : (i : ℕ) → i < I → instructionOf (cellsIn bytes) i ≡ instructionIn bytes (8 + 10 * B + 12 * i)
+  unfolding cellsIn
+  instruction-read i q = buffer-instruction B I _ _ (count .blocks-fit) (count .instructions-fit) i q
+
+  mark-chunk : mark ≡ chunk bytes 0 3
+  unfolding bytesOf
+  mark-chunk =
+      let e : mark ≡ bytesOf 1 (getD bytes 0 0) ++ (bytesOf 1 (getD bytes 1 0) ++ bytesOf 1 (getD bytes 2 0)) =
+      rw (h .mark .0, h .mark .1, h .mark .2) in
+      e
+      ∙ ap₂ _++_ (byte-chunk bytes small 0 (omega (arith, h .long)))
+      (ap₂ _++_ (byte-chunk bytes small 1 (omega (arith, h .long))) (byte-chunk bytes small 2 (omega (arith, h .long))) ∙ chunk-append bytes 1 1 1)
+      ∙ chunk-append bytes 0 1 2
+
+  header-chunk : headerOf (cellsIn bytes) ≡ chunk bytes 0 8
+  header-chunk =
+      let counts : bytesOf 1 (blockCount (cellsIn bytes)) ++ bytesOf 2 (instructionCount (cellsIn bytes)) ≡ chunk bytes 5 3 =
+      ap₂ _++_
+      (ap (bytesOf 1) (cells-in-blocks bytes) ∙ byte-chunk bytes small 5 (omega (arith, h .long)))
+      (ap (bytesOf 2) (cells-in-instructions bytes) ∙ number-chunk bytes small 2 6 (omega (arith, h .long)))
+      ∙ chunk-append bytes 5 1 2 in
+      let version : bytesOf 2 1 ≡ chunk bytes 3 2 = ap (bytesOf 2) (sym (h .version)) ∙ number-chunk bytes small 2 3 (omega (arith, h .long)) in
+      ap₂ _++_ mark-chunk (ap₂ _++_ version counts ∙ chunk-append bytes 3 2 3) ∙ chunk-append bytes 0 3 5
+
+  blocks-chunk : rows (λ b. blockBytes (blockOf (cellsIn bytes) b)) (blockCount (cellsIn bytes)) ≡ chunk bytes 8 (10 * B)
+  blocks-chunk =
+      ap (rows (λ b. blockBytes (blockOf (cellsIn bytes) b))) (cells-in-blocks bytes)
+      ∙ rows-same (λ b. blockBytes (blockOf (cellsIn bytes) b)) (λ b. chunk bytes (8 + 10 * b) 10) B
+      (λ b q. ap blockBytes (block-read b q) ∙ block-chunk bytes small (8 + 10 * b) (omega (arith, h .size)))
+      ∙ rows-chunk bytes 8 10 B
+
+  instructions-chunk : rows (λ i. instructionBytes (instructionOf (cellsIn bytes) i)) (instructionCount (cellsIn bytes)) ≡ chunk bytes (8 + 10 * B) (12 * I)
+  instructions-chunk =
+      ap (rows (λ i. instructionBytes (instructionOf (cellsIn bytes) i))) (cells-in-instructions bytes)
+      ∙ rows-same (λ i. instructionBytes (instructionOf (cellsIn bytes) i)) (λ i. chunk bytes (8 + 10 * B + 12 * i) 12) I
+      (λ i q. ap instructionBytes (instruction-read i q) ∙ instruction-chunk bytes small (8 + 10 * B + 12 * i) (omega (arith, h .size)))
+      ∙ rows-chunk bytes (8 + 10 * B) 12 I
+
+  pub written-back : imageOf (cellsIn bytes) ≡ bytes
+  unfolding imageOf
+  written-back =
+      ap₂ _++_ header-chunk (ap₂ _++_ blocks-chunk instructions-chunk ∙ chunk-append bytes 8 (10 * B) (12 * I))
+      ∙ chunk-append bytes 0 8 (10 * B + 12 * I) ∙ take-all (8 + (10 * B + 12 * I)) bytes (omega (arith, h .size))
