@@ -107,7 +107,7 @@ annotated-is blocks k some h = bare (eqb (k .annotation) 0) refl
         let p = both-true (ltb (k .label) blocks) _ (rw t at h) in
         ready (eqb (k .annotation) 1) refl (ltb-true (k .label) blocks (p .0)) (p .1)
 
-block-is : (cells : List ℕ) (b : ℕ) → 1 ≤ blockCount cells → blockNo cells b ≡ 0 → BlockAccepted cells b
+pub block-is : (cells : List ℕ) (b : ℕ) → 1 ≤ blockCount cells → blockNo cells b ≡ 0 → BlockAccepted cells b
 unfolding blockNo starts
 block-is cells b some e =
     let p = ask-yes (leb (2 + 6 * b + 6) (length cells)) 5 _ e in

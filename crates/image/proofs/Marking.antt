@@ -15,19 +15,6 @@ use Rattle.image.specs.Marks.{flag, Marked}
 use Rattle.image.proofs.Asked.{ask-yes}
 use Rattle.image.proofs.Booleans.{both-true}
 
--- ---- what question 6 tells of a block
-
-pub held : (cells : List ℕ) (b : ℕ) → blockNo cells b ≡ 0 → 2 + 6 * b + 6 ≤ length cells
-unfolding blockNo
-held cells b h = leb-true (2 + 6 * b + 6) (length cells) (ask-yes (leb (2 + 6 * b + 6) (length cells)) 5 _ h .0)
-
-pub first-below : (cells : List ℕ) (b : ℕ) → blockNo cells b ≡ 0 → blockOf cells b .first < instructionCount cells
-unfolding blockNo starts
-first-below cells b h =
-    let p = ask-yes (leb (2 + 6 * b + 6) (length cells)) 5 _ h in
-    let q = ask-yes (starts cells b) 5 (ask (annotated (blockCount cells) (blockOf cells b)) 7 0) (p .1) in
-    ltb-true (blockOf cells b .first) (instructionCount cells) (both-true (ltb (blockOf cells b .first) (instructionCount cells)) _ (q .0) .0)
-
 -- ---- the marks
 
 pub marked-none : (cells : List ℕ) → Marked cells 0 (replicate 1024 0)

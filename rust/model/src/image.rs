@@ -307,9 +307,14 @@ pub fn write_into(program: &Program, out: &mut [u8]) -> Result<(), u8> {
 }
 
 /// Reads an image and writes its program over `out`, which has the image's length. A refusal
-/// leaves `out` as it was.
+/// leaves `out` as it was. The reader has put all of the writer's questions but the last.
 pub fn rewrite(image: &[u8], out: &mut [u8]) -> Result<(), u8> {
-    write_into(&read(image)?, out)
+    let program = read(image)?;
+    if out.len() != image.len() {
+        return Err(question::BUFFER);
+    }
+    program.encode(out);
+    Ok(())
 }
 
 #[cfg(test)]

@@ -287,6 +287,9 @@ fn reading_and_writing_undo_each_other() {
     let image = write(&program).unwrap();
     assert_eq!(read(&image), Ok(program));
     let mut out = vec![0; image.len()];
+    assert_eq!(rewrite(&image, &mut out[1..]), Err(15));
+    assert_eq!(rewrite(&image[1..], &mut out), Err(2));
+    assert_eq!(out, vec![0; image.len()]);
     assert_eq!(rewrite(&image, &mut out), Ok(()));
     assert_eq!(out, image);
 }

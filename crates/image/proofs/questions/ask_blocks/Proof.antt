@@ -5,7 +5,8 @@ use Rattle.image.specs.Questions.{firstNo, blockNo}
 use Rattle.image.specs.Layout.{blockCount}
 use Rattle.image.specs.Marks.{Marked}
 use Rattle.image.proofs.Asked.{begins, goes-on, decides, no-more}
-use Rattle.image.proofs.Marking.{held, first-below, marked-more}
+use Rattle.image.proofs.Accepted.{block-is}
+use Rattle.image.proofs.Marking.{marked-more}
 use native.Mathlib.Omega.{arith}
 use Rattle.image.proofs.questions.ask_blocks.Statement.{statement}
 use Rattle.image.proofs.questions.ask_blocks.Tie as tie
@@ -41,10 +42,10 @@ mul-first-2 : tie.Need-mul-first-2 Inv-loop μ-loop
 mul-first-2 c = omega arith
 
 shared-slice-read-first : tie.Need-shared-slice-read-first Inv-loop μ-loop
-shared-slice-read-first c = omega (arith, held (c .before .before .before .before .before .before .before .before .args .cells .now) (c .before .before .before .before .loop .b) (sym (c .before .before .ask-block .ensures) ∙ c .before .if1 .left))
+shared-slice-read-first c = omega (arith, block-is (c .before .before .before .before .before .before .before .before .args .cells .now) (c .before .before .before .before .loop .b) (omega arith) (sym (c .before .before .ask-block .ensures) ∙ c .before .if1 .left) .is-stored)
 
 slice-write-marks : tie.Need-slice-write-marks Inv-loop μ-loop
-slice-write-marks c = omega (arith, first-below (c .before .before .before .before .before .before .before .before .args .cells .now) (c .before .before .before .before .loop .b) (sym (c .before .before .ask-block .ensures) ∙ c .before .if1 .left), c .before .before .before .before .loop .inv .1 .sized)
+slice-write-marks c = omega (arith, block-is (c .before .before .before .before .before .before .before .before .args .cells .now) (c .before .before .before .before .loop .b) (omega arith) (sym (c .before .before .ask-block .ensures) ∙ c .before .if1 .left) .first-below, c .before .before .before .before .loop .inv .1 .sized)
 
 add-b : tie.Need-add-b Inv-loop μ-loop
 add-b c = omega arith
@@ -53,7 +54,7 @@ loop-less : tie.Need-loop-less Inv-loop μ-loop
 loop-less c = omega arith
 
 loop-again : tie.Need-loop-again Inv-loop μ-loop
-loop-again c = (c .before .before .before .before .loop .inv .0 ∙ goes-on (blockNo (c .before .before .before .before .before .before .before .before .args .cells .now)) (blockCount (c .before .before .before .before .before .before .before .before .args .cells .now)) (c .before .before .before .before .loop .b) (c .before .before .before .loop-test .taken) (sym (c .before .before .ask-block .ensures) ∙ c .before .if1 .left), marked-more (c .before .before .before .before .before .before .before .before .args .cells .now) (c .before .before .before .before .loop .b) (c .before .before .before .before .loop .marks) (c .before .before .before .before .loop .inv .1) (omega (arith, first-below (c .before .before .before .before .before .before .before .before .args .cells .now) (c .before .before .before .before .loop .b) (sym (c .before .before .ask-block .ensures) ∙ c .before .if1 .left))), omega arith)
+loop-again c = (c .before .before .before .before .loop .inv .0 ∙ goes-on (blockNo (c .before .before .before .before .before .before .before .before .args .cells .now)) (blockCount (c .before .before .before .before .before .before .before .before .args .cells .now)) (c .before .before .before .before .loop .b) (c .before .before .before .loop-test .taken) (sym (c .before .before .ask-block .ensures) ∙ c .before .if1 .left), marked-more (c .before .before .before .before .before .before .before .before .args .cells .now) (c .before .before .before .before .loop .b) (c .before .before .before .before .loop .marks) (c .before .before .before .before .loop .inv .1) (omega (arith, block-is (c .before .before .before .before .before .before .before .before .args .cells .now) (c .before .before .before .before .loop .b) (omega arith) (sym (c .before .before .ask-block .ensures) ∙ c .before .if1 .left) .first-below)), omega arith)
 
 same-length-2 : tie.Need-same-length-2 Inv-loop μ-loop
 same-length-2 c = c .before .loop .inv .1 .sized ∙ sym (c .before .before .before .before .before .pre .3 .sized)
