@@ -183,7 +183,8 @@ fn field_of(opcode: u64, field: usize) -> u8
     requires { ⌜ (1 ≤ opcode) × (opcode ≤ 15) × (field < 3) ⌝ }
     ensures { λ r. ⌜ r ≡ has opcode field ⌝ }
 {
-    FIELDS[3 * ((opcode - 1) as usize) + field]
+    let fields = &FIELDS;
+    fields[3 * ((opcode - 1) as usize) + field]
 }
 
 fn is_register(has: u8, x: u64) -> bool
