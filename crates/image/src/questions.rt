@@ -6,7 +6,7 @@ ghost use mathlib.Core.Path.{_≡_};
 ghost use Prim.Native.Nat.{ℕ, _+_, _*_, _<_, _≤_};
 ghost use lib.ListN.{length, getD};
 ghost use Rattle.image.specs.Layout.{blockCount, instructionCount};
-ghost use Rattle.image.specs.Questions.{countsNo, starts, rising, unjoined, joined, annotated, blockNo, firstNo, has, register, operandFits, laidOut, startsAt, lastInBlock, instructionNo, recordsNo, programNo};
+ghost use Rattle.image.specs.Questions.{countsNo, starts, rising, unjoined, joined, annotated, blockNo, firstNo, fields, has, register, operandFits, laidOut, startsAt, lastInBlock, instructionNo, recordsNo, programNo};
 ghost use Rattle.image.specs.Marks.{Marked};
 
 // Which of r, s and v each opcode has: fifteen rows.
@@ -178,13 +178,12 @@ fn ask_block(cells: &[u64], b: usize) -> u8
     0
 }
 
-// Whether an opcode has r (0), s (1) or v (2).
-fn field_of(opcode: u64, field: usize) -> u8
-    requires { ⌜ (1 ≤ opcode) × (opcode ≤ 15) × (field < 3) ⌝ }
+// Whether an opcode has r (0), s (1) or v (2). The table is lent, since a constant is built anew where it is used.
+fn field_of(table: &[u8], opcode: u64, field: usize) -> u8
+    requires { ⌜ (now table ≡ fields) × (1 ≤ opcode) × (opcode ≤ 15) × (field < 3) ⌝ }
     ensures { λ r. ⌜ r ≡ has opcode field ⌝ }
 {
-    let fields = &FIELDS;
-    fields[3 * ((opcode - 1) as usize) + field]
+    table[3 * ((opcode - 1) as usize) + field]
 }
 
 fn is_register(has: u8, x: u64) -> bool
@@ -215,7 +214,8 @@ fn is_operand(blocks: u64, has: u8, kind: u64, operand: u64) -> bool
 }
 
 // Question 8.
-fn is_laid_out(blocks: u64, x: Instruction) -> bool
+fn is_laid_out(table: &[u8], blocks: u64, x: Instruction) -> bool
+    requires { ⌜ now table ≡ fields ⌝ }
     ensures { λ r. ⌜ r ≡ laidOut blocks x ⌝ }
 {
     let opcode = x.opcode;
@@ -225,13 +225,13 @@ fn is_laid_out(blocks: u64, x: Instruction) -> bool
     if 15 < opcode {
         return false;
     }
-    if !is_register(field_of(opcode, 0), x.r) {
+    if !is_register(field_of(table, opcode, 0), x.r) {
         return false;
     }
-    if !is_register(field_of(opcode, 1), x.s) {
+    if !is_register(field_of(table, opcode, 1), x.s) {
         return false;
     }
-    is_operand(blocks, field_of(opcode, 2), x.kind, x.operand)
+    is_operand(blocks, field_of(table, opcode, 2), x.kind, x.operand)
 }
 
 // Questions 6 and 7 of all blocks. Where all are answered with yes, marks the instructions that start a block.
@@ -268,15 +268,15 @@ fn ends_block(cells: &[u64], marks: &[u8], i: usize) -> bool
 }
 
 // Questions 8 and 9 of instruction i.
-fn ask_instruction(cells: &[u64], marks: &[u8], i: usize) -> u8
-    requires { ⌜ (1 < length (now cells)) × (i < instructionCount (now cells)) × (instructionCount (now cells) ≤ 1024) × Marked (now cells) (blockCount (now cells)) (now marks) ⌝ }
+fn ask_instruction(table: &[u8], cells: &[u64], marks: &[u8], i: usize) -> u8
+    requires { ⌜ (now table ≡ fields) × (1 < length (now cells)) × (i < instructionCount (now cells)) × (instructionCount (now cells) ≤ 1024) × Marked (now cells) (blockCount (now cells)) (now marks) ⌝ }
     ensures { λ r. ⌜ r ≡ instructionNo (now (cells .entry)) i ⌝ }
 {
     if cells.len() < 770 + 5 * i + 5 {
         return 8;
     }
     let x = layout::instruction_of(cells, i);
-    if !is_laid_out(cells[0], x) {
+    if !is_laid_out(table, cells[0], x) {
         return 8;
     }
     if ends_block(cells, marks, i) {
@@ -292,14 +292,14 @@ fn ask_instruction(cells: &[u64], marks: &[u8], i: usize) -> u8
 }
 
 // Questions 8 and 9 of all instructions.
-fn ask_instructions(cells: &[u64], marks: &[u8]) -> u8
-    requires { ⌜ (1 < length (now cells)) × (instructionCount (now cells) ≤ 1024) × Marked (now cells) (blockCount (now cells)) (now marks) ⌝ }
+fn ask_instructions(table: &[u8], cells: &[u64], marks: &[u8]) -> u8
+    requires { ⌜ (now table ≡ fields) × (1 < length (now cells)) × (instructionCount (now cells) ≤ 1024) × Marked (now cells) (blockCount (now cells)) (now marks) ⌝ }
     ensures { λ r. ⌜ r ≡ firstNo (instructionNo (now (cells .entry))) (instructionCount (now (cells .entry))) 0 ⌝ }
 {
     let instructions = cells[1] as usize;
     let mut i = 0;
     while i < instructions {
-        let no = ask_instruction(cells, marks, i);
+        let no = ask_instruction(table, cells, marks, i);
         if no != 0 {
             return no;
         }
@@ -318,7 +318,8 @@ pub fn ask_records(cells: &[u64]) -> u8
     if no != 0 {
         return no;
     }
-    ask_instructions(cells, &marks)
+    let table = FIELDS;
+    ask_instructions(&table, cells, &marks)
 }
 
 // Questions 4 and 6 to 9: what the writer, start, pick and run put to their program.

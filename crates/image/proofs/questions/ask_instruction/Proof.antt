@@ -27,14 +27,14 @@ shared-slice-read-is-laid-out : tie.Need-shared-slice-read-is-laid-out
 shared-slice-read-is-laid-out c = search needs
 
 is-laid-out-requires : tie.Need-is-laid-out-requires
-is-laid-out-requires c κs = search needs
+is-laid-out-requires c κs = c .before .before .before .before .before .before .pre .0
 
 returns-2 : tie.Need-returns-2
 unfolding instructionNo
 returns-2 c = rw (le-leb _ _ (c .before .before .before .before .if1 .left), ← (c .before .before .before .instruction-of .ensures), ← (c .before .is-laid-out .ensures), not-true (c .before .is-laid-out .result) (c .if2 .taken))
 
 ends-block-requires : tie.Need-ends-block-requires
-ends-block-requires c κs = search needs
+ends-block-requires c κs = (c .before .before .before .before .before .before .before .before .pre .1, c .before .before .before .before .before .before .before .before .pre .2, c .before .before .before .before .before .before .before .before .pre .3, c .before .before .before .before .before .before .before .before .pre .4)
 
 returns-3 : tie.Need-returns-3
 unfolding instructionNo

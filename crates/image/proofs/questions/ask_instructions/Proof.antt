@@ -9,22 +9,22 @@ use Rattle.image.proofs.questions.ask_instructions.Statement.{statement
 use Rattle.image.proofs.questions.ask_instructions.Tie as tie
 
 abbrev Inv-loop : tie.InvT-loop
-Inv-loop cells marks instructions i₀ i = firstNo (instructionNo cells) (instructionCount cells) 0 ≡ firstNo (instructionNo cells) (instructionCount cells - i) i
+Inv-loop table cells marks instructions i₀ i = firstNo (instructionNo cells) (instructionCount cells) 0 ≡ firstNo (instructionNo cells) (instructionCount cells - i) i
 
 abbrev μ-loop : tie.MeasureT-loop
-μ-loop cells marks instructions i₀ i = instructionCount cells - i
+μ-loop table cells marks instructions i₀ i = instructionCount cells - i
 
 shared-slice-read-instructions : tie.Need-shared-slice-read-instructions Inv-loop μ-loop
 shared-slice-read-instructions c = omega arith
 
 loop-holds : tie.Need-loop-holds Inv-loop μ-loop
-loop-holds c = begins (instructionNo (c .before .before .before .args .cells .now)) (instructionCount (c .before .before .before .args .cells .now))
+loop-holds c = begins (instructionNo (c .before .before .before .before .args .cells .now)) (instructionCount (c .before .before .before .before .args .cells .now))
 
 ask-instruction-requires : tie.Need-ask-instruction-requires Inv-loop μ-loop
-ask-instruction-requires c κs = (omega arith, omega arith, omega arith, c .before .before .before .before .before .pre .2)
+ask-instruction-requires c κs = (c .before .before .before .before .before .before .pre .0, omega arith, omega arith, omega arith, c .before .before .before .before .before .before .pre .3)
 
 returns : tie.Need-returns Inv-loop μ-loop
-returns c = c .before .ask-instruction .ensures ∙ sym (c .before .before .before .loop .inv ∙ decides (instructionNo (c .before .before .before .before .before .before .before .args .cells .now)) (instructionCount (c .before .before .before .before .before .before .before .args .cells .now)) (c .before .before .before .loop .i) (c .before .before .loop-test .taken) (λ e. c .if1 .taken (c .before .ask-instruction .ensures ∙ e)))
+returns c = c .before .ask-instruction .ensures ∙ sym (c .before .before .before .loop .inv ∙ decides (instructionNo (c .before .before .before .before .before .before .before .before .args .cells .now)) (instructionCount (c .before .before .before .before .before .before .before .before .args .cells .now)) (c .before .before .before .loop .i) (c .before .before .loop-test .taken) (λ e. c .if1 .taken (c .before .ask-instruction .ensures ∙ e)))
 
 add-i : tie.Need-add-i Inv-loop μ-loop
 add-i c = omega arith
@@ -33,10 +33,10 @@ loop-less : tie.Need-loop-less Inv-loop μ-loop
 loop-less c = omega arith
 
 loop-again : tie.Need-loop-again Inv-loop μ-loop
-loop-again c = c .before .before .before .loop .inv ∙ goes-on (instructionNo (c .before .before .before .before .before .before .before .args .cells .now)) (instructionCount (c .before .before .before .before .before .before .before .args .cells .now)) (c .before .before .before .loop .i) (c .before .before .loop-test .taken) (sym (c .before .ask-instruction .ensures) ∙ c .if1 .left)
+loop-again c = c .before .before .before .loop .inv ∙ goes-on (instructionNo (c .before .before .before .before .before .before .before .before .args .cells .now)) (instructionCount (c .before .before .before .before .before .before .before .before .args .cells .now)) (c .before .before .before .loop .i) (c .before .before .loop-test .taken) (sym (c .before .ask-instruction .ensures) ∙ c .if1 .left)
 
 returns-2 : tie.Need-returns-2 Inv-loop μ-loop
-returns-2 c = sym (c .before .loop .inv ∙ no-more (instructionNo (c .before .before .before .before .before .args .cells .now)) (instructionCount (c .before .before .before .before .before .args .cells .now)) (c .before .loop .i) (c .loop-test .left))
+returns-2 c = sym (c .before .loop .inv ∙ no-more (instructionNo (c .before .before .before .before .before .before .args .cells .now)) (instructionCount (c .before .before .before .before .before .before .args .cells .now)) (c .before .loop .i) (c .loop-test .left))
 
 pub ask-instructions-spec : {M : Type 1} → statement M
 ask-instructions-spec =

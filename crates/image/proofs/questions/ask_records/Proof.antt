@@ -1,5 +1,5 @@
 -- `ask_records` meets its contract.
-use mathlib.Core.Path.{sym, _∙_}
+use mathlib.Core.Path.{refl, sym, _∙_}
 use Rattle.image.specs.Questions.{recordsNo, firstNo, blockNo, instructionNo}
 use Rattle.image.specs.Layout.{blockCount, instructionCount}
 use Rattle.image.proofs.Asked.{or-else-no, or-else-yes}
@@ -22,12 +22,15 @@ returns c = c .before .before .ask-blocks .ensures .0 ∙ sym (or-else-no (first
 slice-aggregate-ask-instructions : tie.Need-slice-aggregate-ask-instructions
 slice-aggregate-ask-instructions c = search needs
 
+slice-aggregate-ask-instructions-2 : tie.Need-slice-aggregate-ask-instructions-2
+slice-aggregate-ask-instructions-2 c = search needs
+
 ask-instructions-requires : tie.Need-ask-instructions-requires
-ask-instructions-requires c κs = let k = counted (blockCount (c .before .before .before .before .before .before .args .cells .now)) (instructionCount (c .before .before .before .before .before .before .args .cells .now)) (c .before .before .before .before .before .before .pre) in (two-cells (c .before .before .before .before .before .before .args .cells .now) (c .before .before .before .before .before .before .pre), k .instructions-fit, c .before .before .before .ask-blocks .ensures .1 (c .before .if1 .left))
+ask-instructions-requires c κs = let k = counted (blockCount (c .before .before .before .before .before .before .before .args .cells .now)) (instructionCount (c .before .before .before .before .before .before .before .args .cells .now)) (c .before .before .before .before .before .before .before .pre) in (refl, two-cells (c .before .before .before .before .before .before .before .args .cells .now) (c .before .before .before .before .before .before .before .pre), k .instructions-fit, c .before .before .before .before .ask-blocks .ensures .1 (c .before .before .if1 .left))
 
 returns-2 : tie.Need-returns-2
 unfolding recordsNo
-returns-2 c = c .ask-instructions .ensures ∙ sym (or-else-yes (firstNo (blockNo (c .before .before .before .before .before .before .before .args .cells .now)) (blockCount (c .before .before .before .before .before .before .before .args .cells .now)) 0) (firstNo (instructionNo (c .before .before .before .before .before .before .before .args .cells .now)) (instructionCount (c .before .before .before .before .before .before .before .args .cells .now)) 0) (sym (c .before .before .before .before .ask-blocks .ensures .0) ∙ c .before .before .if1 .left))
+returns-2 c = c .ask-instructions .ensures ∙ sym (or-else-yes (firstNo (blockNo (c .before .before .before .before .before .before .before .before .args .cells .now)) (blockCount (c .before .before .before .before .before .before .before .before .args .cells .now)) 0) (firstNo (instructionNo (c .before .before .before .before .before .before .before .before .args .cells .now)) (instructionCount (c .before .before .before .before .before .before .before .before .args .cells .now)) 0) (sym (c .before .before .before .before .before .ask-blocks .ensures .0) ∙ c .before .before .before .if1 .left))
 
 pub ask-records-spec : {M : Type 1} → statement M
 ask-records-spec =
@@ -37,5 +40,6 @@ ask-records-spec =
     ask-blocks-requires
     returns
     slice-aggregate-ask-instructions
+    slice-aggregate-ask-instructions-2
     ask-instructions-requires
     returns-2)
