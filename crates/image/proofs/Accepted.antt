@@ -9,7 +9,7 @@ use lib.Dec.{eqb, ltb, leb}
 use borrow.Author.Tests.{eqb-true, ltb-true, leb-true, lt-leb, eq-eqb}
 use Rattle.image.specs.declared.Block.{Block}
 use Rattle.image.specs.Layout.{blockCount, instructionCount, blockOf, instructionOf}
-use Rattle.image.specs.Questions.{firstNo, countsNo, starts, rising, unjoined, joined, annotated, blockNo, has, register, operandFits, laidOut, startsAt, lastInBlock, same, instructionNo, recordsNo, programNo}
+use Rattle.image.specs.Questions.{firstNo, countsNo, starts, rising, unjoined, joined, annotated, blockNo, hasR, hasS, hasV, has, register, operandFits, laidOut, startsAt, lastInBlock, same, instructionNo, recordsNo, programNo}
 use Rattle.image.proofs.Booleans.{clash, both-true}
 use Rattle.image.proofs.Asked.{ask-yes, or-else-both, first-no-all}
 use Rattle.image.proofs.Counts.{counted}
@@ -204,17 +204,17 @@ instruction-is cells i below e =
     let r = ask-yes (same (leb 13 (x .opcode)) (lastInBlock cells i)) 8 0 (q .1) in
     let a = both-true (leb 1 (x .opcode)) _ (q .0) in
     let b = both-true (leb (x .opcode) 15) _ (a .1) in
-    let c = both-true (register (has (x .opcode) 0) (x .r)) _ (b .1) in
-    let d = both-true (register (has (x .opcode) 1) (x .s)) (operandFits (blockCount cells) (has (x .opcode) 2) (x .kind) (x .operand)) (c .1) in
+    let c = both-true (register (has (x .opcode) hasR) (x .r)) _ (b .1) in
+    let d = both-true (register (has (x .opcode) hasS) (x .s)) (operandFits (blockCount cells) (has (x .opcode) hasV) (x .kind) (x .operand)) (c .1) in
     record {
       is-stored = leb-true (770 + 5 * i + 5) (length cells) (p .0);
       opcode-least = leb-true 1 (x .opcode) (a .0);
       opcode-most = leb-true (x .opcode) 15 (b .0);
-      r-small = register-is (has (x .opcode) 0) (x .r) (c .0);
-      s-small = register-is (has (x .opcode) 1) (x .s) (d .0);
-      register-small = operand-register (blockCount cells) (has (x .opcode) 2) (x .kind) (x .operand) (d .1);
-      label-below = operand-label (blockCount cells) (has (x .opcode) 2) (x .kind) (x .operand) (d .1);
-      kind-known = operand-kind (blockCount cells) (has (x .opcode) 2) (x .kind) (x .operand) (d .1);
+      r-small = register-is (has (x .opcode) hasR) (x .r) (c .0);
+      s-small = register-is (has (x .opcode) hasS) (x .s) (d .0);
+      register-small = operand-register (blockCount cells) (has (x .opcode) hasV) (x .kind) (x .operand) (d .1);
+      label-below = operand-label (blockCount cells) (has (x .opcode) hasV) (x .kind) (x .operand) (d .1);
+      kind-known = operand-kind (blockCount cells) (has (x .opcode) hasV) (x .kind) (x .operand) (d .1);
       next-below = next-is cells i below (r .0);
     }
 

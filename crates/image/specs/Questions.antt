@@ -64,28 +64,37 @@ blockNo cells b =
 
 -- ---- instructions
 
--- which of r, s and v each opcode has, fifteen rows
+-- which fields each opcode has: fifteen rows of three flags
+abbrev pub hasR : ℕ
+hasR = 4
+
+abbrev pub hasS : ℕ
+hasS = 2
+
+abbrev pub hasV : ℕ
+hasV = 1
+
 abbrev pub fields : List ℕ
 fields =
-    1 ∷ 0 ∷ 1  -- 1 r := v
-    ∷ 1 ∷ 1 ∷ 1  -- 2 r := s + v
-    ∷ 1 ∷ 1 ∷ 1  -- 3 r := s - v
-    ∷ 1 ∷ 1 ∷ 1  -- 4 r := s * v
-    ∷ 1 ∷ 1 ∷ 1  -- 5 r := s / v
-    ∷ 1 ∷ 1 ∷ 1  -- 6 r := s % v
-    ∷ 1 ∷ 1 ∷ 1  -- 7 r := s < v
-    ∷ 1 ∷ 1 ∷ 1  -- 8 r := s = v
-    ∷ 1 ∷ 0 ∷ 1  -- 9 r := word v
-    ∷ 0 ∷ 1 ∷ 1  -- 10 if-jump s, v
-    ∷ 1 ∷ 0 ∷ 1  -- 11 r := jralloc v
-    ∷ 0 ∷ 1 ∷ 1  -- 12 fork s, v
-    ∷ 0 ∷ 0 ∷ 1  -- 13 jump v
-    ∷ 0 ∷ 0 ∷ 0  -- 14 halt
-    ∷ 0 ∷ 0 ∷ 1  -- 15 join v
+    (hasR + hasV)  -- 1 r := v
+    ∷ (hasR + hasS + hasV)  -- 2 r := s + v
+    ∷ (hasR + hasS + hasV)  -- 3 r := s - v
+    ∷ (hasR + hasS + hasV)  -- 4 r := s * v
+    ∷ (hasR + hasS + hasV)  -- 5 r := s / v
+    ∷ (hasR + hasS + hasV)  -- 6 r := s % v
+    ∷ (hasR + hasS + hasV)  -- 7 r := s < v
+    ∷ (hasR + hasS + hasV)  -- 8 r := s = v
+    ∷ (hasR + hasV)  -- 9 r := word v
+    ∷ (hasS + hasV)  -- 10 if-jump s, v
+    ∷ (hasR + hasV)  -- 11 r := jralloc v
+    ∷ (hasS + hasV)  -- 12 fork s, v
+    ∷ hasV  -- 13 jump v
+    ∷ 0  -- 14 halt
+    ∷ hasV  -- 15 join v
     ∷ []
 
 abbrev pub has : ℕ → ℕ → ℕ
-has opcode field = getD fields (3 * (opcode - 1) + field) 0
+has opcode field = getD fields (opcode - 1) 0 / field % 2
 
 -- a register number 0 to 15, or 0 where the opcode has none
 unfoldable pub register : ℕ → ℕ → Bool
@@ -102,8 +111,8 @@ unfoldable pub laidOut : ℕ → Instruction → Bool
 laidOut blocks x =
     leb 1 (x .opcode)
     && (leb (x .opcode) 15
-    && (register (has (x .opcode) 0) (x .r)
-    && (register (has (x .opcode) 1) (x .s) && operandFits blocks (has (x .opcode) 2) (x .kind) (x .operand))))
+    && (register (has (x .opcode) hasR) (x .r)
+    && (register (has (x .opcode) hasS) (x .s) && operandFits blocks (has (x .opcode) hasV) (x .kind) (x .operand))))
 
 -- does one of the first n blocks start at instruction i?
 unfoldable pub startsAt : List ℕ → ℕ → ℕ → Bool

@@ -9,53 +9,30 @@ ghost use Rattle.image.specs.Layout.{blockCount, instructionCount};
 ghost use Rattle.image.specs.Questions.{countsNo, starts, rising, unjoined, joined, annotated, blockNo, firstNo, fields, has, register, operandFits, laidOut, startsAt, lastInBlock, instructionNo, recordsNo, programNo};
 ghost use Rattle.image.specs.Marks.{Marked};
 
-// Which of r, s and v each opcode has: fifteen rows.
-const FIELDS: [u8; 45] = [
-    1,
-    0,
-    1, // 1 r := v
-    1,
-    1,
-    1, // 2 r := s + v
-    1,
-    1,
-    1, // 3 r := s - v
-    1,
-    1,
-    1, // 4 r := s * v
-    1,
-    1,
-    1, // 5 r := s / v
-    1,
-    1,
-    1, // 6 r := s % v
-    1,
-    1,
-    1, // 7 r := s < v
-    1,
-    1,
-    1, // 8 r := s = v
-    1,
-    0,
-    1, // 9 r := word v
-    0,
-    1,
-    1, // 10 if-jump s, v
-    1,
-    0,
-    1, // 11 r := jralloc v
-    0,
-    1,
-    1, // 12 fork s, v
-    0,
-    0,
-    1, // 13 jump v
-    0,
-    0,
+// The flags of the table's rows: an opcode has r, s, v.
+const R: u8 = 4;
+
+const S: u8 = 2;
+
+const V: u8 = 1;
+
+// Which fields each opcode has.
+const FIELDS: [u8; 15] = [
+    R + V, // 1 r := v
+    R + S + V, // 2 r := s + v
+    R + S + V, // 3 r := s - v
+    R + S + V, // 4 r := s * v
+    R + S + V, // 5 r := s / v
+    R + S + V, // 6 r := s % v
+    R + S + V, // 7 r := s < v
+    R + S + V, // 8 r := s = v
+    R + V, // 9 r := word v
+    S + V, // 10 if-jump s, v
+    R + V, // 11 r := jralloc v
+    S + V, // 12 fork s, v
+    V, // 13 jump v
     0, // 14 halt
-    0,
-    0,
-    1, // 15 join v
+    V, // 15 join v
 ];
 
 // Question 4.
@@ -178,12 +155,12 @@ fn ask_block(cells: &[u64], b: usize) -> u8
     0
 }
 
-// Whether an opcode has r (0), s (1) or v (2). The table is lent, since a constant is built anew where it is used.
-fn field_of(table: &[u8], opcode: u64, field: usize) -> u8
-    requires { ⌜ (now table ≡ fields) × (1 ≤ opcode) × (opcode ≤ 15) × (field < 3) ⌝ }
+// Whether an opcode has a field. The table is lent, since a constant is built anew where it is used.
+fn field_of(table: &[u8], opcode: u64, field: u8) -> u8
+    requires { ⌜ (now table ≡ fields) × (1 ≤ opcode) × (opcode ≤ 15) × (0 < field) ⌝ }
     ensures { λ r. ⌜ r ≡ has opcode field ⌝ }
 {
-    table[3 * ((opcode - 1) as usize) + field]
+    table[(opcode - 1) as usize] / field % 2
 }
 
 fn is_register(has: u8, x: u64) -> bool
@@ -225,13 +202,13 @@ fn is_laid_out(table: &[u8], blocks: u64, x: Instruction) -> bool
     if 15 < opcode {
         return false;
     }
-    if !is_register(field_of(table, opcode, 0), x.r) {
+    if !is_register(field_of(table, opcode, R), x.r) {
         return false;
     }
-    if !is_register(field_of(table, opcode, 1), x.s) {
+    if !is_register(field_of(table, opcode, S), x.s) {
         return false;
     }
-    is_operand(blocks, field_of(table, opcode, 2), x.kind, x.operand)
+    is_operand(blocks, field_of(table, opcode, V), x.kind, x.operand)
 }
 
 // Questions 6 and 7 of all blocks. Where all are answered with yes, marks the instructions that start a block.
