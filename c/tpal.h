@@ -6,8 +6,8 @@
  * `out` may overlap no other buffer, and nobody may write to a lent buffer during the call.
  *
  * Threads. The engine has no global state, takes no memory from the heap and makes no system
- * calls. Each function may be called from any thread, by several at once. A call takes about
- * 100 KB of the caller's stack.
+ * calls. Each function may be called from any thread, by several at once. A call takes less than
+ * 50 KB of the caller's stack.
  *
  * Answers. 0 is accepted; any other answer is the number of the first question that was answered
  * with no. A refused call leaves `out` as it was.
