@@ -1,0 +1,130 @@
+-- In a state of the shape a pick is refused just where agreement's model refuses it, and otherwise does what the model does.
+use Prim.Native.Nat.{ℕ, _+_, _<_}
+use mathlib.Core.Path.{_≡_, refl, sym, ap, _∙_}
+use mathlib.Core.Bool.{Bool, true, false, not, cond, _&&_}
+use mathlib.Core.List.{List}
+use native.Mathlib.Omega.{arith}
+use lib.Dec.{eqb, ltb, leb}
+use lib.IntN.{ℤ}
+use lib.ListN.{length}
+use borrow.Author.Tests.{eqb-true, ltb-true}
+use Rattle.agreement.specs.Facts.{by-test}
+use Rattle.agreement.specs.Slots.{sideEnded, carry}
+use Rattle.agreement.specs.SlotLaws.{carry-keeps}
+use Rattle.agreement.specs.Picks.{Model, canPick, pick}
+use Rattle.agreement.specs.PickLaws.{parts-can, pick-carried, pick-refused}
+use Rattle.agreement.specs.HoldsLaws.{ended-idle}
+use Rattle.image.specs.Layout.{programCells}
+use Rattle.image.specs.Questions.{ask, orElse, programNo}
+use Rattle.image.specs.Doors.{unlessRefused}
+use Rattle.image.proofs.Asked.{ask-yes, or-else-both}
+use Rattle.task.specs.declared.Frame.{Frame}
+use Rattle.task.specs.Frames.{running}
+use Rattle.task.specs.Step.{step}
+use Rattle.machine.specs.declared.Machine.{Machine}
+use Rattle.machine.specs.Slots.{at, ticked, slotsOf}
+use Rattle.machine.specs.Ending.{jobEnded}
+use Rattle.machine.specs.Starting.{rank}
+use Rattle.machine.specs.Shape.{shape}
+use Rattle.machine.specs.Picking.{workLimit, pickNo, issued, picked}
+use Rattle.machine.proofs.EndingLaws.{ended-is}
+use Rattle.machine.proofs.Models.{modelOf, formsOf, Allowed, laws-hold}
+use Rattle.machine.proofs.ShapeLaws.{Fits, fits-shape, fits-shows}
+
+-- the last four questions, of which 22 is a no only where 23 would be one
+last-questions : (below ended runs room : Bool) → (below ≡ true → ended ≡ true → runs ≡ false)
+    → eqb (ask below 21 (ask (not ended) 22 (ask runs 23 (ask room 24 0)))) 0 ≡ below && (runs && room)
+last-questions false ended runs room idle = refl
+last-questions true true runs room idle = rw (idle refl refl)
+last-questions true false false room idle = refl
+last-questions true false true false idle = refl
+last-questions true false true true idle = refl
+
+-- questions 14 and 15
+pub record Lent (cells : List ℕ) (words : List ℤ) : Type 0 where
+  pub few-words : leb (length words) 4096 ≡ true
+  pub whole : eqb (length cells) programCells ≡ true
+
+-- in a state of the shape 21 to 24 are left
+questions-from-21 : (cells : List ℕ) (words : List ℤ) (m : Machine) (k : ℕ) → programNo cells ≡ 0 → Lent cells words → shape cells m ≡ true
+    → pickNo cells words m k ≡ ask (ltb k (m .places)) 21 (ask (not (jobEnded m)) 22 (ask (running (at m k)) 23 (ask (ltb (m .work) workLimit) 24 0)))
+unfolding pickNo orElse
+questions-from-21 cells words m k e lent s = rw (e, lent .few-words, lent .whole, s)
+
+-- what a pick that is not refused was lent
+pub pick-lent : (cells : List ℕ) (words : List ℤ) (m : Machine) (k : ℕ) → pickNo cells words m k ≡ 0 → Lent cells words
+unfolding pickNo
+pick-lent cells words m k e =
+    let p = or-else-both (programNo cells) _ e in
+    let a = ask-yes (leb (length words) 4096) 13 _ (p .1) in
+    let b = ask-yes (eqb (length cells) programCells) 14 _ (a .1) in
+    record { few-words = a .0; whole = b .0 }
+
+module _ {cells : List ℕ} {interval places : ℕ} {words : List ℤ} (allowed : Allowed cells interval places) (lent : Lent cells words) where
+  abbrev M : Model Frame Machine
+  M = modelOf cells words interval places
+
+  -- whether the job has ended is as agreement has it
+  pub fits-ended : (m : Machine) → Fits cells interval places m → jobEnded m ≡ sideEnded (slotsOf cells) m 0 0
+  fits-ended m x = let t = fits-shows allowed words m x in ended-is cells (rank places) (t .0) m (t .1 .holds)
+
+  module _ (m : Machine) (k : ℕ) (x : Fits cells interval places m) where
+    idle : ltb k (m .places) ≡ true → jobEnded m ≡ true → running (at m k) ≡ false
+    idle b e =
+        let laws = laws-hold allowed words in
+        let t = fits-shows allowed words m x in
+        ended-idle M (formsOf cells (rank places)) laws (t .0) m (t .1) (sym (fits-ended m x) ∙ e) k
+        (omega (arith, ltb-true k (m .places) b, x .its-places, laws .places-power, laws .places-fit))
+
+    pub pick-test : eqb (pickNo cells words m k) 0 ≡ canPick (modelOf cells words interval places) m k
+    pick-test =
+        ap (λ n. eqb n 0) (questions-from-21 cells words m k (allowed .program) lent (fits-shape allowed m x))
+        ∙ last-questions (ltb k (m .places)) (jobEnded m) (running (at m k)) (ltb (m .work) workLimit) idle
+        ∙ ap (λ p. ltb k p && (running (at m k) && ltb (m .work) workLimit)) (x .its-places)
+
+    pub can-accepted : canPick (modelOf cells words interval places) m k ≡ true → pickNo cells words m k ≡ 0
+    can-accepted c = eqb-true (pickNo cells words m k) 0 (pick-test ∙ c)
+
+    its-issue : issued cells words m k ≡ ticked (carry (slotsOf cells) (step cells words interval) m k)
+    its-issue = ap (λ n. ticked (carry (slotsOf cells) (step cells words n) m k)) (x .its-interval)
+
+    pub picked-is : picked cells words m k ≡ pick (modelOf cells words interval places) m k
+    unfolding unlessRefused
+    picked-is =
+        by-test (canPick M m k)
+        (λ c. let t : eqb (pickNo cells words m k) 0 ≡ true = pick-test ∙ c in
+        ap (λ b. cond b (issued cells words m k) m) t ∙ its-issue ∙ sym (pick-carried M m k c))
+        (λ c. let t : eqb (pickNo cells words m k) 0 ≡ false = pick-test ∙ c in
+        ap (λ b. cond b (issued cells words m k) m) t ∙ sym (pick-refused M m k c))
+
+    -- below the limit a running task can be picked
+    pub running-accepted : k < m .places → running (at m k) ≡ true → m .work < workLimit → pickNo cells words m k ≡ 0
+    running-accepted b r w = can-accepted (parts-can M m k (omega (arith, x .its-places)) r w)
+
+-- ---- in any state
+
+-- a pick that is carried out
+pub picked-issued : (cells : List ℕ) (words : List ℤ) (m : Machine) (k : ℕ) → pickNo cells words m k ≡ 0 → picked cells words m k ≡ issued cells words m k
+unfolding unlessRefused
+picked-issued cells words m k e = ap (λ n. cond (eqb n 0) (issued cells words m k) m) e
+
+pub picked-work : (cells : List ℕ) (words : List ℤ) (m : Machine) (k : ℕ) → pickNo cells words m k ≡ 0 → picked cells words m k .work ≡ m .work + 1
+picked-work cells words m k e =
+    ap (λ n. n .work) (picked-issued cells words m k e)
+    ∙ ap (λ n. n + 1) (carry-keeps (slotsOf cells) (λ n. n .work) (λ n k f. refl) (step cells words (m .interval)) m k)
+
+-- P and the interval stay as start left them
+module _ (cells : List ℕ) (words : List ℤ) (m : Machine) (k : ℕ) where
+  keeps : (of : Machine → ℕ) → of (issued cells words m k) ≡ of m → of (picked cells words m k) ≡ of m
+  unfolding unlessRefused
+  keeps of e = go (eqb (pickNo cells words m k) 0)
+    where
+      go : (t : Bool) → of (cond t (issued cells words m k) m) ≡ of m
+      go true = e
+      go false = refl
+
+  pub picked-places : picked cells words m k .places ≡ m .places
+  picked-places = keeps (λ n. n .places) (carry-keeps (slotsOf cells) (λ n. n .places) (λ n k f. refl) (step cells words (m .interval)) m k)
+
+  pub picked-interval : picked cells words m k .interval ≡ m .interval
+  picked-interval = keeps (λ n. n .interval) (carry-keeps (slotsOf cells) (λ n. n .interval) (λ n k f. refl) (step cells words (m .interval)) m k)

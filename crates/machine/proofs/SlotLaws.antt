@@ -1,0 +1,119 @@
+-- A frame taken where it was put is that frame, taken elsewhere it is unchanged, sizes stay; and the frames of a state are all of it.
+use Prim.Native.Nat.{ℕ, zero, suc, _+_, _*_, _/_, _%_, _≤_, _<_}
+use mathlib.Core.Path.{_≡_, refl, sym, ap, _∙_}
+use mathlib.Core.Logic.{_⊎_, inl, inr, _≢_}
+use mathlib.Core.List.{List, [], _∷_}
+use native.Mathlib.Omega.{arith}
+use native.Mathlib.Nat.{add-zero}
+use lib.ListN.{length, getD, set, length-set}
+use lib.Seq.{sets, length-sets, getD-set-same, getD-set-other, ext-getD}
+use Rattle.agreement.specs.Facts.{by-order}
+use Rattle.task.specs.declared.Task.{Task}
+use Rattle.task.specs.declared.Frame.{Frame}
+use Rattle.task.specs.Frames.{zeroRegister, noTask}
+use Rattle.task.proofs.Facts.{set-keeps}
+use Rattle.machine.specs.declared.Machine.{Machine}
+use Rattle.machine.specs.Slots.{reads, at, put, Sized, ticked}
+
+-- a frame has its 16 registers
+abbrev pub Full : Frame → Type 0
+Full f = length (f .registers) ≡ 16
+
+-- ---- a stretch of a list
+
+module _ {A : Type 0} (d : A) where
+  pub length-reads : (l : List A) (b n : ℕ) → length (reads d l b n) ≡ n
+  unfolding reads
+  length-reads l b zero = refl
+  length-reads l b (suc n) = ap suc (length-reads l (suc b) n)
+
+  pub getD-reads : (l : List A) (b n i : ℕ) → i < n → getD (reads d l b n) i d ≡ getD l (b + i) d
+  unfolding reads
+  getD-reads l b zero i h = absurd (omega arith)
+  getD-reads l b (suc n) zero h = rw add-zero
+  getD-reads l b (suc n) (suc i) h = getD-reads l (suc b) n i (omega arith) ∙ ap (λ x. getD l x d) (omega arith)
+
+  -- a store outside it changes nothing
+  reads-set : (l : List A) (b n j : ℕ) (v : A) → (j < b) ⊎ (b + n ≤ j) → reads d (set l j v) b n ≡ reads d l b n
+  unfolding reads
+  reads-set l b zero j v h = refl
+  reads-set l b (suc n) j v (inl h) = rw (getD-set-other l j b v d (omega arith), reads-set l (suc b) n j v (inl (omega arith)))
+  reads-set l b (suc n) j v (inr h) = rw (getD-set-other l j b v d (omega arith), reads-set l (suc b) n j v (inr (omega arith)))
+
+  reads-sets : (vs l : List A) (a n b : ℕ) → (b + length vs ≤ a) ⊎ (a + n ≤ b) → reads d (sets l b vs) a n ≡ reads d l a n
+  reads-sets [] l a n b h = refl
+  reads-sets (v ∷ vs) l a n b (inl h) = reads-sets vs (set l b v) a n (suc b) (inl (omega arith)) ∙ reads-set l a n b v (inl (omega arith))
+  reads-sets (v ∷ vs) l a n b (inr h) = reads-sets vs (set l b v) a n (suc b) (inr (omega arith)) ∙ reads-set l a n b v (inr h)
+
+  getD-sets : (vs l : List A) (b i : ℕ) → i < b → getD (sets l b vs) i d ≡ getD l i d
+  getD-sets [] l b i h = refl
+  getD-sets (v ∷ vs) l b i h = getD-sets vs (set l b v) (suc b) i (omega arith) ∙ getD-set-other l b i v d (omega arith)
+
+  -- what was stored is read
+  reads-same : (vs l : List A) (b : ℕ) → b + length vs ≤ length l → reads d (sets l b vs) b (length vs) ≡ vs
+  unfolding reads
+  reads-same [] l b h = refl
+  reads-same (v ∷ vs) l b h =
+      let e : length (set l b v) ≡ length l = length-set l b v in
+      let p : getD (sets (set l b v) (suc b) vs) b d ≡ v =
+      getD-sets vs (set l b v) (suc b) b (omega arith) ∙ getD-set-same l b v d (omega arith) in
+      rw (p, reads-same vs (set l b v) (suc b) (omega arith))
+
+  pub reads-all : (l : List A) → reads d l 0 (length l) ≡ l
+  reads-all l =
+      ext-getD d (reads d l 0 (length l)) l (length-reads l 0 (length l))
+      (λ i h. getD-reads l 0 (length l) i (omega (arith, length-reads l 0 (length l))) ∙ ap (λ x. getD l x d) (omega arith))
+
+-- ---- a frame at a slot
+
+frame-path : {f g : Frame} → f .task ≡ g .task → f .registers ≡ g .registers → f ≡ g
+frame-path p q = λ i. record { task = p i; registers = q i }
+
+pub put-sized : (m : Machine) (k : ℕ) (f : Frame) → Sized m → Sized (put m k f)
+put-sized m k f s = record {
+  of-bank = length-sets (m .bank) (16 * k) (reads zeroRegister (f .registers) 0 16) ∙ s .of-bank;
+  of-tasks = length-set (m .tasks) k (f .task) ∙ s .of-tasks;
+}
+
+pub put-same : (m : Machine) (k : ℕ) (f : Frame) → Sized m → Full f → k < 64 → at (put m k f) k ≡ f
+put-same m k f s e h =
+    let r : reads zeroRegister (f .registers) 0 16 ≡ f .registers = rw e at (reads-all zeroRegister (f .registers)) in
+    let n : length (reads zeroRegister (f .registers) 0 16) ≡ 16 = length-reads zeroRegister (f .registers) 0 16 in
+    frame-path (getD-set-same (m .tasks) k (f .task) noTask (omega (arith, s .of-tasks)))
+    ((rw n at (reads-same zeroRegister (reads zeroRegister (f .registers) 0 16) (m .bank) (16 * k) (omega (arith, s .of-bank)))) ∙ r)
+
+pub put-other : (m : Machine) (k : ℕ) (f : Frame) (i : ℕ) → i ≢ k → at (put m k f) i ≡ at m i
+put-other m k f i h =
+    let n : length (reads zeroRegister (f .registers) 0 16) ≡ 16 = length-reads zeroRegister (f .registers) 0 16 in
+    let apart : (16 * k + length (reads zeroRegister (f .registers) 0 16) ≤ 16 * i) ⊎ (16 * i + 16 ≤ 16 * k) =
+    by-order i k (λ x. inr (omega arith)) (λ x. absurd (h x)) (λ x. inl (omega (arith, n))) in
+    frame-path (getD-set-other (m .tasks) k i (f .task) noTask h)
+    (reads-sets zeroRegister (reads zeroRegister (f .registers) 0 16) (m .bank) (16 * i) 16 (16 * k) apart)
+
+-- what is said of task records alone: after a put each slot's is the one put or the one before
+pub put-tasks : (P : Task → Type 0) (m : Machine) (k : ℕ) (f : Frame) (i : ℕ) → P (f .task) → P (at m i .task) → P (at (put m k f) i .task)
+put-tasks P m k f i x y = set-keeps P (m .tasks) k i (f .task) noTask x y
+
+pub ticked-sized : (m : Machine) → Sized m → Sized (ticked m)
+ticked-sized m s = record { of-bank = s .of-bank; of-tasks = s .of-tasks }
+
+-- ---- the frames of a state, and its three numbers, are all of it
+
+module _ (m m′ : Machine) (s : Sized m) (s′ : Sized m′) (same : (i : ℕ) → i < 64 → at m i ≡ at m′ i) where
+  bank-at : (n : Machine) (j : ℕ) → getD (n .bank) j zeroRegister ≡ getD (at n (j / 16) .registers) (j % 16) zeroRegister
+  bank-at n j =
+      let e : 16 * (j / 16) + j % 16 ≡ j = omega arith in
+      sym (getD-reads zeroRegister (n .bank) (16 * (j / 16)) 16 (j % 16) (omega arith) ∙ ap (λ x. getD (n .bank) x zeroRegister) e)
+
+  same-bank : m .bank ≡ m′ .bank
+  same-bank =
+      ext-getD zeroRegister (m .bank) (m′ .bank) (s .of-bank ∙ sym (s′ .of-bank))
+      (λ j h. bank-at m j ∙ ap (λ f. getD (f .registers) (j % 16) zeroRegister) (same (j / 16) (omega (arith, s .of-bank))) ∙ sym (bank-at m′ j))
+
+  same-tasks : m .tasks ≡ m′ .tasks
+  same-tasks =
+      ext-getD noTask (m .tasks) (m′ .tasks) (s .of-tasks ∙ sym (s′ .of-tasks))
+      (λ j h. ap (λ f. f .task) (same j (omega (arith, s .of-tasks))))
+
+  pub same-state : m .places ≡ m′ .places → m .interval ≡ m′ .interval → m .work ≡ m′ .work → m ≡ m′
+  same-state p q r = λ i. record { places = p i; interval = q i; work = r i; bank = same-bank i; tasks = same-tasks i }

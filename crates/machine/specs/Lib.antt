@@ -1,0 +1,6 @@
+-- What the contracts of `machine` cite.
+pub mod Slots
+pub mod Ending
+pub mod Starting
+pub mod Shape
+pub mod Picking

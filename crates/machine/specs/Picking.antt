@@ -1,0 +1,42 @@
+-- Pick: its questions, and the state that it hands back.
+use mathlib.Core.Bool.{not}
+use mathlib.Core.List.{List}
+use Prim.Native.Nat.{ℕ}
+use lib.Dec.{eqb, ltb, leb}
+use lib.IntN.{ℤ}
+use lib.ListN.{length}
+use Rattle.agreement.specs.Slots.{carry}
+use Rattle.image.specs.Layout.{programCells}
+use Rattle.image.specs.Questions.{ask, orElse, programNo}
+use Rattle.image.specs.Doors.{unlessRefused}
+use Rattle.task.specs.Frames.{running}
+use Rattle.task.specs.Step.{step}
+use Rattle.machine.specs.declared.Machine.{Machine}
+use Rattle.machine.specs.Slots.{at, ticked, slotsOf}
+use Rattle.machine.specs.Ending.{jobEnded}
+use Rattle.machine.specs.Shape.{shape}
+
+-- the most work that a state can show
+abbrev pub workLimit : ℕ
+workLimit = 4294967295
+
+-- The program's questions, 14 and 15, then: does the state meet the shape test? (20)
+-- Slot below P? (21) Job not ended? (22) A running task there? (23) Work below 4,294,967,295? (24)
+unfoldable pub pickNo : List ℕ → List ℤ → Machine → ℕ → ℕ
+pickNo cells words m k =
+    orElse (programNo cells)
+    (ask (leb (length words) 4096) 14
+    (ask (eqb (length cells) programCells) 15
+    (ask (shape cells m) 20
+    (ask (ltb k (m .places)) 21
+    (ask (not (jobEnded m)) 22
+    (ask (running (at m k)) 23
+    (ask (ltb (m .work) workLimit) 24 0)))))))
+
+-- one instruction of slot k's task issued, the joins that then are due made, and 1 added to the work
+abbrev pub issued : List ℕ → List ℤ → Machine → ℕ → Machine
+issued cells words m k = ticked (carry (slotsOf cells) (step cells words (m .interval)) m k)
+
+-- a refused pick hands back the old state
+abbrev pub picked : List ℕ → List ℤ → Machine → ℕ → Machine
+picked cells words m k = unlessRefused (pickNo cells words m k) (issued cells words m k) m

@@ -1,0 +1,26 @@
+-- The shape test of question 20, for the program handed in.
+use mathlib.Core.Bool.{Bool, _&&_}
+use mathlib.Core.List.{List}
+use Prim.Native.Nat.{ℕ}
+use Rattle.agreement.specs.Shape.{Tests, shaped}
+use Rattle.task.specs.declared.Frame.{Frame}
+use Rattle.task.specs.Formed.{every, formed, isVacant, within}
+use Rattle.machine.specs.declared.Machine.{Machine}
+use Rattle.machine.specs.Slots.{at, slotsOf}
+use Rattle.machine.specs.Starting.{rank, placesAllowed, intervalAllowed}
+
+-- the tests of one slot's frame, in a job of 2 ^ D places
+abbrev pub testsOf : List ℕ → ℕ → Tests Frame
+testsOf cells D = record { isVacant = isVacant; isFormed = formed cells D }
+
+-- each slot's counter and span are at most the work
+abbrev pub countsFit : Machine → Bool
+countsFit m = every (λ i. within (m .work) (at m i)) 64 0
+
+-- P and the interval are allowed; the live tasks tile the slots below P, no two sides of one fork have both ended, and all other
+-- slots are vacant
+unfoldable pub shape : List ℕ → Machine → Bool
+shape cells m =
+    let D = rank (m .places) in
+    placesAllowed (m .places)
+    && (intervalAllowed (m .interval) && (shaped (slotsOf cells) (testsOf cells D) D m && countsFit m))

@@ -1,0 +1,52 @@
+-- The state's slots: slot k has the task record k, and the 16 registers of the bank from 16·k on.
+use mathlib.Core.Path.{_≡_}
+use mathlib.Core.List.{List, [], _∷_}
+use Prim.Native.Nat.{ℕ, zero, suc, _+_, _*_}
+use lib.ListN.{length, getD, set}
+use lib.Seq.{sets}
+use Rattle.agreement.specs.Slots.{Slots}
+use Rattle.task.specs.declared.Frame.{Frame}
+use Rattle.task.specs.Frames.{zeroRegister, vacant, noTask, running}
+use Rattle.task.specs.Step.{join}
+use Rattle.machine.specs.declared.Machine.{Machine}
+
+-- n elements from b on: n of them whatever the list's length, d past its end
+unfoldable pub reads : {A : Type 0} → A → List A → ℕ → ℕ → List A
+reads d l b zero = []
+reads d l b (suc n) = getD l b d ∷ reads d l (suc b) n
+
+-- the frame at slot k
+abbrev pub at : Machine → ℕ → Frame
+at m k = record { task = getD (m .tasks) k noTask; registers = reads zeroRegister (m .bank) (16 * k) 16 }
+
+-- a frame put at slot k
+abbrev pub put : Machine → ℕ → Frame → Machine
+put m k f = record {
+  places = m .places;
+  interval = m .interval;
+  work = m .work;
+  bank = sets (m .bank) (16 * k) (reads zeroRegister (f .registers) 0 16);
+  tasks = set (m .tasks) k (f .task);
+}
+
+-- the arrays have their lengths, as in the code they always have
+pub record Sized (m : Machine) : Type 0 where
+  pub of-bank : length (m .bank) ≡ 1024
+  pub of-tasks : length (m .tasks) ≡ 64
+
+-- 1 more work
+abbrev pub ticked : Machine → Machine
+ticked m = record { places = m .places; interval = m .interval; work = m .work + 1; bank = m .bank; tasks = m .tasks }
+
+-- 64 slots, whose tasks join as the program says
+abbrev pub slotsOf : List ℕ → Slots Frame Machine
+slotsOf cells = record {
+  running = running;
+  join = join cells;
+  depth = λ f. f .task .depth;
+  places = λ f. f .task .places;
+  vacant = vacant;
+  at = at;
+  put = put;
+  size = 64;
+}

@@ -1,0 +1,19 @@
+// The state of a job.
+use task::Register;
+use task::Task;
+
+// Slot k has tasks[k] and the 16 registers of bank from 16·k on. Whether the job has ended, and how, is read off slot 0.
+pub struct Machine {
+    pub places: u64,
+    pub interval: u16,
+    pub work: u32,
+    pub bank: [Register; 1024],
+    pub tasks: [Task; 64],
+}
+
+// How a job has ended: by halt, or by a fault with its number.
+pub enum End {
+    NotEnded,
+    Halt,
+    Fault(u8),
+}

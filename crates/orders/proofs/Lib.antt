@@ -1,0 +1,5 @@
+-- The theorems: each file ends with the one that it is named after.
+pub mod Plays
+pub mod Demand
+pub mod Complete
+pub mod Shapes

@@ -1,0 +1,113 @@
+-- Demand 3: whatever the order of picks, a job agrees with its plain evaluation. It speaks of whole orders, and of start and pick as
+-- `machine` defines them. `proofs/Demand.antt` proves it.
+-- What it rests on, in reading order: agreement's Plain (the evaluation) and Slots (what an instruction does to the slots), task's Frames,
+-- Values and Step (an instruction, a join), machine's Slots, Ending, Starting and Picking. The shape test that a pick makes (machine's Shape)
+-- refuses no pick of an order: Shapes.antt.
+use Prim.Native.Nat.{ℕ, _+_, _≤_, _<_}
+use mathlib.Core.Path.{_≡_}
+use mathlib.Core.Bool.{Bool, true, false}
+use mathlib.Core.List.{List, [], _∷_}
+use lib.Dec.{eqb}
+use lib.IntN.{ℤ}
+use Rattle.agreement.specs.Plain.{Ran, ran, eval}
+use Rattle.agreement.specs.Picks.{ifPicked, once}
+use Rattle.task.specs.declared.Frame.{Frame}
+use Rattle.task.specs.Frames.{running, integers, startFrame}
+use Rattle.task.specs.Step.{step, join}
+use Rattle.machine.specs.declared.Machine.{Machine}
+use Rattle.machine.specs.Slots.{at}
+use Rattle.machine.specs.Ending.{endOf, ending, jobEnded}
+use Rattle.machine.specs.Starting.{startNo, started}
+use Rattle.machine.specs.Picking.{workLimit, pickNo, picked}
+
+-- what start is given: a program, P, the interval, start registers and a call record
+pub record Job : Type 0 where
+  pub cells : List ℕ
+  pub places : ℕ
+  pub interval : ℕ
+  pub registers : List ℤ
+  pub words : List ℤ
+
+module _ (j : Job) where
+  open Job j using (cells, places, interval, registers, words)
+
+  -- start does not refuse it
+  abbrev pub Accepted : Type 0
+  Accepted = startNo cells places interval registers words ≡ 0
+
+  -- the state that start hands back, called on the state m
+  abbrev pub startOn : Machine → Machine
+  startOn m = started m cells places interval registers words
+
+  -- ---- Orders. All picks get start's program and call record
+
+  -- a list of picks of any slots, refused ones included: each gets the state that the one before handed back
+  unfoldable pub played : Machine → List ℕ → Machine
+  played m [] = m
+  played m (k ∷ ks) = played (picked cells words m k) ks
+
+  -- a pick is carried out when it isn't refused
+  abbrev pub isCarriedOut : Machine → ℕ → Bool
+  isCarriedOut m k = eqb (pickNo cells words m k) 0
+
+  -- the picks of an order that are carried out, each counted as much as `count` says of its slot
+  unfoldable pub carriedOut : (ℕ → ℕ) → Machine → List ℕ → ℕ
+  carriedOut count m [] = 0
+  carriedOut count m (k ∷ ks) = ifPicked (isCarriedOut m k) (count k) + carriedOut count (picked cells words m k) ks
+
+  -- a task can be picked
+  abbrev pub Pickable : Machine → Type 0
+  Pickable m = (k : ℕ) × (pickNo cells words m k ≡ 0)
+
+  -- ---- The plain evaluation. It is fed the job, and knows no picks or slots
+
+  abbrev pub evaluation : ℕ → Ran Frame
+  evaluation fuel =
+      eval (record { running = running; step = step cells words interval; join = join cells }) fuel (startFrame places (integers registers))
+
+  -- it ends with the frame e and the work W, within the limit. (The fuel bounds how deep its recursion goes. Each level issues an
+  -- instruction, so that the limit is fuel enough)
+  pub record Ends (e : Frame) (W : ℕ) : Type 0 where
+    pub evaluates : evaluation workLimit ≡ ran e W
+    pub within-limit : W ≤ workLimit
+
+-- ---- What the state m after an order is like
+
+-- where the evaluation ends with e and W, and the job has ended
+pub record SameResult (m : Machine) (e : Frame) (W : ℕ) : Type 0 where
+  -- halt or fault, and the fault's number
+  pub same-end : ending m ≡ endOf e
+  pub same-registers : at m 0 .registers ≡ e .registers
+  pub same-span : at m 0 .task .span ≡ e .task .span
+  pub same-work : m .work ≡ W
+  -- in all it is the same task
+  pub same-task : at m 0 ≡ e
+
+-- where the evaluation ends with e and W
+pub record Agrees (j : Job) (m : Machine) (e : Frame) (W : ℕ) : Type 0 where
+  pub work-never-above : m .work ≤ W
+  pub ended-when-equal : m .work ≡ W → jobEnded m ≡ true
+  pub equal-when-ended : jobEnded m ≡ true → m .work ≡ W
+  pub then-same-result : jobEnded m ≡ true → SameResult m e W
+  pub before-that-pickable : m .work < W → Pickable j m
+
+-- where it doesn't end within the limit
+pub record Unending (j : Job) (m : Machine) : Type 0 where
+  pub never-ended : jobEnded m ≡ false
+  pub below-limit-pickable : m .work < workLimit → Pickable j m
+
+-- ---- The demand
+
+-- of the order ks from the state m₀ that start handed back
+pub record WhateverTheOrder (j : Job) (m₀ : Machine) (ks : List ℕ) : Type 0 where
+  pub work-counted : played j m₀ ks .work ≡ carriedOut j once m₀ ks
+  pub where-it-ends : (e : Frame) (W : ℕ) → Ends j e W → Agrees j (played j m₀ ks) e W
+  pub where-it-does-not-end : ((e : Frame) (W : ℕ) → Ends j e W → ⊥) → Unending j (played j m₀ ks)
+
+-- for every job that start does not refuse, whatever state it was called on, and for every list of numbers as slots
+abbrev pub Demand3 : Type 0
+Demand3 = (j : Job) → Accepted j → (m : Machine) (ks : List ℕ) → WhateverTheOrder j (startOn j m) ks
+
+-- an evaluation with any fuel that ends within the limit is the one that counts
+abbrev pub AnyFuel : Type 0
+AnyFuel = (j : Job) (fuel : ℕ) (e : Frame) (W : ℕ) → evaluation j fuel ≡ ran e W → W ≤ workLimit → Ends j e W

@@ -1,0 +1,4 @@
+-- The statements. Their proofs stand in proofs/.
+pub mod Demand
+pub mod Complete
+pub mod Shapes

@@ -1,0 +1,117 @@
+-- In an accepted program, the join of two formed sides is a formed task with the places of both.
+use mathlib.Core.Path.{_≡_, refl, _∙_}
+use mathlib.Core.Bool.{true}
+use mathlib.Core.List.{List}
+use mathlib.Core.Option.{Option, none, some}
+use Prim.Native.Nat.{ℕ, zero, suc, _+_, _-_, _/_, _%_, _<_, _≤_}
+use native.Mathlib.Omega.{arith}
+use lib.Dec.{ltb, leb}
+use lib.ListN.{length, getD, length-set}
+use borrow.Author.Tests.{leb-true, le-leb, lt-ltb}
+use Rattle.image.specs.Layout.{blockCount, instructionCount}
+use Rattle.image.proofs.Booleans.{both-true}
+use Rattle.image.proofs.Accepted.{Accepted}
+use Rattle.task.specs.declared.Register.{Register}
+use Rattle.task.specs.declared.Status.{Status}
+use Rattle.task.specs.declared.Status.the-variants.{Vacant, Running, Waiting, Halted, Faulted}
+use Rattle.task.specs.declared.Frame.{Frame}
+use Rattle.task.specs.Frames.{zeroFork, zeroRegister, zeros, faultOf}
+use Rattle.task.specs.Step.{copied, outward, firstFault, joinedBy, join}
+use Rattle.task.specs.Formed.{every, isTarget, valueFits, statusFits}
+use Rattle.task.proofs.Facts.{both-from, set-keeps}
+use Rattle.task.proofs.Formation.{Formed, Listed, zeros-fit, target-below}
+use Rattle.task.proofs.Forks.{closed-fits}
+
+-- ---- the registers of a joined task
+
+pub length-copied : (child : List Register) (n packed : ℕ) (l : List Register) → length (copied child n packed l) ≡ length l
+unfolding copied
+length-copied child zero packed l = refl
+length-copied child (suc n) packed l = length-copied child n (packed / 256) _ ∙ length-set l (packed % 16) _
+
+copied-fits : (cells : List ℕ) (child : List Register) → ((i : ℕ) → valueFits cells (getD child i zeroRegister .value) ≡ true)
+    → (n packed : ℕ) (l : List Register) → ((i : ℕ) → valueFits cells (getD l i zeroRegister .value) ≡ true)
+    → (i : ℕ) → valueFits cells (getD (copied child n packed l) i zeroRegister .value) ≡ true
+unfolding copied
+copied-fits cells child fits zero packed l before i = before i
+copied-fits cells child fits (suc n) packed l before i =
+    copied-fits cells child fits n (packed / 256) _
+    (λ i. set-keeps (λ (k : Register). valueFits cells (k .value) ≡ true) l (packed % 16) i (getD child (packed / 16 % 16) zeroRegister) zeroRegister
+    (fits (packed / 16 % 16)) (before i)) i
+
+-- ---- its status
+
+abbrev Fault : Option ℕ → Type 0
+Fault none = Unit {0}
+Fault (some n) = Listed n
+
+fault-listed : (f : Frame) (s : Status) → statusFits f s ≡ true → Fault (faultOf s)
+fault-listed f Vacant e = tt
+fault-listed f Running e = tt
+fault-listed f Waiting e = tt
+fault-listed f Halted e = tt
+fault-listed f (Faulted n) e =
+    let p = both-true (leb 31 n) _ e in
+    let q = both-true (leb n 38) _ (p .1) in
+    (leb-true 31 n (p .0), leb-true n 38 (q .0))
+
+first-listed : (p c : Option ℕ) → Fault p → Fault c → Fault (firstFault p c)
+first-listed none c x y = y
+first-listed (some n) c x y = x
+
+-- ---- the join
+
+module _ (cells : List ℕ) (ok : Accepted cells) (D : ℕ) (room : D ≤ 6) (h : ℕ) (p c : Frame) (x : Formed cells D h p) (y : Formed cells D h c)
+    (below : h < D) where
+  -- the fork that is closed is the parent's innermost
+  innermost : p .task .depth - 1 < 6
+  innermost = omega (arith, x .has-depth)
+
+  one-more : p .task .depth - 1 + 1 ≡ p .task .depth
+  one-more = omega (arith, x .has-depth)
+
+  outward-formed : (s : Status) (pc : ℕ) (l : List Register) → length l ≡ 16 → pc < instructionCount cells
+      → statusFits (outward s pc l (p .task) (c .task)) s ≡ true → ((i : ℕ) → valueFits cells (getD l i zeroRegister .value) ≡ true)
+      → Formed cells D (suc h) (outward s pc l (p .task) (c .task))
+  outward-formed s pc l full at fit values = record {
+    registers-full = full;
+    forks-full = simp length-set (x .forks-full);
+    has-places = omega (arith, x .has-places, y .has-places);
+    has-depth = omega (arith, x .has-depth);
+    pc-below = at;
+    status-fits = fit;
+    forks-fit = closed-fits cells (p .task .forks) (p .task .depth - 1) innermost (x .forks-full) (rw one-more (x .forks-fit));
+    values-fit = values;
+  }
+
+  continues : (b : ℕ) → b < blockCount cells → Formed cells D (suc h) (joinedBy none cells b p c)
+  continues b q =
+      let label = ok .block b q .label-below in
+      outward-formed Running _ _ (length-copied (c .registers) _ _ (p .registers) ∙ x .registers-full) (ok .block _ label .first-below) refl
+      (copied-fits cells (c .registers) (y .values-fit) _ _ (p .registers) (x .values-fit))
+
+  stops : (b n : ℕ) → Listed n → Formed cells D (suc h) (joinedBy (some n) cells b p c)
+  unfolding every
+  stops b n l =
+      outward-formed (Faulted n) 0 zeros refl (ok .some-instruction)
+      (both-from (le-leb 31 n (l .0)) (both-from (le-leb n 38 (l .1)) refl)) (zeros-fit cells)
+
+  target : isTarget cells (getD (p .task .forks) (p .task .depth - 1) zeroFork .continuation) ≡ true
+  target =
+      let here : ltb (p .task .depth - 1) (p .task .depth) ≡ true =
+      lt-ltb (p .task .depth - 1) (p .task .depth) (omega (arith, x .has-depth)) in
+      rw here at (x .forks-fit (p .task .depth - 1) innermost)
+
+  pub join-formed : Formed cells D (suc h) (join cells p c)
+  unfolding join
+  join-formed =
+      let fp = faultOf (p .task .status) in
+      let fc = faultOf (c .task .status) in
+      go (firstFault fp fc) (first-listed fp fc (fault-listed p (p .task .status) (x .status-fits)) (fault-listed c (c .task .status) (y .status-fits)))
+    where
+      b : ℕ
+      b = getD (p .task .forks) (p .task .depth - 1) zeroFork .continuation
+
+      go : (o : Option ℕ) → Fault o → Formed cells D (suc h) (joinedBy o cells b p c)
+      go none l = continues b (target-below cells b target)
+      go (some n) l = stops b n l

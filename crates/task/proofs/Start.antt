@@ -1,0 +1,39 @@
+-- The first frame of a job is formed: all 2 ^ D places at depth 0.
+use mathlib.Core.Path.{_≡_, refl, ap, _∙_}
+use mathlib.Core.Bool.{true}
+use mathlib.Core.List.{List, [], _∷_}
+use Prim.Native.Nat.{ℕ, zero, suc, _^_}
+use native.Mathlib.Omega.{arith}
+use lib.Dec.{ltb}
+use lib.IntN.{ℤ}
+use lib.ListN.{length, getD}
+use Rattle.image.proofs.Accepted.{Accepted}
+use Rattle.task.specs.Frames.{zeroRegister, zeroFork, noForks, integers, startFrame}
+use Rattle.task.specs.Formed.{valueFits, every, forkFits}
+use Rattle.task.proofs.Facts.{every-at}
+use Rattle.task.proofs.Formation.{Formed}
+
+integers-fit : (cells : List ℕ) (zs : List ℤ) (i : ℕ) → valueFits cells (getD (integers zs) i zeroRegister .value) ≡ true
+integers-fit cells [] i = refl
+integers-fit cells (z ∷ zs) zero = refl
+integers-fit cells (z ∷ zs) (suc i) = integers-fit cells zs i
+
+pub length-integers : (zs : List ℤ) → length (integers zs) ≡ length zs
+length-integers [] = refl
+length-integers (z ∷ zs) = ap suc (length-integers zs)
+
+no-forks-fit : (cells : List ℕ) → every (λ i. forkFits cells (ltb i 0) (getD noForks i zeroFork)) 6 0 ≡ true
+unfolding every
+no-forks-fit cells = refl
+
+pub start-formed : (cells : List ℕ) → Accepted cells → (D : ℕ) (zs : List ℤ) → length zs ≡ 16 → Formed cells D D (startFrame (2 ^ D) (integers zs))
+start-formed cells ok D zs full = record {
+  registers-full = length-integers zs ∙ full;
+  forks-full = refl;
+  has-places = refl;
+  has-depth = omega arith;
+  pc-below = ok .some-instruction;
+  status-fits = refl;
+  forks-fit = λ i p. every-at (λ i. forkFits cells (ltb i 0) (getD noForks i zeroFork)) 6 0 (no-forks-fit cells) i (omega arith) (omega arith);
+  values-fit = integers-fit cells zs;
+}

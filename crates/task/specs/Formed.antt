@@ -1,0 +1,112 @@
+-- The computed tests of one slot's frame, for question 20: a live task's, and a vacant slot's.
+use mathlib.Core.Bool.{Bool, true, false, _&&_}
+use mathlib.Core.List.{List}
+use Prim.Native.Nat.{ℕ, zero, suc, _+_, _^_}
+use lib.Dec.{eqb, ltb, leb}
+use lib.IntN.{pos}
+use lib.ListN.{length, getD}
+use Rattle.int64.specs.Equal.{eqZ}
+use Rattle.image.specs.Layout.{blockCount, instructionCount, blockOf}
+use Rattle.task.specs.declared.Value.{Value}
+use Rattle.task.specs.declared.Value.the-variants.{Int, Label, Record}
+use Rattle.task.specs.declared.Status.{Status}
+use Rattle.task.specs.declared.Status.the-variants.{Vacant, Running, Waiting, Halted, Faulted}
+use Rattle.task.specs.declared.Fork.{Fork}
+use Rattle.task.specs.declared.Task.{Task}
+use Rattle.task.specs.declared.Frame.{Frame}
+use Rattle.task.specs.Frames.{zeroFork}
+use Rattle.task.specs.Step.{register}
+
+-- the test passes at i, i + 1, .. (n of them)
+unfoldable pub every : (ℕ → Bool) → ℕ → ℕ → Bool
+every test zero i = true
+every test (suc n) i = elim (test i) [ true ↦ every test n (i + 1) | false ↦ false ]
+
+-- ---- Registers
+
+-- block b is a join target of the program
+unfoldable pub isTarget : List ℕ → ℕ → Bool
+isTarget cells b = ltb b (blockCount cells) && eqb (blockOf cells b .annotation) 2
+
+-- every label of a live register is below B, every record's continuation a join target
+abbrev pub valueFits : List ℕ → Value → Bool
+valueFits cells (Int z) = true
+valueFits cells (Label b) = ltb b (blockCount cells)
+valueFits cells (Record c d) = isTarget cells c
+
+abbrev pub isZero : Value → Bool
+isZero (Int z) = eqZ z (pos 0)
+isZero (Label b) = false
+isZero (Record c d) = false
+
+abbrev pub registersFit : List ℕ → Frame → Bool
+registersFit cells f = every (λ i. valueFits cells (register f i)) 16 0
+
+-- 16 integers 0
+abbrev pub registersZero : Frame → Bool
+registersZero f = every (λ i. isZero (register f i)) 16 0
+
+-- ---- Forks
+
+abbrev pub isZeroFork : Fork → Bool
+isZeroFork k = eqb (k .continuation) 0 && eqb (k .depth) 0
+
+-- an open fork names a join target; an entry that is not in use is 0
+abbrev pub forkFits : List ℕ → Bool → Fork → Bool
+forkFits cells true k = isTarget cells (k .continuation)
+forkFits cells false k = isZeroFork k
+
+-- the task's depth is its number of open forks
+abbrev pub forksFit : List ℕ → Task → Bool
+forksFit cells t = every (λ i. forkFits cells (ltb i (t .depth)) (getD (t .forks) i zeroFork)) 6 0
+
+-- ---- Status
+
+-- a task that is not running has pc and counter 0
+abbrev pub atRest : Task → Bool
+atRest t = eqb (t .pc) 0 && eqb (t .counter) 0
+
+-- Waiting only below depth 0, Halted only at depth 0, Faulted with a number of the fault list and 16 integers 0
+abbrev pub statusFits : Frame → Status → Bool
+statusFits f Vacant = false
+statusFits f Running = true
+statusFits f Waiting = ltb 0 (f .task .depth) && atRest (f .task)
+statusFits f Halted = eqb (f .task .depth) 0 && atRest (f .task)
+statusFits f (Faulted n) = leb 31 n && (leb n 38 && (atRest (f .task) && registersZero f))
+
+-- ---- A slot's frame
+
+-- the arrays have their lengths, as in the code they always have
+abbrev pub isFull : Frame → Bool
+isFull f = eqb (length (f .registers)) 16 && eqb (length (f .task .forks)) 6
+
+-- a live task with 2 ^ h places in a job of 2 ^ D: at depth D - h
+unfoldable pub formed : List ℕ → ℕ → ℕ → Frame → Bool
+formed cells D h f =
+    isFull f
+    && (eqb (f .task .places) (2 ^ h)
+    && (eqb (f .task .depth + h) D
+    && (ltb (f .task .pc) (instructionCount cells)
+    && (statusFits f (f .task .status) && (forksFit cells (f .task) && registersFit cells f)))))
+
+abbrev pub isVacantStatus : Status → Bool
+isVacantStatus Vacant = true
+isVacantStatus Running = false
+isVacantStatus Waiting = false
+isVacantStatus Halted = false
+isVacantStatus (Faulted n) = false
+
+-- the frame is `vacant`
+unfoldable pub isVacant : Frame → Bool
+isVacant f =
+    isFull f
+    && (isVacantStatus (f .task .status)
+    && (eqb (f .task .places) 0
+    && (eqb (f .task .span) 0
+    && (eqb (f .task .depth) 0
+    && (atRest (f .task)
+    && (every (λ i. isZeroFork (getD (f .task .forks) i zeroFork)) 6 0 && registersZero f))))))
+
+-- counter and span are at most the work: a fact of a state, and of no frame alone
+abbrev pub within : ℕ → Frame → Bool
+within work f = leb (f .task .counter) work && leb (f .task .span) work
