@@ -1,18 +1,23 @@
 -- Rules that every evaluation shares, so that no comparison of two would find them broken: whose fault a joined task has, what else a join
--- leaves, and the counter at a promotion.
+-- leaves, the counter at a promotion, and what a comparison gives.
 use mathlib.Core.Path.{_≡_, refl, ap, _∙_}
-use mathlib.Core.Bool.{true, false}
+use mathlib.Core.Bool.{Bool, true, false, cond}
 use mathlib.Core.List.{List}
 use mathlib.Core.Option.{Option, none, some}
 use Prim.Native.Nat.{ℕ, _+_, _-_, max}
+use lib.IntN.{ℤ, pos}
 use lib.ListN.{getD}
+use lib.Signed.{ltZ}
+use Rattle.int64.specs.Equal.{eqZ}
+use Rattle.agreement.specs.Plain.{one}
 use Rattle.image.specs.Layout.{blockOf}
+use Rattle.task.specs.declared.Value.the-variants.{Int}
 use Rattle.task.specs.declared.Status.{Status}
 use Rattle.task.specs.declared.Status.the-variants.{Running, Faulted}
 use Rattle.task.specs.declared.Task.{Task}
 use Rattle.task.specs.declared.Frame.{Frame}
 use Rattle.task.specs.Frames.{zeroFork, faultOf}
-use Rattle.task.specs.Step.{promotes, enteredBy, entered, firstFault, joinedBy, join}
+use Rattle.task.specs.Step.{asked, stored, less, equal, carriedOut, promotes, enteredBy, entered, firstFault, joinedBy, join}
 
 module _ (cells : List ℕ) (p c : Frame) where
   -- the continuation of the parent's innermost fork
@@ -66,3 +71,15 @@ module _ (cells : List ℕ) (interval b : ℕ) (t : Task) where
   pub entry-keeps : promotes cells interval b t ≡ false
       → (entered cells interval b t .counter ≡ t .counter) × (entered cells interval b t .pc ≡ blockOf cells b .first)
   entry-keeps e = (ap (λ o. enteredBy o cells b t .counter) e, ap (λ o. enteredBy o cells b t .pc) e)
+
+module _ (cells : List ℕ) (words : List ℤ) (interval r : ℕ) (a b : ℤ) (f : Frame) where
+  -- 0 when true, 1 when false
+  pub less-is : (t : Bool) → ltZ a b ≡ t → carriedOut cells words interval r (Int a) (Int b) f less ≡ one (stored r (Int (cond t (pos 0) (pos 1))) f)
+  unfolding asked
+  less-is true e = rw e
+  less-is false e = rw e
+
+  pub equal-is : (t : Bool) → eqZ a b ≡ t → carriedOut cells words interval r (Int a) (Int b) f equal ≡ one (stored r (Int (cond t (pos 0) (pos 1))) f)
+  unfolding asked
+  equal-is true e = rw e
+  equal-is false e = rw e

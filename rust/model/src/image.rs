@@ -124,6 +124,21 @@ impl Instruction {
 }
 
 impl Block {
+    pub fn is_promotion_ready(&self) -> bool {
+        self.annotation == 1
+    }
+
+    pub fn is_join_target(&self) -> bool {
+        self.annotation == 2
+    }
+
+    /// The used pairs: the child's register and the target.
+    pub fn register_pairs(&self) -> impl Iterator<Item = (usize, usize)> + '_ {
+        self.pairs[..usize::from(self.pair_count)]
+            .iter()
+            .map(|&pair| (usize::from(pair >> 4), usize::from(pair & 15)))
+    }
+
     /// Question 7.
     fn is_annotated_as_laid_out(&self, block_count: usize) -> bool {
         let label_in_range = usize::from(self.label) < block_count;

@@ -2,10 +2,19 @@
 //!
 //! The tests compare the proved engine with it, and the benchmark runs it beside the engine.
 
+pub mod fault;
 mod image;
+pub mod job;
+mod machine;
+pub mod opcode;
+pub mod plain;
 pub mod question;
+pub mod task;
 
 pub use image::{
     read, rewrite, write, write_into, Block, Instruction, Program, BLOCK_BYTES, HEADER_BYTES,
     INSTRUCTION_BYTES, MARK, MAX_BLOCKS, MAX_INSTRUCTIONS, MAX_PAIRS, VERSION,
 };
+pub use job::Job;
+pub use machine::{Answer, End, Machine, Slot, Status, MAX_PLACES, MAX_WORDS, WORK_LIMIT};
+pub use task::{Record, Registers, Task, Value, REGISTERS};

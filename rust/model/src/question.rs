@@ -19,5 +19,23 @@ pub const ANNOTATION: u8 = 7;
 pub const FIELDS: u8 = 8;
 /// Is it opcode 13, 14 or 15 exactly when last in its block?
 pub const LAST_IN_BLOCK: u8 = 9;
+/// Does the job's input end exactly after its last word?
+pub const INPUT: u8 = 10;
+/// P allowed?
+pub const PLACES: u8 = 11;
+/// Interval 0 or 8 to 65,535?
+pub const INTERVAL: u8 = 12;
+/// Sixteen registers?
+pub const REGISTERS: u8 = 13;
+/// At most 4,096 words?
+pub const WORDS: u8 = 14;
 /// Every lent buffer of the length docs/ names?
 pub const BUFFER: u8 = 15;
+/// Slot below P?
+pub const SLOT: u8 = 21;
+/// Job not ended?
+pub const NOT_ENDED: u8 = 22;
+/// A running task there?
+pub const RUNNING: u8 = 23;
+/// Work below 4,294,967,295?
+pub const WORK: u8 = 24;

@@ -1,0 +1,296 @@
+//! The machine: a job's state, start, pick, and the budgeted run.
+//!
+//! Question 20 is not put. It is about a state that was lent as memory, and this one is only ever
+//! written here; the caller hands in the program that it was started with.
+
+use crate::image::{Block, Program};
+use crate::question;
+use crate::task::{Record, Step, Surroundings, Task, REGISTERS, ZEROS};
+use std::mem;
+
+pub const MAX_PLACES: u64 = 64;
+pub const MAX_WORDS: usize = 4096;
+/// No pick is carried out when the work stands here.
+pub const WORK_LIMIT: u32 = u32::MAX;
+
+#[derive(Clone, Copy, Debug, PartialEq, Eq)]
+pub enum Status {
+    /// No task. What the slot's task holds means nothing.
+    Vacant,
+    Running,
+    /// Its side of the innermost fork ended with a join.
+    Waiting,
+    /// Its side of the innermost fork, or at depth 0 the job, ended with this fault.
+    Faulted(u8),
+    /// The job ended here.
+    Halted,
+}
+
+#[derive(Clone, Debug, PartialEq, Eq)]
+pub struct Slot {
+    pub status: Status,
+    pub task: Task,
+}
+
+/// How a job ended.
+#[derive(Clone, Copy, Debug, PartialEq, Eq)]
+pub enum End {
+    Halt,
+    Fault(u8),
+}
+
+/// What a budgeted run answers.
+#[derive(Clone, Copy, Debug, PartialEq, Eq)]
+pub enum Answer {
+    Ended,
+    Spent,
+}
+
+#[derive(Clone, Debug, PartialEq, Eq)]
+pub struct Machine {
+    interval: u16,
+    work: u32,
+    /// Bit k is set when slot k has a running task, so that the run need not look into the others.
+    running: u64,
+    /// One for each place. A task sits in the first slot of its places.
+    slots: Vec<Slot>,
+}
+
+/// The questions that start, pick and run put first, and the one about the call record that stands
+/// between start's own and pick's own.
+fn check_words(words: &[i64]) -> Result<(), u8> {
+    if words.len() > MAX_WORDS {
+        return Err(question::WORDS);
+    }
+    Ok(())
+}
+
+impl Machine {
+    /// The state of a fresh start.
+    pub fn start(
+        program: &Program,
+        places: u64,
+        interval: u64,
+        registers: &[i64],
+        words: &[i64],
+    ) -> Result<Self, u8> {
+        program.check()?;
+        if !places.is_power_of_two() || places > MAX_PLACES {
+            return Err(question::PLACES);
+        }
+        let interval = match u16::try_from(interval) {
+            Ok(interval) if interval == 0 || interval >= 8 => interval,
+            _ => return Err(question::INTERVAL),
+        };
+        let registers: &[i64; REGISTERS] =
+            registers.try_into().map_err(|_| question::REGISTERS)?;
+        check_words(words)?;
+
+        let vacant = Slot {
+            status: Status::Vacant,
+            task: Task::new(&[0; REGISTERS], 0),
+        };
+        let mut slots = vec![vacant; places as usize];
+        slots[0] = Slot {
+            status: Status::Running,
+            task: Task::new(registers, places as u8),
+        };
+        Ok(Machine {
+            interval,
+            work: 0,
+            running: 1,
+            slots,
+        })
+    }
+
+    /// Number of slots, and sum of the places of all tasks.
+    pub fn places(&self) -> usize {
+        self.slots.len()
+    }
+
+    pub fn interval(&self) -> u16 {
+        self.interval
+    }
+
+    pub fn work(&self) -> u32 {
+        self.work
+    }
+
+    pub fn slots(&self) -> &[Slot] {
+        &self.slots
+    }
+
+    /// How the job ended, if it has.
+    pub fn end(&self) -> Option<End> {
+        match self.slots[0].status {
+            Status::Halted => Some(End::Halt),
+            Status::Faulted(number) if self.last_task().depth() == 0 => Some(End::Fault(number)),
+            _ => None,
+        }
+    }
+
+    /// The task in slot 0: after the end the job's last one, whose registers and span are the
+    /// job's.
+    pub fn last_task(&self) -> &Task {
+        &self.slots[0].task
+    }
+
+    /// Carries out a pick of this slot. A refusal leaves the state as it was.
+    pub fn pick(&mut self, program: &Program, words: &[i64], slot: usize) -> Result<(), u8> {
+        program.check()?;
+        check_words(words)?;
+        if slot >= self.places() {
+            return Err(question::SLOT);
+        }
+        if self.end().is_some() {
+            return Err(question::NOT_ENDED);
+        }
+        if self.slots[slot].status != Status::Running {
+            return Err(question::RUNNING);
+        }
+        if self.work == WORK_LIMIT {
+            return Err(question::WORK);
+        }
+        self.carry_out(program, words, slot);
+        Ok(())
+    }
+
+    /// Passes over the slots again and again and picks each that has a running task when reached,
+    /// until the job has ended, the budget is spent or the work stands at its limit. Also hands
+    /// back the number of picks carried out.
+    pub fn run(
+        &mut self,
+        program: &Program,
+        words: &[i64],
+        budget: u64,
+    ) -> Result<(Answer, u64), u8> {
+        program.check()?;
+        check_words(words)?;
+        let allowed = budget.min(u64::from(WORK_LIMIT - self.work));
+        let mut picks = 0;
+        let mut ahead = self.running;
+        // A job that has not ended has a running task.
+        while self.running != 0 {
+            if picks == allowed {
+                return Ok((Answer::Spent, picks));
+            }
+            if ahead == 0 {
+                ahead = self.running;
+            }
+            let slot = ahead.trailing_zeros();
+            self.carry_out(program, words, slot as usize);
+            picks += 1;
+            // Read anew: the pick may have made a task running further on, or vacated its slot.
+            ahead = self.running & (u64::MAX << slot << 1);
+        }
+        Ok((Answer::Ended, picks))
+    }
+
+    /// Issues one instruction of the running task in this slot.
+    #[inline]
+    fn carry_out(&mut self, program: &Program, words: &[i64], slot: usize) {
+        self.work += 1;
+        let surroundings = Surroundings {
+            program,
+            words,
+            interval: self.interval,
+        };
+        match self.slots[slot].task.step(surroundings) {
+            Step::Onward => {}
+            Step::Fork { record, target } => {
+                self.fork(slot, record, &program.blocks[usize::from(target)]);
+            }
+            Step::Wait => {
+                self.set_status(slot, Status::Waiting);
+                self.settle(program, slot);
+            }
+            Step::Halt => self.set_status(slot, Status::Halted),
+            Step::Fault(number) => {
+                self.set_status(slot, Status::Faulted(number));
+                self.settle(program, slot);
+            }
+        }
+    }
+
+    fn set_status(&mut self, slot: usize, status: Status) {
+        self.slots[slot].status = status;
+        let bit = 1 << slot;
+        if status == Status::Running {
+            self.running |= bit;
+        } else {
+            self.running &= !bit;
+        }
+    }
+
+    /// The parent keeps its slot and the lower half of its places.
+    fn fork(&mut self, slot: usize, record: Record, target: &Block) {
+        let parent = &mut self.slots[slot].task;
+        parent.open_fork(record);
+        parent.places /= 2;
+        let child_slot = slot + usize::from(parent.places);
+
+        let (before, after) = self.slots.split_at_mut(child_slot);
+        let child = &mut after[0].task;
+        child.clone_from(&before[slot].task);
+        child.counter = 0;
+        child.pc = target.first;
+        self.set_status(child_slot, Status::Running);
+    }
+
+    /// Joins the sides of the fork that the task in this slot has ended its side of, if the other
+    /// has ended too, and those of the forks around it as long as the joined task is faulted.
+    fn settle(&mut self, program: &Program, mut slot: usize) {
+        while self.slots[slot].task.depth() > 0 {
+            // A side has as many places as the other, and lies beside it.
+            let width = usize::from(self.slots[slot].task.places);
+            let (parent, child) = (slot & !width, slot | width);
+            if !self.both_ended(parent, child) {
+                return;
+            }
+            self.join(program, parent, child);
+            if self.slots[parent].status == Status::Running {
+                return;
+            }
+            slot = parent;
+        }
+    }
+
+    /// Whether these are the two ended sides of one fork. A deeper task has ended no more than a
+    /// part of its side.
+    fn both_ended(&self, parent: usize, child: usize) -> bool {
+        let (parent, child) = (&self.slots[parent], &self.slots[child]);
+        let ended = |slot: &Slot| matches!(slot.status, Status::Waiting | Status::Faulted(_));
+        ended(parent) && ended(child) && parent.task.depth() == child.task.depth()
+    }
+
+    /// One task of two ended sides, in the parent's slot.
+    fn join(&mut self, program: &Program, parent_slot: usize, child_slot: usize) {
+        let (before, after) = self.slots.split_at_mut(child_slot);
+        let (parent, child) = (&mut before[parent_slot], &mut after[0]);
+        let child_status = mem::replace(&mut child.status, Status::Vacant);
+        let (task, child) = (&mut parent.task, &child.task);
+
+        let record = task.close_fork();
+        task.places += child.places;
+        task.span = task.span.max(child.span);
+        task.counter = 0;
+        let status = match (parent.status, child_status) {
+            (Status::Faulted(number), _) | (_, Status::Faulted(number)) => {
+                task.registers = ZEROS;
+                Status::Faulted(number)
+            }
+            _ => {
+                let continuation = &program.blocks[usize::from(record.continuation)];
+                for (from, to) in continuation.register_pairs() {
+                    task.registers[to] = child.registers[from];
+                }
+                task.pc = program.blocks[usize::from(continuation.label)].first;
+                Status::Running
+            }
+        };
+        self.set_status(parent_slot, status);
+    }
+}
+
+#[cfg(test)]
+mod tests;

@@ -1,0 +1,298 @@
+//! One task, and one instruction carried out on it.
+//!
+//! The machine and the plain evaluation share this file and nothing else: what becomes of a fork,
+//! a wait, a fault or a halt is up to each of them.
+
+use crate::image::{Instruction, Program};
+use crate::{fault, opcode};
+
+pub const REGISTERS: usize = 16;
+/// 64 places can be halved six times.
+pub const MAX_DEPTH: usize = 6;
+
+#[derive(Clone, Copy, Debug, PartialEq, Eq)]
+pub enum Value {
+    Int(i64),
+    Label(u8),
+    Record(Record),
+}
+
+/// A join record. Those with the same two numbers are the same.
+#[derive(Clone, Copy, Debug, PartialEq, Eq)]
+pub struct Record {
+    pub continuation: u8,
+    pub depth: u8,
+}
+
+pub type Registers = [Value; REGISTERS];
+
+/// What a fault leaves of a task's registers.
+pub const ZEROS: Registers = [Value::Int(0); REGISTERS];
+
+#[derive(Clone, Debug, PartialEq, Eq)]
+pub struct Task {
+    pub registers: Registers,
+    pub places: u8,
+    /// Program counter: the number of the next instruction.
+    pub pc: u16,
+    /// Instructions since the last promotion, fork (in a child) or join.
+    pub counter: u32,
+    pub span: u32,
+    /// The first `depth` are open, the outermost first.
+    forks: [Record; MAX_DEPTH],
+    depth: u8,
+}
+
+/// What a task's instructions look at besides the task.
+#[derive(Clone, Copy, Debug)]
+pub struct Surroundings<'a> {
+    pub program: &'a Program,
+    /// The call record.
+    pub words: &'a [i64],
+    pub interval: u16,
+}
+
+/// What an instruction asks of those who hold the task.
+#[derive(Clone, Copy, Debug, PartialEq, Eq)]
+pub enum Step {
+    /// Nothing: the task goes on.
+    Onward,
+    /// To fork under this record, the child to start this block.
+    Fork { record: Record, target: u8 },
+    /// To join the two sides of the innermost open fork when the other has ended too.
+    Wait,
+    Halt,
+    Fault(u8),
+}
+
+impl Task {
+    /// The one task of a fresh start, at block 0.
+    pub fn new(registers: &[i64; REGISTERS], places: u8) -> Self {
+        Task {
+            registers: registers.map(Value::Int),
+            places,
+            pc: 0,
+            counter: 0,
+            span: 0,
+            forks: [Record {
+                continuation: 0,
+                depth: 0,
+            }; MAX_DEPTH],
+            depth: 0,
+        }
+    }
+
+    /// Number of open forks.
+    pub fn depth(&self) -> usize {
+        usize::from(self.depth)
+    }
+
+    /// Open forks, the outermost first.
+    pub fn forks(&self) -> &[Record] {
+        &self.forks[..self.depth()]
+    }
+
+    pub fn open_fork(&mut self, record: Record) {
+        self.forks[self.depth()] = record;
+        self.depth += 1;
+    }
+
+    /// Closes the innermost fork, of which there is one, and hands back its record.
+    pub fn close_fork(&mut self) -> Record {
+        self.depth -= 1;
+        self.forks[self.depth()]
+    }
+
+    /// Issues the next instruction. One that faults counts too, and sets the registers to 0.
+    #[inline]
+    pub fn step(&mut self, surroundings: Surroundings) -> Step {
+        self.counter += 1;
+        self.span += 1;
+        match self.issue(surroundings) {
+            Ok(step) => step,
+            Err(number) => {
+                self.registers = ZEROS;
+                Step::Fault(number)
+            }
+        }
+    }
+
+    #[inline]
+    fn issue(&mut self, surroundings: Surroundings) -> Result<Step, u8> {
+        let instruction = &surroundings.program.instructions[usize::from(self.pc)];
+        let result = match instruction.opcode {
+            opcode::MOVE => self.operand(instruction),
+            opcode::ADD => self.combine(instruction, i64::wrapping_add)?,
+            opcode::SUBTRACT => self.combine(instruction, i64::wrapping_sub)?,
+            opcode::MULTIPLY => self.combine(instruction, i64::wrapping_mul)?,
+            opcode::DIVIDE => self.divide(instruction, i64::wrapping_div)?,
+            opcode::REMAINDER => self.divide(instruction, i64::wrapping_rem)?,
+            opcode::LESS => self.combine(instruction, |a, b| truth(a < b))?,
+            opcode::EQUAL => self.combine(instruction, |a, b| truth(a == b))?,
+            opcode::WORD => self.word(instruction, surroundings.words)?,
+            opcode::JRALLOC => self.allocate(instruction, surroundings.program)?,
+            opcode::IF_JUMP => {
+                if integer(self.source(instruction))? != 0 {
+                    self.pc += 1;
+                } else {
+                    self.enter(surroundings, label(self.operand(instruction))?);
+                }
+                return Ok(Step::Onward);
+            }
+            opcode::FORK => return self.fork(instruction),
+            opcode::JUMP => {
+                self.enter(surroundings, label(self.operand(instruction))?);
+                return Ok(Step::Onward);
+            }
+            opcode::HALT if self.depth != 0 => return Err(fault::OPEN_FORK),
+            opcode::HALT => return Ok(Step::Halt),
+            opcode::JOIN => return self.join(instruction, surroundings),
+            number => unreachable!("opcode {} in a program that was checked", number),
+        };
+        self.registers[register(instruction.r)] = result;
+        self.pc += 1;
+        Ok(Step::Onward)
+    }
+
+    #[inline]
+    fn source(&self, instruction: &Instruction) -> Value {
+        self.registers[register(instruction.s)]
+    }
+
+    #[inline]
+    fn operand(&self, instruction: &Instruction) -> Value {
+        match instruction.kind {
+            1 => self.registers[register(instruction.operand as u8)],
+            2 => Value::Label(instruction.operand as u8),
+            _ => Value::Int(instruction.operand as i64),
+        }
+    }
+
+    #[inline]
+    fn integers(&self, instruction: &Instruction) -> Result<(i64, i64), u8> {
+        match (self.source(instruction), self.operand(instruction)) {
+            (Value::Int(a), Value::Int(b)) => Ok((a, b)),
+            _ => Err(fault::INTEGERS),
+        }
+    }
+
+    #[inline]
+    fn combine(&self, instruction: &Instruction, op: fn(i64, i64) -> i64) -> Result<Value, u8> {
+        let (a, b) = self.integers(instruction)?;
+        Ok(Value::Int(op(a, b)))
+    }
+
+    #[inline]
+    fn divide(&self, instruction: &Instruction, op: fn(i64, i64) -> i64) -> Result<Value, u8> {
+        let (a, b) = self.integers(instruction)?;
+        if b == 0 {
+            return Err(fault::DIVISOR);
+        }
+        Ok(Value::Int(op(a, b)))
+    }
+
+    fn word(&self, instruction: &Instruction, words: &[i64]) -> Result<Value, u8> {
+        let index = integer(self.operand(instruction))?;
+        let index = usize::try_from(index).map_err(|_| fault::INDEX)?;
+        match words.get(index) {
+            Some(&word) => Ok(Value::Int(word)),
+            None => Err(fault::INDEX),
+        }
+    }
+
+    fn allocate(&self, instruction: &Instruction, program: &Program) -> Result<Value, u8> {
+        match self.operand(instruction) {
+            Value::Label(continuation)
+                if program.blocks[usize::from(continuation)].is_join_target() =>
+            {
+                Ok(Value::Record(Record {
+                    continuation,
+                    depth: self.depth,
+                }))
+            }
+            _ => Err(fault::JOIN_TARGET),
+        }
+    }
+
+    fn fork(&mut self, instruction: &Instruction) -> Result<Step, u8> {
+        let record = self.fitting(self.source(instruction))?;
+        let target = label(self.operand(instruction))?;
+        if self.places < 2 {
+            return Err(fault::PLACES);
+        }
+        self.pc += 1;
+        Ok(Step::Fork { record, target })
+    }
+
+    fn join(&mut self, instruction: &Instruction, surroundings: Surroundings) -> Result<Step, u8> {
+        let record = self.fitting(self.operand(instruction))?;
+        if record.depth != self.depth {
+            return Ok(Step::Wait);
+        }
+        self.enter(surroundings, record.continuation);
+        Ok(Step::Onward)
+    }
+
+    /// The value as a record that fits this task: not deeper than it, and every fork opened beyond
+    /// the record's depth belongs to the record.
+    fn fitting(&self, value: Value) -> Result<Record, u8> {
+        match value {
+            Value::Record(record) if self.fits(record) => Ok(record),
+            _ => Err(fault::RECORD),
+        }
+    }
+
+    fn fits(&self, record: Record) -> bool {
+        match self.forks().get(usize::from(record.depth)..) {
+            None => false,
+            Some(beyond) => beyond.iter().all(|&fork| fork == record),
+        }
+    }
+
+    /// Enters a block by jump, taken if-jump or join, or its handler in its place.
+    #[inline]
+    fn enter(&mut self, surroundings: Surroundings, target: u8) {
+        let blocks = &surroundings.program.blocks;
+        let mut block = &blocks[usize::from(target)];
+        if block.is_promotion_ready()
+            && surroundings.interval != 0
+            && self.counter > u32::from(surroundings.interval)
+            && self.places >= 2
+        {
+            self.counter = 0;
+            block = &blocks[usize::from(block.label)];
+        }
+        self.pc = block.first;
+    }
+}
+
+/// A register's number, in a form that shows the compiler its bound.
+#[inline]
+fn register(number: u8) -> usize {
+    usize::from(number) & (REGISTERS - 1)
+}
+
+#[inline]
+fn integer(value: Value) -> Result<i64, u8> {
+    match value {
+        Value::Int(integer) => Ok(integer),
+        _ => Err(fault::INTEGERS),
+    }
+}
+
+#[inline]
+fn label(value: Value) -> Result<u8, u8> {
+    match value {
+        Value::Label(label) => Ok(label),
+        _ => Err(fault::TARGET),
+    }
+}
+
+/// A comparison's value: 0 when true.
+#[inline]
+fn truth(holds: bool) -> i64 {
+    i64::from(!holds)
+}
+
+#[cfg(test)]
+mod tests;
