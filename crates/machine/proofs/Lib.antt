@@ -5,3 +5,5 @@ pub mod EndingLaws
 pub mod ShapeLaws
 pub mod PickLaws
 pub mod StartLaws
+pub mod Filling
+pub mod Intervals

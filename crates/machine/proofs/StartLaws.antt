@@ -23,7 +23,7 @@ use Rattle.task.proofs.Start.{length-integers, start-formed}
 use Rattle.task.proofs.Counts.{Within, vacant-within, start-within}
 use Rattle.machine.specs.declared.Machine.{Machine}
 use Rattle.machine.specs.Slots.{reads, at, Sized, slotsOf}
-use Rattle.machine.specs.Starting.{rank, placesAllowed, intervalAllowed, startNo, empty, fresh, started}
+use Rattle.machine.specs.Starting.{rank, placesAllowed, intervalAllowed, startNo, startNoBy, empty, fresh, started}
 use Rattle.machine.specs.Shape.{testsOf}
 use Rattle.machine.proofs.SlotLaws.{put-sized, put-same, put-other, put-tasks}
 use Rattle.machine.proofs.RankLaws.{rank-power}
@@ -39,7 +39,7 @@ pub record StartAccepted (cells : List ℕ) (places interval : ℕ) (registers w
 
 pub start-accepted : (cells : List ℕ) (places interval : ℕ) (registers words : List ℤ) → startNo cells places interval registers words ≡ 0
     → StartAccepted cells places interval registers words
-unfolding startNo
+unfolding startNoBy
 start-accepted cells places interval registers words e =
     let p = or-else-both (programNo cells) _ e in
     let a = ask-yes (placesAllowed places) 10 _ (p .1) in

@@ -30,15 +30,18 @@ abbrev pub intervalAllowed : ℕ → Bool
 intervalAllowed interval = eqb interval 0 || (leb 8 interval && leb interval 65535)
 
 -- The program's questions, then P allowed? (11) Interval 0 or 8 to 65,535? (12) Sixteen registers? (13) At most 4,096 words? (14)
--- Every lent buffer of the length docs/ names? (15)
-unfoldable pub startNo : List ℕ → ℕ → ℕ → List ℤ → List ℤ → ℕ
-startNo cells places interval registers words =
+-- Every lent buffer of the length docs/ names? (15) Of registers and words only their number counts
+unfoldable pub startNoBy : List ℕ → ℕ → ℕ → ℕ → ℕ → ℕ
+startNoBy cells places interval registers words =
     orElse (programNo cells)
     (ask (placesAllowed places) 11
     (ask (intervalAllowed interval) 12
-    (ask (eqb (length registers) 16) 13
-    (ask (leb (length words) 4096) 14
+    (ask (eqb registers 16) 13
+    (ask (leb words 4096) 14
     (ask (eqb (length cells) programCells) 15 0)))))
+
+abbrev pub startNo : List ℕ → ℕ → ℕ → List ℤ → List ℤ → ℕ
+startNo cells places interval registers words = startNoBy cells places interval (length registers) (length words)
 
 -- a state with no task
 abbrev pub empty : ℕ → ℕ → Machine

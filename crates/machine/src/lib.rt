@@ -1,4 +1,6 @@
 // The state of a job.
+pub mod start;
+
 use task::Register;
 use task::Task;
 
@@ -16,4 +18,10 @@ pub enum End {
     NotEnded,
     Halt,
     Fault(u8),
+}
+
+// What start and pick hand back: 0 or the number of a refusal, and the state.
+pub struct Answered {
+    pub no: u8,
+    pub machine: Machine,
 }

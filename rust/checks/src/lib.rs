@@ -3,11 +3,14 @@
 //! A case is named by a seed and a number, and made from these two alone, so that one that failed
 //! can be run again by itself: `cargo run --release --bin soak -- 1 SEED NUMBER`.
 
+pub mod assemble;
 pub mod compare;
 pub mod coverage;
 pub mod damage;
 mod draft;
 pub mod generate;
+pub mod jobs;
 pub mod layout;
+pub mod product;
 pub mod random;
 pub mod run;

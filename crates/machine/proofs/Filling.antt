@@ -1,0 +1,43 @@
+-- The bank's first registers, set one after the other from a list of integers.
+use mathlib.Core.Path.{_≡_, refl, sym, ap, _∙_}
+use mathlib.Core.List.{List, [], _∷_, _++_}
+use Prim.Native.Nat.{ℕ, zero, suc, _+_}
+use native.Mathlib.Omega.{arith}
+use native.Mathlib.Numerals.{add-one}
+use native.Mathlib.Nat.{add-zero}
+use lib.IntN.{ℤ, pos}
+use lib.ListN.{length, getD, set, List·getD-map}
+use lib.Seq.{sets}
+use Rattle.int64.proofs.Stores.{sets-append}
+use Rattle.task.specs.declared.Value.the-variants.{Int}
+use Rattle.task.specs.declared.Register.{Register}
+use Rattle.task.specs.Frames.{zeroRegister, integers}
+use Rattle.machine.specs.Slots.{reads}
+use Rattle.machine.proofs.SlotLaws.{length-reads}
+
+-- one element more
+pub reads-snoc : {A : Type 0} (d : A) (l : List A) (b n : ℕ) → reads d l b (suc n) ≡ reads d l b n ++ (getD l (b + n) d ∷ [])
+unfolding reads
+reads-snoc d l b zero = rw add-zero
+reads-snoc d l b (suc n) =
+    let e : b + suc n ≡ suc b + n = omega arith in
+    rw e (ap (λ x. getD l b d ∷ x) (reads-snoc d l (suc b) n))
+
+pub filled-none : (bank : List Register) (zs : List ℤ) → bank ≡ sets bank 0 (reads zeroRegister (integers zs) 0 0)
+unfolding reads
+filled-none bank zs = refl
+
+pub filled-more : (bank filled : List Register) (zs : List ℤ) (i : ℕ) → filled ≡ sets bank 0 (reads zeroRegister (integers zs) 0 i)
+    → set filled i (record { value = Int (getD zs i (pos 0)) }) ≡ sets bank 0 (reads zeroRegister (integers zs) 0 (i + 1))
+filled-more bank filled zs i e =
+    let rs = reads zeroRegister (integers zs) 0 i in
+    let n : 0 + length rs ≡ i = omega (arith, length-reads zeroRegister (integers zs) 0 i) in
+    let j : 0 + i ≡ i = omega arith in
+    let v : record { value = Int (getD zs i (pos 0)) } ≡ getD (integers zs) (0 + i) zeroRegister =
+    sym (ap (λ (k : ℕ). getD (integers zs) k zeroRegister) j ∙ List·getD-map (λ z. record { value = Int z }) zs i (pos 0)) in
+    ap (λ (l : List Register). set l i (record { value = Int (getD zs i (pos 0)) })) e
+    ∙ ap (λ (k : ℕ). set (sets bank 0 rs) k (record { value = Int (getD zs i (pos 0)) })) (sym n)
+    ∙ ap (λ (r : Register). set (sets bank 0 rs) (0 + length rs) r) v
+    ∙ sets-append bank 0 rs (getD (integers zs) (0 + i) zeroRegister ∷ [])
+    ∙ ap (sets bank 0) (sym (reads-snoc zeroRegister (integers zs) 0 i))
+    ∙ ap (λ (k : ℕ). sets bank 0 (reads zeroRegister (integers zs) 0 k)) (sym (add-one i))

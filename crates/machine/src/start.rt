@@ -1,0 +1,185 @@
+// Start: its questions, and the state that it makes.
+use crate::Answered;
+use crate::Machine;
+use task::Fork;
+use task::Register;
+use task::Status;
+use task::Task;
+use task::Value;
+ghost use mathlib.Core.Path.{_≡_};
+ghost use Prim.Native.Nat.{_<_, _≤_};
+ghost use lib.ListN.{length};
+ghost use lib.Seq.{sets};
+ghost use Rattle.task.specs.Frames.{zeroRegister, integers};
+ghost use Rattle.machine.specs.Slots.{reads};
+ghost use Rattle.machine.specs.Starting.{rank, placesAllowed, intervalAllowed, startNoBy, startNo, empty, fresh, started};
+
+// The power of two that P is, or 7 where P is not allowed.
+pub fn rank_of(places: u64) -> u64
+    ensures { λ r. ⌜ r ≡ rank places ⌝ }
+{
+    if places == 1 {
+        return 0;
+    }
+    if places == 2 {
+        return 1;
+    }
+    if places == 4 {
+        return 2;
+    }
+    if places == 8 {
+        return 3;
+    }
+    if places == 16 {
+        return 4;
+    }
+    if places == 32 {
+        return 5;
+    }
+    if places == 64 {
+        return 6;
+    }
+    7
+}
+
+// Question 12.
+pub fn allows_interval(interval: u64) -> bool
+    ensures { λ r. ⌜ r ≡ intervalAllowed interval ⌝ }
+{
+    if interval == 0 {
+        return true;
+    }
+    if interval < 8 {
+        return false;
+    }
+    interval <= 65535
+}
+
+// Start's questions. They look at the lengths of registers and words alone.
+pub fn ask_start(cells: &[u64], places: u64, interval: u64, registers: usize, words: usize) -> u8
+    ensures { λ r. ⌜ r ≡ startNoBy (now (cells .entry)) places interval registers words ⌝ }
+{
+    let no = image::questions::ask_program(cells);
+    if no != 0 {
+        return no;
+    }
+    if 7 <= rank_of(places) {
+        return 11;
+    }
+    if !allows_interval(interval) {
+        return 12;
+    }
+    if registers != 16 {
+        return 13;
+    }
+    if 4096 < words {
+        return 14;
+    }
+    if cells.len() != 5890 {
+        return 15;
+    }
+    0
+}
+
+// A state with no task.
+fn empty_machine(places: u64, interval: u16) -> Machine
+    ensures { λ r. ⌜ r ≡ empty places interval ⌝ }
+{
+    let zero = Register {
+        value: Value::Int(0),
+    };
+    let none = Fork {
+        continuation: 0,
+        depth: 0,
+    };
+    let forks = [none; 6];
+    let vacant = Task {
+        status: Status::Vacant,
+        places: 0,
+        pc: 0,
+        counter: 0,
+        span: 0,
+        depth: 0,
+        forks,
+    };
+    let bank = [zero; 1024];
+    let tasks = [vacant; 64];
+    Machine {
+        places,
+        interval,
+        work: 0,
+        bank,
+        tasks,
+    }
+}
+
+// The first 16 registers of the bank, each an integer of the lent slice.
+fn with_registers(bank: [Register; 1024], registers: &[i64]) -> [Register; 1024]
+    requires { ⌜ length (now registers) ≡ 16 ⌝ }
+    ensures { λ r. ⌜ r ≡ sets bank 0 (reads zeroRegister (integers (now (registers .entry))) 0 16) ⌝ }
+{
+    let mut filled = bank;
+    let mut i = 0;
+    while i < 16 {
+        filled[i] = Register {
+            value: Value::Int(registers[i]),
+        };
+        i = i + 1;
+    }
+    filled
+}
+
+// One task in slot 0, with the start registers, all places, and block 0 to begin with.
+fn fresh_machine(places: u64, interval: u16, registers: &[i64]) -> Machine
+    requires { ⌜ length (now registers) ≡ 16 ⌝ }
+    ensures { λ r. ⌜ r ≡ fresh places interval (now (registers .entry)) ⌝ }
+{
+    let none = Fork {
+        continuation: 0,
+        depth: 0,
+    };
+    let forks = [none; 6];
+    let first = Task {
+        status: Status::Running,
+        places,
+        pc: 0,
+        counter: 0,
+        span: 0,
+        depth: 0,
+        forks,
+    };
+    let mut m = empty_machine(places, interval);
+    let zeros = m.bank;
+    let bank = with_registers(zeros, registers);
+    m.bank = bank;
+    m.tasks[0] = first;
+    m
+}
+
+impl Machine {
+    // A state that holds no job: it fails the shape test.
+    pub fn blank() -> Machine
+        ensures { λ r. ⌜ r ≡ empty 0 0 ⌝ }
+    {
+        empty_machine(0, 0)
+    }
+
+    // A fresh start of a job; a refused one hands back the state it was called on.
+    pub fn start(
+        self,
+        cells: &[u64],
+        places: u64,
+        interval: u64,
+        registers: &[i64],
+        words: &[i64],
+    ) -> Answered
+        ensures { λ r. ⌜ (r .no ≡ startNo (now (cells .entry)) places interval (now (registers .entry)) (now (words .entry))) × (r .machine ≡ started self (now (cells .entry)) places interval (now (registers .entry)) (now (words .entry))) ⌝ }
+    {
+        let no = ask_start(cells, places, interval, registers.len(), words.len());
+        if no != 0 {
+            return Answered { no, machine: self };
+        }
+        let machine = fresh_machine(places, interval as u16, registers);
+        Answered { no: 0, machine }
+    }
+}

@@ -1,0 +1,76 @@
+//! Seeded jobs that start accepts, with programs of several makes.
+
+mod mishap;
+mod nested;
+mod tree;
+mod wild;
+
+use crate::assemble::JobInput;
+use crate::product;
+use crate::random::Random;
+
+#[derive(Clone, Copy, Debug, PartialEq, Eq)]
+pub enum Make {
+    /// Forks, loops and joins nested in the text.
+    Nested,
+    /// One block that forks itself to a given depth.
+    Tree,
+    /// Document 002's product loop.
+    Product,
+    /// Instructions at random.
+    Wild,
+}
+
+pub const MAKES: [Make; 4] = [Make::Nested, Make::Tree, Make::Product, Make::Wild];
+pub const INTERVALS: [u16; 6] = [0, 8, 9, 10, 1000, 65_535];
+
+#[derive(Clone, Debug)]
+pub struct JobCase {
+    pub make: Make,
+    pub input: JobInput,
+}
+
+/// The job of this number under this seed.
+pub fn job(seed: u64, number: u64) -> JobCase {
+    let random = &mut Random::new(seed, number);
+    let make = match random.below(16) {
+        0..=7 => Make::Nested,
+        8..=11 => Make::Tree,
+        12 => Make::Product,
+        _ => Make::Wild,
+    };
+    let halvings = random.between(0, 6);
+    let words: Vec<i64> = (0..random.pick(&[0, 0, 1, 3, 8]))
+        .map(|_| integer(random))
+        .collect();
+    let mut registers = [0; 16];
+    for register in &mut registers {
+        *register = integer(random);
+    }
+    let image = match make {
+        Make::Nested => nested::program(random, halvings, words.len()),
+        Make::Tree => tree::program(random, halvings, words.len()),
+        Make::Product => {
+            registers[usize::from(product::A)] = random.below(120) as i64;
+            product::product()
+        }
+        Make::Wild => wild::program(random, words.len()),
+    };
+    let input = JobInput {
+        image,
+        places: 1 << halvings,
+        interval: random.pick(&INTERVALS),
+        registers,
+        words,
+    };
+    JobCase { make, input }
+}
+
+/// Small ones mostly, with the ends of the range.
+fn integer(random: &mut Random) -> i64 {
+    match random.below(8) {
+        0 => random.pick(&[0, 1, -1, i64::MAX, i64::MIN]),
+        1 => random.bits() as i64,
+        _ => random.below(20) as i64 - 5,
+    }
+}
