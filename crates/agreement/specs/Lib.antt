@@ -24,3 +24,4 @@ pub mod DemandLaws
 pub mod CompleteLaws
 pub mod PlacesLaws
 pub mod ShapeLaws
+pub mod RunningLaws

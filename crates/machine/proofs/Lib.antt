@@ -7,3 +7,4 @@ pub mod PickLaws
 pub mod StartLaws
 pub mod Filling
 pub mod Intervals
+pub mod Turning

@@ -1,6 +1,6 @@
 -- In a state of the shape a pick is refused just where agreement's model refuses it, and otherwise does what the model does.
 use Prim.Native.Nat.{ℕ, _+_, _<_}
-use mathlib.Core.Path.{_≡_, refl, sym, ap, _∙_}
+use mathlib.Core.Path.{_≡_, refl, sym, ap, _∙_, subst⁻¹}
 use mathlib.Core.Bool.{Bool, true, false, not, cond, _&&_}
 use mathlib.Core.List.{List}
 use native.Mathlib.Omega.{arith}
@@ -29,7 +29,7 @@ use Rattle.machine.specs.Shape.{shape}
 use Rattle.machine.specs.Picking.{workLimit, pickNo, issued, picked}
 use Rattle.machine.proofs.EndingLaws.{ended-is}
 use Rattle.machine.proofs.Models.{modelOf, formsOf, Allowed, laws-hold}
-use Rattle.machine.proofs.ShapeLaws.{Fits, fits-shape, fits-shows}
+use Rattle.machine.proofs.ShapeLaws.{Fits, fits-shape, fits-shows, pick-fits}
 
 -- the last four questions, of which 22 is a no only where 23 would be one
 last-questions : (below ended runs room : Bool) → (below ≡ true → ended ≡ true → runs ≡ false)
@@ -128,3 +128,13 @@ module _ (cells : List ℕ) (words : List ℤ) (m : Machine) (k : ℕ) where
 
   pub picked-interval : picked cells words m k .interval ≡ m .interval
   picked-interval = keeps (λ n. n .interval) (carry-keeps (slotsOf cells) (λ n. n .interval) (λ n k f. refl) (step cells words (m .interval)) m k)
+
+-- the state after an instruction that may be issued is of the shape
+pub issued-fits : {cells : List ℕ} {interval places : ℕ} → Allowed cells interval places → (words : List ℤ) (m : Machine) (k : ℕ) → Fits cells interval places m
+    → k < places → running (at m k) ≡ true → m .work < workLimit → Fits cells interval places (issued cells words m k)
+issued-fits {cells} {interval} {places} allowed words m k x b r w =
+    let M = modelOf cells words interval places in
+    let e : pick M m k ≡ ticked (carry (slotsOf cells) (step cells words interval) m k) = pick-carried M m k (parts-can M m k b r w) in
+    let i : issued cells words m k ≡ pick M m k =
+    ap (λ n. ticked (carry (slotsOf cells) (step cells words n) m k)) (x .its-interval) ∙ sym e in
+    subst⁻¹ (λ n. Fits cells interval places n) i (pick-fits allowed words m k x)

@@ -4,3 +4,4 @@ pub mod Ending
 pub mod Starting
 pub mod Shape
 pub mod Picking
+pub mod Driving

@@ -25,3 +25,9 @@ pub struct Answered {
     pub no: u8,
     pub machine: Machine,
 }
+
+// What the loop over the slots leaves: the state, and the picks that were not used.
+pub struct Driven {
+    pub machine: Machine,
+    pub left: u64,
+}

@@ -3,6 +3,7 @@
 use crate::compare::Answers;
 use crate::damage::{Field, BLOCK_FIELDS, HEADER_FIELDS, INSTRUCTION_FIELDS};
 use crate::generate::{Case, Shape, SHAPES};
+use crate::shares::Tally;
 use std::collections::BTreeMap;
 use std::fmt;
 
@@ -131,19 +132,6 @@ impl Coverage {
         }
     }
 
-    pub fn add(&mut self, other: &Coverage) {
-        self.cases += other.cases;
-        for (name, count) in &other.met {
-            *self.met.entry(name.clone()).or_insert(0) += count;
-        }
-        for (mine, theirs) in self.operands.iter_mut().zip(&other.operands) {
-            mine.iter_mut().zip(theirs).for_each(|(m, t)| *m += t);
-        }
-        for (mine, theirs) in self.annotations.iter_mut().zip(&other.annotations) {
-            mine.iter_mut().zip(theirs).for_each(|(m, t)| *m += t);
-        }
-    }
-
     /// Every count with its name, what was not met included.
     fn lines(&self) -> Vec<(String, u64)> {
         let mut lines: Vec<_> = self.met.clone().into_iter().collect();
@@ -174,6 +162,21 @@ impl Coverage {
             .filter(|(_, count)| *count == 0)
             .map(|(name, _)| name)
             .collect()
+    }
+}
+
+impl Tally for Coverage {
+    fn add(&mut self, other: &Coverage) {
+        self.cases += other.cases;
+        for (name, count) in &other.met {
+            *self.met.entry(name.clone()).or_insert(0) += count;
+        }
+        for (mine, theirs) in self.operands.iter_mut().zip(&other.operands) {
+            mine.iter_mut().zip(theirs).for_each(|(m, t)| *m += t);
+        }
+        for (mine, theirs) in self.annotations.iter_mut().zip(&other.annotations) {
+            mine.iter_mut().zip(theirs).for_each(|(m, t)| *m += t);
+        }
     }
 }
 

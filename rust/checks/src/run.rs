@@ -1,14 +1,12 @@
-//! Many cases, on as many threads as the machine has processors.
+//! Many images put to model and engine.
 
 use crate::compare::compare;
 use crate::coverage::Coverage;
 use crate::generate::case;
 use crate::random::Random;
+use crate::shares;
 use std::fmt;
 use std::ops::Range;
-use std::sync::atomic::{AtomicU64, Ordering};
-use std::sync::Mutex;
-use std::thread;
 
 /// The first case, by number, in which model and engine differ.
 #[derive(Debug)]
@@ -56,42 +54,6 @@ pub fn run_case(seed: u64, number: u64, coverage: &mut Coverage) -> Result<(), D
 
 /// Runs the cases of these numbers. A difference ends it; the one of least number is handed back.
 pub fn run(seed: u64, numbers: Range<u64>) -> Result<Coverage, Difference> {
-    const SHARE: u64 = 500;
-    let next = AtomicU64::new(numbers.start);
-    let total = Mutex::new(Coverage::default());
-    let first_difference: Mutex<Option<Difference>> = Mutex::new(None);
-    let workers = thread::available_parallelism().map_or(1, |count| count.get());
-
-    thread::scope(|scope| {
-        for _ in 0..workers {
-            scope.spawn(|| {
-                let mut coverage = Coverage::default();
-                loop {
-                    let from = next.fetch_add(SHARE, Ordering::Relaxed);
-                    if from >= numbers.end {
-                        break;
-                    }
-                    let to = numbers.end.min(from + SHARE);
-                    let outcome =
-                        (from..to).try_for_each(|number| run_case(seed, number, &mut coverage));
-                    if let Err(difference) = outcome {
-                        // No further shares; those begun are finished, so the least is found.
-                        next.store(numbers.end, Ordering::Relaxed);
-                        let mut first = first_difference.lock().unwrap();
-                        match &*first {
-                            Some(known) if known.number < difference.number => {}
-                            _ => *first = Some(difference),
-                        }
-                        break;
-                    }
-                }
-                total.lock().unwrap().add(&coverage);
-            });
-        }
-    });
-
-    match first_difference.into_inner().unwrap() {
-        Some(difference) => Err(difference),
-        None => Ok(total.into_inner().unwrap()),
-    }
+    shares::run(numbers, |number, coverage| run_case(seed, number, coverage))
+        .map_err(|(_, difference)| difference)
 }

@@ -104,6 +104,7 @@ impl Nested<'_> {
                 5 => return self.branch(label, code, scene, left),
                 6 => return self.loop_alone(label, code, scene, left),
                 7 => return self.loop_with_promotion(label, code, scene, left),
+                8 => return self.join_alone(label, code, scene, left),
                 _ => code.push(self.simple()),
             }
         }
@@ -234,6 +235,17 @@ impl Nested<'_> {
             code.push(mov(SCRATCH, Lab(after)));
             code.push(jump(Reg(SCRATCH)));
         }
+        self.assembly.fill(label, code);
+        self.fill(after, Vec::new(), scene, left);
+    }
+
+    /// A join by a record that nothing was forked under.
+    fn join_alone(&mut self, label: u8, mut code: Vec<InstructionRecord>, scene: Scene, left: usize) {
+        let after = self.assembly.reserve();
+        let annotation = self.join_target(self.joiner);
+        self.assembly.annotate(after, annotation);
+        code.push(jralloc(SCRATCH, Lab(after)));
+        code.push(join(Reg(SCRATCH)));
         self.assembly.fill(label, code);
         self.fill(after, Vec::new(), scene, left);
     }

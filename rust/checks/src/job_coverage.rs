@@ -1,0 +1,242 @@
+//! What a run of jobs has covered, and what it ought to.
+
+use crate::jobs::{JobCase, INTERVALS, MAKES};
+use crate::shares::Tally;
+use model::plain::Evaluation;
+use model::task::{Step, Surroundings, MAX_DEPTH};
+use model::{fault, question, End, Job, Machine, Status};
+use std::fmt;
+
+const DEPTHS: usize = MAX_DEPTH + 1;
+const FAULTS: usize = (fault::LAST - fault::FIRST + 1) as usize;
+
+type ByDepth = [u64; DEPTHS];
+
+#[derive(Clone, Debug, Default)]
+pub struct JobCoverage {
+    jobs: u64,
+    picks: u64,
+    makes: [u64; MAKES.len()],
+    /// By the number of times that P can be halved.
+    places: ByDepth,
+    intervals: [u64; INTERVALS.len()],
+    halted: u64,
+    ended_with_fault: [u64; FAULTS],
+    not_ended: u64,
+    /// By the depth of the deepest task.
+    deepest: ByDepth,
+    /// By the depth of the task that issued the instruction.
+    faults: [ByDepth; FAULTS],
+    promotions: ByDepth,
+    forks: ByDepth,
+    /// Joins that went to their continuation.
+    joins_through: ByDepth,
+    /// By whether the parent's side faulted, then whether the child's did; the sides that a pick
+    /// joined first, not those further outward.
+    joined: [[u64; 2]; 2],
+    joined_with_other_fault: u64,
+    /// By the number of forks that one pick closed.
+    settled: ByDepth,
+    /// By the number of the question, from 21 on.
+    refused: [u64; 3],
+}
+
+fn fault_index(number: u8) -> usize {
+    usize::from(number - fault::FIRST)
+}
+
+impl JobCoverage {
+    pub fn jobs(&self) -> u64 {
+        self.jobs
+    }
+
+    pub fn picks(&self) -> u64 {
+        self.picks
+    }
+
+    pub fn count_job(&mut self, case: &JobCase, expected: Option<&Evaluation>, deepest: usize) {
+        self.jobs += 1;
+        let make = MAKES.iter().position(|&make| make == case.make);
+        self.makes[make.expect("listed")] += 1;
+        let interval = INTERVALS.iter().position(|&i| i == case.input.interval);
+        self.intervals[interval.expect("listed")] += 1;
+        self.places[case.input.places.trailing_zeros() as usize] += 1;
+        self.deepest[deepest] += 1;
+        match expected.map(|evaluation| evaluation.end) {
+            None => self.not_ended += 1,
+            Some(End::Halt) => self.halted += 1,
+            Some(End::Fault(number)) => self.ended_with_fault[fault_index(number)] += 1,
+        }
+    }
+
+    pub fn count_refusal(&mut self, number: u8) {
+        self.refused[usize::from(number - question::SLOT)] += 1;
+    }
+
+    /// Counts what a pick of this slot, which has a running task, is about to do.
+    pub fn count_pick(&mut self, job: &Job, machine: &Machine, slot: usize) {
+        self.picks += 1;
+        let before = &machine.slots()[slot].task;
+        let depth = before.depth();
+        let mut after = before.clone();
+        let step = after.step(Surroundings {
+            program: &job.program,
+            words: &job.words,
+            interval: job.interval,
+        });
+        match step {
+            Step::Onward => {
+                // Nothing else clears the counter of a task that goes on.
+                self.promotions[depth] += u64::from(after.counter == 0);
+                let instruction = &job.program.instructions[usize::from(before.pc)];
+                let through = instruction.opcode == model::opcode::JOIN;
+                self.joins_through[depth] += u64::from(through);
+            }
+            Step::Fork { .. } => self.forks[depth] += 1,
+            Step::Halt => {}
+            Step::Wait => self.count_end_of_side(machine, slot, None),
+            Step::Fault(number) => {
+                self.faults[fault_index(number)][depth] += 1;
+                self.count_end_of_side(machine, slot, Some(number));
+            }
+        }
+    }
+
+    fn count_end_of_side(&mut self, machine: &Machine, slot: usize, number: Option<u8>) {
+        let task = &machine.slots()[slot].task;
+        if task.depth() == 0 {
+            return;
+        }
+        let width = usize::from(task.places);
+        let other = &machine.slots()[slot ^ width];
+        if other.task.depth() != task.depth() {
+            return;
+        }
+        let others_number = match other.status {
+            Status::Waiting => None,
+            Status::Faulted(number) => Some(number),
+            _ => return,
+        };
+        let (parents, childs) = if slot & width == 0 {
+            (number, others_number)
+        } else {
+            (others_number, number)
+        };
+        self.joined[usize::from(parents.is_some())][usize::from(childs.is_some())] += 1;
+        if parents.is_some() && childs.is_some() && parents != childs {
+            self.joined_with_other_fault += 1;
+        }
+    }
+
+    pub fn count_settled(&mut self, forks: usize) {
+        self.settled[forks] += 1;
+    }
+
+    /// Every count with its name, what was not met included.
+    fn lines(&self) -> Vec<(String, u64)> {
+        let mut lines = Vec::new();
+        let mut line = |name: String, count: u64| lines.push((name, count));
+        for (make, count) in MAKES.iter().zip(self.makes) {
+            line(format!("make {:?}", make), count);
+        }
+        for (halvings, count) in self.places.iter().enumerate() {
+            line(format!("P {}", 1 << halvings), *count);
+        }
+        for (interval, count) in INTERVALS.iter().zip(self.intervals) {
+            line(format!("interval {}", interval), count);
+        }
+        line("end halt".to_string(), self.halted);
+        for (number, count) in (fault::FIRST..).zip(self.ended_with_fault) {
+            line(format!("end fault {}", number), count);
+        }
+        line("not ended".to_string(), self.not_ended);
+        for (depth, count) in self.deepest.iter().enumerate() {
+            line(format!("deepest task at depth {}", depth), *count);
+        }
+        for (number, by_depth) in (fault::FIRST..).zip(&self.faults) {
+            for (depth, count) in by_depth.iter().enumerate() {
+                if (number, depth) != (fault::OPEN_FORK, 0) {
+                    line(format!("fault {} at depth {}", number, depth), *count);
+                }
+            }
+        }
+        // Both take two places.
+        for depth in 0..MAX_DEPTH {
+            line(
+                format!("promotion at depth {}", depth),
+                self.promotions[depth],
+            );
+            line(format!("fork at depth {}", depth), self.forks[depth]);
+        }
+        for (depth, count) in self.joins_through.iter().enumerate() {
+            line(format!("join to its continuation at depth {}", depth), *count);
+        }
+        for (parent, by_child) in self.joined.iter().enumerate() {
+            for (child, count) in by_child.iter().enumerate() {
+                let sides = ["joined", "faulted"];
+                let name = format!("parent {}, child {}", sides[parent], sides[child]);
+                line(name, *count);
+            }
+        }
+        line(
+            "parent and child faulted with different numbers".to_string(),
+            self.joined_with_other_fault,
+        );
+        for (forks, count) in self.settled.iter().enumerate() {
+            line(format!("{} forks closed by one pick", forks), *count);
+        }
+        for (number, count) in (question::SLOT..).zip(self.refused) {
+            line(format!("pick refused {}", number), count);
+        }
+        lines
+    }
+
+    /// What ought to be met and was not.
+    pub fn missing(&self) -> Vec<String> {
+        let lines = self.lines().into_iter();
+        lines
+            .filter(|(_, count)| *count == 0)
+            .map(|(name, _)| name)
+            .collect()
+    }
+}
+
+fn add_all(mine: &mut [u64], theirs: &[u64]) {
+    mine.iter_mut().zip(theirs).for_each(|(m, t)| *m += t);
+}
+
+impl Tally for JobCoverage {
+    fn add(&mut self, other: &JobCoverage) {
+        self.jobs += other.jobs;
+        self.picks += other.picks;
+        add_all(&mut self.makes, &other.makes);
+        add_all(&mut self.places, &other.places);
+        add_all(&mut self.intervals, &other.intervals);
+        self.halted += other.halted;
+        add_all(&mut self.ended_with_fault, &other.ended_with_fault);
+        self.not_ended += other.not_ended;
+        add_all(&mut self.deepest, &other.deepest);
+        for (mine, theirs) in self.faults.iter_mut().zip(&other.faults) {
+            add_all(mine, theirs);
+        }
+        add_all(&mut self.promotions, &other.promotions);
+        add_all(&mut self.forks, &other.forks);
+        add_all(&mut self.joins_through, &other.joins_through);
+        for (mine, theirs) in self.joined.iter_mut().zip(&other.joined) {
+            add_all(mine, theirs);
+        }
+        self.joined_with_other_fault += other.joined_with_other_fault;
+        add_all(&mut self.settled, &other.settled);
+        add_all(&mut self.refused, &other.refused);
+    }
+}
+
+impl fmt::Display for JobCoverage {
+    fn fmt(&self, f: &mut fmt::Formatter) -> fmt::Result {
+        for (name, count) in self.lines() {
+            writeln!(f, "{:>12}  {}", count, name)?;
+        }
+        writeln!(f, "{:>12}  picks", self.picks)?;
+        write!(f, "{:>12}  jobs", self.jobs)
+    }
+}
