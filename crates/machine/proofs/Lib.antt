@@ -8,3 +8,4 @@ pub mod StartLaws
 pub mod Filling
 pub mod Intervals
 pub mod Turning
+pub mod Carrying
