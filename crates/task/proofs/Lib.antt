@@ -12,3 +12,11 @@ pub mod Endings
 pub mod Start
 pub mod Counts
 pub mod Rules
+pub mod Executing
+pub mod Variants
+pub mod Computing
+pub mod Entering
+pub mod Belonging
+pub mod Dispatch
+pub mod Copying
+pub mod RunsOn

@@ -3,3 +3,4 @@ pub mod Frames
 pub mod Values
 pub mod Step
 pub mod Formed
+pub mod Execute

@@ -1,4 +1,11 @@
-// Values, task records, and a task record with its registers.
+// Values, task records, a task record with its registers, and what one instruction makes of a task.
+
+pub mod arithmetic;
+pub mod control;
+pub mod execution;
+pub mod forking;
+pub mod joining;
+pub mod results;
 
 pub enum Value {
     Int(i64),
@@ -39,4 +46,21 @@ pub struct Task {
 pub struct Frame {
     pub task: Task,
     pub registers: [Register; 16],
+}
+
+// What is left to do with the registers after one instruction, and what becomes of the task. `Forks` holds the child's first instruction:
+// the child's side is otherwise the parent's with counter 0.
+pub enum Kind {
+    Stores,
+    Goes,
+    Ends,
+    Faults,
+    Forks(u16),
+}
+
+// One instruction carried out: the new task record, and the value for r where it is stored.
+pub struct Executed {
+    pub task: Task,
+    pub value: Value,
+    pub kind: Kind,
 }

@@ -169,7 +169,10 @@ impl JobCoverage {
             line(format!("fork at depth {}", depth), self.forks[depth]);
         }
         for (depth, count) in self.joins_through.iter().enumerate() {
-            line(format!("join to its continuation at depth {}", depth), *count);
+            line(
+                format!("join to its continuation at depth {}", depth),
+                *count,
+            );
         }
         for (parent, by_child) in self.joined.iter().enumerate() {
             for (child, count) in by_child.iter().enumerate() {

@@ -1,9 +1,12 @@
-//! Seeded jobs that start accepts, with programs of several makes.
+//! Seeded jobs: those that start accepts, with programs of several makes, and refused ones.
 
 mod mishap;
 mod nested;
+mod refused;
 mod tree;
 mod wild;
+
+pub use refused::{refused, Refused};
 
 use crate::assemble::JobInput;
 use crate::product;

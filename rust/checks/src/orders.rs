@@ -6,7 +6,7 @@ use crate::jobs::{job, JobCase};
 use crate::random::Random;
 use crate::shares;
 use model::plain::{evaluate, Evaluation};
-use model::{question, Answer, Job, Machine, Status, MAX_PLACES};
+use model::{question, Answer, Call, Job, Machine, Status, MAX_PLACES};
 use std::ops::Range;
 
 /// Jobs that have not ended within so many instructions are taken for endless.
@@ -64,6 +64,7 @@ type PicksBySlot = [u32; MAX_PLACES as usize];
 /// One order in the making.
 struct Order<'a> {
     job: &'a Job,
+    call: Call<'a>,
     /// What the plain evaluation says, if the job ends.
     expected: Option<&'a Evaluation>,
     machine: Machine,
@@ -88,8 +89,11 @@ impl<'a> Order<'a> {
         let machine = job
             .start()
             .map_err(|number| format!("start refused {}", number))?;
+        let call = Call::new(&job.program, &job.words)
+            .map_err(|number| format!("the call was refused {}", number))?;
         let mut order = Order {
             job,
+            call,
             expected,
             machine,
             picks: [0; MAX_PLACES as usize],
@@ -167,18 +171,21 @@ impl<'a> Order<'a> {
         }
     }
 
-    /// Puts one pick to the machine and compares its answer. A refused one is also compared with
-    /// the state before, once in a while because a copy takes long.
-    fn pick(&mut self, slot: usize, compare: bool) -> Result<Result<(), u8>, String> {
+    /// Puts one pick to the machine and compares its answer. Once in a while, because both take
+    /// long, all of its questions are put, and the state after a refusal is compared with that
+    /// before.
+    fn pick(&mut self, slot: usize, at_length: bool) -> Result<Result<(), u8>, String> {
         let expected = self.expected_answer(slot);
-        let before = if expected.is_err() && compare {
-            Some(self.machine.clone())
+        let mut before = None;
+        let answer = if at_length {
+            if expected.is_err() {
+                before = Some(self.machine.clone());
+            }
+            let (program, words) = (&self.job.program, &self.job.words);
+            self.machine.pick(program, words, slot)
         } else {
-            None
+            self.machine.pick_in(self.call, slot)
         };
-        let answer = self
-            .machine
-            .pick(&self.job.program, &self.job.words, slot);
         ensure!(
             answer == expected,
             "pick of slot {}: {:?}, not {:?}",
@@ -215,8 +222,8 @@ impl<'a> Order<'a> {
                     Err(number) => coverage.count_refusal(number),
                 }
             }
-            let compare = random.one_in(8);
-            if self.pick(slot, compare)?.is_err() {
+            let at_length = random.one_in(16);
+            if self.pick(slot, at_length)?.is_err() {
                 continue;
             }
             carried_out += 1;
@@ -255,7 +262,6 @@ impl<'a> Order<'a> {
     /// One budgeted run of the machine beside picks in the order that document 01 gives it.
     fn run(&mut self, budget: u64) -> Result<Answer, String> {
         let mut beside = self.machine.clone();
-        let (program, words) = (&self.job.program, &self.job.words);
         let mut picks = 0;
         'passes: while beside.end().is_none() && picks < budget {
             for slot in 0..beside.places() {
@@ -263,7 +269,7 @@ impl<'a> Order<'a> {
                     continue;
                 }
                 beside
-                    .pick(program, words, slot)
+                    .pick_in(self.call, slot)
                     .map_err(|number| format!("pick refused {}", number))?;
                 picks += 1;
                 if picks == budget {
@@ -275,7 +281,7 @@ impl<'a> Order<'a> {
             Some(_) => Answer::Ended,
             None => Answer::Spent,
         };
-        let ran = self.machine.run(program, words, budget);
+        let ran = self.machine.run(&self.job.program, &self.job.words, budget);
         ensure!(
             ran == Ok((answer, picks)),
             "run of {}: {:?}, not {:?}",
@@ -314,7 +320,11 @@ impl<'a> Order<'a> {
 }
 
 /// Two orders of one job, and runs of it. The error says in words what does not hold.
-pub fn check(case: &JobCase, random: &mut Random, coverage: &mut JobCoverage) -> Result<(), String> {
+pub fn check(
+    case: &JobCase,
+    random: &mut Random,
+    coverage: &mut JobCoverage,
+) -> Result<(), String> {
     let job = Job::parse(&case.input.bytes())
         .map_err(|number| format!("the job's bytes were refused {}", number))?;
     let expected = evaluate(&job, LIMIT);

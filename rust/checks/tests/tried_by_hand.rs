@@ -243,9 +243,6 @@ fn interval_and_word_limits() {
         words: vec![1; count],
         ..f(2)
     };
-    assert_eq!(
-        report(&with_words(4096).bytes()),
-        report(&f(2).bytes())
-    );
+    assert_eq!(report(&with_words(4096).bytes()), report(&f(2).bytes()));
     assert_eq!(report(&with_words(4097).bytes()), "refused 14\n");
 }

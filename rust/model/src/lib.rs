@@ -9,6 +9,8 @@ mod machine;
 pub mod opcode;
 pub mod plain;
 pub mod question;
+#[cfg(test)]
+mod sample;
 pub mod task;
 
 pub use image::{
@@ -16,5 +18,5 @@ pub use image::{
     INSTRUCTION_BYTES, MARK, MAX_BLOCKS, MAX_INSTRUCTIONS, MAX_PAIRS, VERSION,
 };
 pub use job::Job;
-pub use machine::{Answer, End, Machine, Slot, Status, MAX_PLACES, MAX_WORDS, WORK_LIMIT};
+pub use machine::{Answer, Call, End, Machine, Slot, Status, MAX_PLACES, MAX_WORDS, WORK_LIMIT};
 pub use task::{Record, Registers, Task, Value, REGISTERS};

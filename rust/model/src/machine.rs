@@ -56,8 +56,21 @@ pub struct Machine {
     slots: Vec<Slot>,
 }
 
-/// The questions that start, pick and run put first, and the one about the call record that stands
-/// between start's own and pick's own.
+/// What a pick is handed besides its slot, after the questions about it: the program's, then 14.
+#[derive(Clone, Copy, Debug)]
+pub struct Call<'a> {
+    program: &'a Program,
+    words: &'a [i64],
+}
+
+impl<'a> Call<'a> {
+    pub fn new(program: &'a Program, words: &'a [i64]) -> Result<Self, u8> {
+        program.check()?;
+        check_words(words)?;
+        Ok(Call { program, words })
+    }
+}
+
 fn check_words(words: &[i64]) -> Result<(), u8> {
     if words.len() > MAX_WORDS {
         return Err(question::WORDS);
@@ -82,8 +95,7 @@ impl Machine {
             Ok(interval) if interval == 0 || interval >= 8 => interval,
             _ => return Err(question::INTERVAL),
         };
-        let registers: &[i64; REGISTERS] =
-            registers.try_into().map_err(|_| question::REGISTERS)?;
+        let registers: &[i64; REGISTERS] = registers.try_into().map_err(|_| question::REGISTERS)?;
         check_words(words)?;
 
         let vacant = Slot {
@@ -137,8 +149,11 @@ impl Machine {
 
     /// Carries out a pick of this slot. A refusal leaves the state as it was.
     pub fn pick(&mut self, program: &Program, words: &[i64], slot: usize) -> Result<(), u8> {
-        program.check()?;
-        check_words(words)?;
+        self.pick_in(Call::new(program, words)?, slot)
+    }
+
+    /// A pick that has its own questions left to put.
+    pub fn pick_in(&mut self, call: Call, slot: usize) -> Result<(), u8> {
         if slot >= self.places() {
             return Err(question::SLOT);
         }
@@ -151,7 +166,7 @@ impl Machine {
         if self.work == WORK_LIMIT {
             return Err(question::WORK);
         }
-        self.carry_out(program, words, slot);
+        self.carry_out(call, slot);
         Ok(())
     }
 
@@ -164,8 +179,7 @@ impl Machine {
         words: &[i64],
         budget: u64,
     ) -> Result<(Answer, u64), u8> {
-        program.check()?;
-        check_words(words)?;
+        let call = Call::new(program, words)?;
         let allowed = budget.min(u64::from(WORK_LIMIT - self.work));
         let mut picks = 0;
         let mut ahead = self.running;
@@ -178,7 +192,7 @@ impl Machine {
                 ahead = self.running;
             }
             let slot = ahead.trailing_zeros();
-            self.carry_out(program, words, slot as usize);
+            self.carry_out(call, slot as usize);
             picks += 1;
             // Read anew: the pick may have made a task running further on, or vacated its slot.
             ahead = self.running & (u64::MAX << slot << 1);
@@ -187,8 +201,9 @@ impl Machine {
     }
 
     /// Issues one instruction of the running task in this slot.
-    #[inline]
-    fn carry_out(&mut self, program: &Program, words: &[i64], slot: usize) {
+    #[inline(always)]
+    fn carry_out(&mut self, call: Call, slot: usize) {
+        let Call { program, words } = call;
         self.work += 1;
         let surroundings = Surroundings {
             program,

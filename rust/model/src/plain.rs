@@ -71,10 +71,11 @@ impl Evaluator<'_> {
                     let (parent, child) = sides(program, task, record, target);
                     let parent = self.side(parent)?;
                     let child = self.side(child)?;
-                    match joined(program, parent, child) {
-                        Ok(joined) => task = joined,
-                        Err(faulted) => return Some(faulted),
+                    let (fault, joined) = joined(program, parent, child);
+                    if let Some(number) = fault {
+                        return Some(Side::Faulted(number, joined));
                     }
+                    task = joined;
                 }
             }
         }
@@ -96,31 +97,35 @@ fn sides(program: &Program, task: Task, record: Record, target: u8) -> (Task, Ta
     (parent, child)
 }
 
-/// The task that two ended sides of one fork come to, or the faulted side if one of them faulted.
-fn joined(program: &Program, parent: Side, child: Side) -> Result<Task, Side> {
-    let (number, parent, child) = match (parent, child) {
-        (Side::Faulted(number, parent), child) => (Some(number), parent, child.task()),
-        (parent, Side::Faulted(number, child)) => (Some(number), parent.task(), child),
-        (parent, child) => (None, parent.task(), child.task()),
-    };
-    let mut task = parent;
+/// The task that two ended sides of one fork come to, and its fault's number if one of them
+/// faulted.
+fn joined(program: &Program, parent: Side, child: Side) -> (Option<u8>, Task) {
+    let fault = parent.fault().or_else(|| child.fault());
+    let (mut task, child) = (parent.task(), child.task());
+    let record = task.close_fork();
     task.places += child.places;
     task.span = task.span.max(child.span);
     task.counter = 0;
-    let record = task.close_fork();
-    if let Some(number) = number {
+    if fault.is_some() {
         task.registers = ZEROS;
-        return Err(Side::Faulted(number, task));
+        return (fault, task);
     }
     let continuation = program.blocks[usize::from(record.continuation)];
     for &pair in &continuation.pairs[..usize::from(continuation.pair_count)] {
         task.registers[usize::from(pair % 16)] = child.registers[usize::from(pair / 16)];
     }
     task.pc = program.blocks[usize::from(continuation.label)].first;
-    Ok(task)
+    (None, task)
 }
 
 impl Side {
+    fn fault(&self) -> Option<u8> {
+        match self {
+            Side::Faulted(number, _) => Some(*number),
+            _ => None,
+        }
+    }
+
     fn task(self) -> Task {
         match self {
             Side::Joined(task) | Side::Faulted(_, task) | Side::Halted(task) => task,

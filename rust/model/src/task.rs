@@ -58,7 +58,10 @@ pub enum Step {
     /// Nothing: the task goes on.
     Onward,
     /// To fork under this record, the child to start this block.
-    Fork { record: Record, target: u8 },
+    Fork {
+        record: Record,
+        target: u8,
+    },
     /// To join the two sides of the innermost open fork when the other has ended too.
     Wait,
     Halt,
@@ -104,7 +107,7 @@ impl Task {
     }
 
     /// Issues the next instruction. One that faults counts too, and sets the registers to 0.
-    #[inline]
+    #[inline(always)]
     pub fn step(&mut self, surroundings: Surroundings) -> Step {
         self.counter += 1;
         self.span += 1;
@@ -117,46 +120,42 @@ impl Task {
         }
     }
 
-    #[inline]
+    #[inline(always)]
     fn issue(&mut self, surroundings: Surroundings) -> Result<Step, u8> {
         let instruction = &surroundings.program.instructions[usize::from(self.pc)];
-        let result = match instruction.opcode {
-            opcode::MOVE => self.operand(instruction),
-            opcode::ADD => self.combine(instruction, i64::wrapping_add)?,
-            opcode::SUBTRACT => self.combine(instruction, i64::wrapping_sub)?,
-            opcode::MULTIPLY => self.combine(instruction, i64::wrapping_mul)?,
-            opcode::DIVIDE => self.divide(instruction, i64::wrapping_div)?,
-            opcode::REMAINDER => self.divide(instruction, i64::wrapping_rem)?,
-            opcode::LESS => self.combine(instruction, |a, b| truth(a < b))?,
-            opcode::EQUAL => self.combine(instruction, |a, b| truth(a == b))?,
-            opcode::WORD => self.word(instruction, surroundings.words)?,
-            opcode::JRALLOC => self.allocate(instruction, surroundings.program)?,
+        match instruction.opcode {
+            opcode::MOVE => self.set(instruction, self.operand(instruction)),
+            opcode::ADD => self.combine(instruction, i64::wrapping_add),
+            opcode::SUBTRACT => self.combine(instruction, i64::wrapping_sub),
+            opcode::MULTIPLY => self.combine(instruction, i64::wrapping_mul),
+            opcode::DIVIDE => self.divide(instruction, i64::wrapping_div),
+            opcode::REMAINDER => self.divide(instruction, i64::wrapping_rem),
+            opcode::LESS => self.combine(instruction, |a, b| truth(a < b)),
+            opcode::EQUAL => self.combine(instruction, |a, b| truth(a == b)),
+            opcode::WORD => self.word(instruction, surroundings.words),
             opcode::IF_JUMP => {
-                if integer(self.source(instruction))? != 0 {
+                if self.integer(instruction.s)? != 0 {
                     self.pc += 1;
-                } else {
-                    self.enter(surroundings, label(self.operand(instruction))?);
+                    return Ok(Step::Onward);
                 }
-                return Ok(Step::Onward);
+                self.jump(instruction, surroundings)
             }
-            opcode::FORK => return self.fork(instruction),
-            opcode::JUMP => {
-                self.enter(surroundings, label(self.operand(instruction))?);
-                return Ok(Step::Onward);
-            }
-            opcode::HALT if self.depth != 0 => return Err(fault::OPEN_FORK),
-            opcode::HALT => return Ok(Step::Halt),
-            opcode::JOIN => return self.join(instruction, surroundings),
+            opcode::JRALLOC => self.allocate(instruction, surroundings.program),
+            opcode::FORK => self.fork(instruction),
+            opcode::JUMP => self.jump(instruction, surroundings),
+            opcode::HALT if self.depth != 0 => Err(fault::OPEN_FORK),
+            opcode::HALT => Ok(Step::Halt),
+            opcode::JOIN => self.join(instruction, surroundings),
             number => unreachable!("opcode {} in a program that was checked", number),
-        };
-        self.registers[register(instruction.r)] = result;
-        self.pc += 1;
-        Ok(Step::Onward)
+        }
     }
 
+    /// Sets r and goes on to the next instruction.
     #[inline]
-    fn source(&self, instruction: &Instruction) -> Value {
-        self.registers[register(instruction.s)]
+    fn set(&mut self, instruction: &Instruction, value: Value) -> Result<Step, u8> {
+        self.registers[register(instruction.r)] = value;
+        self.pc += 1;
+        Ok(Step::Onward)
     }
 
     #[inline]
@@ -169,53 +168,72 @@ impl Task {
     }
 
     #[inline]
-    fn integers(&self, instruction: &Instruction) -> Result<(i64, i64), u8> {
-        match (self.source(instruction), self.operand(instruction)) {
-            (Value::Int(a), Value::Int(b)) => Ok((a, b)),
+    fn integer(&self, number: u8) -> Result<i64, u8> {
+        match self.registers[register(number)] {
+            Value::Int(integer) => Ok(integer),
             _ => Err(fault::INTEGERS),
         }
     }
 
+    /// The operand as an integer. Not by way of `operand`: a register's kind and number were
+    /// stored apart, and a copy of both together would wait for the two stores.
     #[inline]
-    fn combine(&self, instruction: &Instruction, op: fn(i64, i64) -> i64) -> Result<Value, u8> {
-        let (a, b) = self.integers(instruction)?;
-        Ok(Value::Int(op(a, b)))
+    fn integer_operand(&self, instruction: &Instruction) -> Result<i64, u8> {
+        match instruction.kind {
+            1 => self.integer(instruction.operand as u8),
+            2 => Err(fault::INTEGERS),
+            _ => Ok(instruction.operand as i64),
+        }
     }
 
     #[inline]
-    fn divide(&self, instruction: &Instruction, op: fn(i64, i64) -> i64) -> Result<Value, u8> {
-        let (a, b) = self.integers(instruction)?;
+    fn combine(
+        &mut self,
+        instruction: &Instruction,
+        op: impl FnOnce(i64, i64) -> i64,
+    ) -> Result<Step, u8> {
+        let a = self.integer(instruction.s)?;
+        let b = self.integer_operand(instruction)?;
+        self.set(instruction, Value::Int(op(a, b)))
+    }
+
+    #[inline]
+    fn divide(
+        &mut self,
+        instruction: &Instruction,
+        op: impl FnOnce(i64, i64) -> i64,
+    ) -> Result<Step, u8> {
+        let a = self.integer(instruction.s)?;
+        let b = self.integer_operand(instruction)?;
         if b == 0 {
             return Err(fault::DIVISOR);
         }
-        Ok(Value::Int(op(a, b)))
+        self.set(instruction, Value::Int(op(a, b)))
     }
 
-    fn word(&self, instruction: &Instruction, words: &[i64]) -> Result<Value, u8> {
-        let index = integer(self.operand(instruction))?;
+    fn word(&mut self, instruction: &Instruction, words: &[i64]) -> Result<Step, u8> {
+        let index = self.integer_operand(instruction)?;
         let index = usize::try_from(index).map_err(|_| fault::INDEX)?;
         match words.get(index) {
-            Some(&word) => Ok(Value::Int(word)),
+            Some(&word) => self.set(instruction, Value::Int(word)),
             None => Err(fault::INDEX),
         }
     }
 
-    fn allocate(&self, instruction: &Instruction, program: &Program) -> Result<Value, u8> {
-        match self.operand(instruction) {
-            Value::Label(continuation)
-                if program.blocks[usize::from(continuation)].is_join_target() =>
-            {
-                Ok(Value::Record(Record {
-                    continuation,
-                    depth: self.depth,
-                }))
-            }
-            _ => Err(fault::JOIN_TARGET),
-        }
+    fn allocate(&mut self, instruction: &Instruction, program: &Program) -> Result<Step, u8> {
+        let continuation = match self.operand(instruction) {
+            Value::Label(label) if program.blocks[usize::from(label)].is_join_target() => label,
+            _ => return Err(fault::JOIN_TARGET),
+        };
+        let record = Record {
+            continuation,
+            depth: self.depth,
+        };
+        self.set(instruction, Value::Record(record))
     }
 
     fn fork(&mut self, instruction: &Instruction) -> Result<Step, u8> {
-        let record = self.fitting(self.source(instruction))?;
+        let record = self.fitting(self.registers[register(instruction.s)])?;
         let target = label(self.operand(instruction))?;
         if self.places < 2 {
             return Err(fault::PLACES);
@@ -230,6 +248,14 @@ impl Task {
             return Ok(Step::Wait);
         }
         self.enter(surroundings, record.continuation);
+        Ok(Step::Onward)
+    }
+
+    /// What jump and a taken if-jump do.
+    #[inline]
+    fn jump(&mut self, instruction: &Instruction, surroundings: Surroundings) -> Result<Step, u8> {
+        let target = label(self.operand(instruction))?;
+        self.enter(surroundings, target);
         Ok(Step::Onward)
     }
 
@@ -270,14 +296,6 @@ impl Task {
 #[inline]
 fn register(number: u8) -> usize {
     usize::from(number) & (REGISTERS - 1)
-}
-
-#[inline]
-fn integer(value: Value) -> Result<i64, u8> {
-    match value {
-        Value::Int(integer) => Ok(integer),
-        _ => Err(fault::INTEGERS),
-    }
 }
 
 #[inline]

@@ -1,9 +1,7 @@
 //! Code that faults, with each number and in several ways.
 
 use super::integer;
-use crate::assemble::{
-    fork, halt, if_jump, join, jralloc, jump, mov, op, word, Operand,
-};
+use crate::assemble::{fork, halt, if_jump, join, jralloc, jump, mov, op, word, Operand};
 use crate::layout::InstructionRecord;
 use crate::random::Random;
 use model::opcode::{ADD, DIVIDE, EQUAL, REMAINDER};
@@ -77,7 +75,11 @@ fn by_zero(random: &mut Random) -> Vec<InstructionRecord> {
     if random.one_in(2) {
         return vec![dividend, op(opcode, 0, 14, Int(0))];
     }
-    vec![dividend, mov(SCRATCH, Int(0)), op(opcode, 0, 14, Reg(SCRATCH))]
+    vec![
+        dividend,
+        mov(SCRATCH, Int(0)),
+        op(opcode, 0, 14, Reg(SCRATCH)),
+    ]
 }
 
 fn outside(random: &mut Random, place: Place) -> Vec<InstructionRecord> {

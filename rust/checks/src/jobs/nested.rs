@@ -1,8 +1,8 @@
 //! Programs whose forks, joins and loops are nested in the text. A record lives in a register of
 //! its own level, so that those of the levels around it stay at hand.
 
-use super::mishap::{self, Place, SCRATCH};
 use super::integer;
+use super::mishap::{self, Place, SCRATCH};
 use crate::assemble::{
     fork, halt, if_jump, join, jralloc, jump, mov, op, word, Annotation, Assembly, Operand,
 };
@@ -143,8 +143,18 @@ impl Nested<'_> {
                 let divisor = if divisor == 0 { -1 } else { divisor };
                 op(self.random.pick(&[DIVIDE, REMAINDER]), r, s, Int(divisor))
             }
-            6 => op(self.random.pick(&[LESS, EQUAL]), r, s, Reg(self.random.below(8) as u8)),
-            7 => op(self.random.between(2, 4) as u8, r, s, Int(integer(self.random))),
+            6 => op(
+                self.random.pick(&[LESS, EQUAL]),
+                r,
+                s,
+                Reg(self.random.below(8) as u8),
+            ),
+            7 => op(
+                self.random.between(2, 4) as u8,
+                r,
+                s,
+                Int(integer(self.random)),
+            ),
             _ => {
                 let v = Reg(self.data());
                 op(self.random.between(2, 4) as u8, r, s, v)
@@ -187,7 +197,12 @@ impl Nested<'_> {
 
     /// A fork under the record that the code ends with, or under one of its own. The child's code
     /// and that after the join are written; what is handed back is the parent's scene.
-    fn fork(&mut self, code: &mut Vec<InstructionRecord>, scene: Scene, parts: [usize; 3]) -> Scene {
+    fn fork(
+        &mut self,
+        code: &mut Vec<InstructionRecord>,
+        scene: Scene,
+        parts: [usize; 3],
+    ) -> Scene {
         let [in_child, mut after, _] = parts;
         let record = match scene.record {
             Some(record) if self.random.one_in(2) => {
@@ -240,7 +255,13 @@ impl Nested<'_> {
     }
 
     /// A join by a record that nothing was forked under.
-    fn join_alone(&mut self, label: u8, mut code: Vec<InstructionRecord>, scene: Scene, left: usize) {
+    fn join_alone(
+        &mut self,
+        label: u8,
+        mut code: Vec<InstructionRecord>,
+        scene: Scene,
+        left: usize,
+    ) {
         let after = self.assembly.reserve();
         let annotation = self.join_target(self.joiner);
         self.assembly.annotate(after, annotation);
@@ -251,7 +272,13 @@ impl Nested<'_> {
     }
 
     /// A counted loop, mostly promotion-ready, whose handler forks nothing.
-    fn loop_alone(&mut self, label: u8, mut code: Vec<InstructionRecord>, scene: Scene, left: usize) {
+    fn loop_alone(
+        &mut self,
+        label: u8,
+        mut code: Vec<InstructionRecord>,
+        scene: Scene,
+        left: usize,
+    ) {
         const COUNT: u8 = 7;
         let again = self.assembly.reserve();
         let after = self.assembly.reserve();

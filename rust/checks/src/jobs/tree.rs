@@ -92,7 +92,12 @@ pub fn program(random: &mut Random, halvings: usize, word_count: usize) -> Vec<u
         let bad_code = fault_code(random, place);
         let bad = tree.block(Annotation::None, &bad_code);
         code.push(op(REMAINDER, TEST, PATH, Int(divisor)));
-        code.push(op(EQUAL, TEST, TEST, Int(random.below(divisor as usize) as i64)));
+        code.push(op(
+            EQUAL,
+            TEST,
+            TEST,
+            Int(random.below(divisor as usize) as i64),
+        ));
         code.push(if_jump(TEST, Lab(bad)));
     }
     code.push(op(MULTIPLY, SUM, PATH, Reg(PATH)));

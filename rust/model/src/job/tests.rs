@@ -1,1 +1,107 @@
+//! Bytes and text.
 
+use super::*;
+use crate::sample::{countdown, f, instruction, program, Operand, HALT, PLAIN};
+use crate::{opcode, write};
+
+fn bytes(image: &[u8], places: u8, interval: u16, words: &[i64]) -> Vec<u8> {
+    let mut bytes = (image.len() as u16).to_le_bytes().to_vec();
+    bytes.extend(image);
+    bytes.push(places);
+    bytes.extend(interval.to_le_bytes());
+    for register in 0..16i64 {
+        bytes.extend((-register).to_le_bytes());
+    }
+    bytes.extend((words.len() as u16).to_le_bytes());
+    bytes.extend(words.iter().flat_map(|word| word.to_le_bytes()));
+    bytes
+}
+
+#[test]
+fn fields_are_little_endian_and_in_this_order() {
+    let image = write(&f()).unwrap();
+    let job = Job::parse(&bytes(&image, 64, 0x1234, &[5, i64::MIN])).unwrap();
+    assert_eq!(job.program, f());
+    assert_eq!((job.places, job.interval), (64, 0x1234));
+    assert_eq!(job.registers[..3], [0, -1, -2]);
+    assert_eq!(job.registers[15], -15);
+    assert_eq!(job.words, [5, i64::MIN]);
+}
+
+#[test]
+fn the_input_ends_exactly_after_its_last_word() {
+    // Question 10 is put before all else, so the image does not matter.
+    for image in [write(&f()).unwrap(), vec![0; 3], Vec::new()] {
+        let good = bytes(&image, 3, 7, &[1, 2]);
+        for len in 0..good.len() {
+            assert_eq!(report(&good[..len]), "refused 10\n");
+        }
+        assert_ne!(report(&good), "refused 10\n");
+        let mut longer = good;
+        longer.push(0);
+        assert_eq!(report(&longer), "refused 10\n");
+        longer.extend([0; 7]);
+        assert_eq!(report(&longer), "refused 10\n");
+    }
+    assert_eq!(report(&[]), "refused 10\n");
+}
+
+#[test]
+fn the_readers_questions_come_before_starts() {
+    let good = write(&f()).unwrap();
+    let mut bad = good.clone();
+    bad[8] = 1;
+    let many = [0; 4097];
+    assert_eq!(report(&bytes(&[], 3, 7, &many)), "refused 1\n");
+    assert_eq!(report(&bytes(&bad, 3, 7, &many)), "refused 6\n");
+    assert_eq!(report(&bytes(&good, 3, 7, &many)), "refused 11\n");
+    assert_eq!(report(&bytes(&good, 4, 7, &many)), "refused 12\n");
+    assert_eq!(report(&bytes(&good, 4, 8, &many)), "refused 14\n");
+}
+
+#[test]
+fn spent_prints_the_work_alone() {
+    let endless = program(&[(PLAIN, &[instruction(opcode::JUMP, 0, 0, Operand::Lab(0))])]);
+    let image = write(&endless).unwrap();
+    let expected = "end spent\nwork 1000000\n";
+    assert_eq!(report(&bytes(&image, 1, 0, &[])), expected);
+}
+
+#[test]
+fn the_budget_is_a_million() {
+    let mut input = bytes(&write(&countdown()).unwrap(), 1, 0, &[]);
+    let r0 = input.len() - 2 - 16 * 8;
+    // Three instructions a round and two more, so two short of the budget and one beyond it.
+    input[r0..r0 + 8].copy_from_slice(&333_332i64.to_le_bytes());
+    assert!(report(&input).starts_with("end halt\nwork 999998\nspan 999998\n"));
+    input[r0..r0 + 8].copy_from_slice(&333_333i64.to_le_bytes());
+    assert_eq!(report(&input), "end spent\nwork 1000000\n");
+}
+
+#[test]
+fn values_print_as_int_lab_or_rec() {
+    let target = crate::Block {
+        annotation: 2,
+        ..PLAIN
+    };
+    let code = [
+        instruction(opcode::MOVE, 0, 0, Operand::Lab(1)),
+        instruction(opcode::JRALLOC, 1, 0, Operand::Lab(1)),
+        instruction(opcode::MOVE, 2, 0, Operand::Int(i64::MIN)),
+        HALT,
+    ];
+    let image = write(&program(&[(PLAIN, &code), (target, &[HALT])])).unwrap();
+    let text = report(&bytes(&image, 1, 0, &[]));
+    let lines: Vec<&str> = text.lines().collect();
+    assert_eq!(lines.len(), 19);
+    let start = [
+        "end halt",
+        "work 4",
+        "span 4",
+        "r0 lab 1",
+        "r1 rec 1 0",
+        "r2 int -9223372036854775808",
+        "r3 int -3",
+    ];
+    assert_eq!(lines[..7], start);
+}

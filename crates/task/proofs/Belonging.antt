@@ -1,0 +1,93 @@
+-- Each way through a function of fork and join, with plain variables for what the code has there.
+use mathlib.Core.Path.{_≡_, refl, sym, _∙_}
+use mathlib.Core.Bool.{Bool, true, false}
+use mathlib.Core.List.{List}
+use Prim.Native.Nat.{ℕ, suc, _+_, _-_, _<_, _≤_}
+use native.Mathlib.Omega.{arith}
+use lib.Dec.{eqb}
+use lib.ListN.{getD}
+use borrow.Author.Tests.{eq-eqb, ne-eqb, le-leb, lt-leb}
+use Rattle.image.specs.Layout.{blockOf}
+use Rattle.task.specs.declared.Value.{Value}
+use Rattle.task.specs.declared.Value.the-variants.{Label, Record}
+use Rattle.task.specs.declared.Status.the-variants.{Waiting}
+use Rattle.task.specs.declared.Fork.{Fork}
+use Rattle.task.specs.declared.Task.{Task}
+use Rattle.task.specs.Frames.{zeroFork}
+use Rattle.task.specs.Step.{entered, belong, fits}
+use Rattle.task.specs.Execute.{required, goes, ends, faults, forks, forked, met}
+use Rattle.task.proofs.Variants.{NotLabel, NotRecord, not-label, not-record}
+
+-- ---- the loop over the open forks, from i to d
+
+module _ (l : List Fork) (k : Fork) (d i : ℕ) where
+  pub none-left : d ≤ i → belong l k (d - i) i ≡ true
+  unfolding belong
+  none-left h = let e : d - i ≡ 0 = omega arith in rw e
+
+  module _ (h : i < d) where
+    more : d - i ≡ suc (d - (i + 1))
+    more = omega arith
+
+    pub other-continuation : (getD l i zeroFork .continuation ≡ k .continuation → ⊥) → belong l k (d - i) i ≡ false
+    unfolding belong
+    other-continuation n = rw (more, belong, ne-eqb (getD l i zeroFork .continuation) (k .continuation) n)
+
+    module _ (p : getD l i zeroFork .continuation ≡ k .continuation) where
+      pub other-depth : (getD l i zeroFork .depth ≡ k .depth → ⊥) → belong l k (d - i) i ≡ false
+      unfolding belong
+      other-depth n =
+          rw (more, belong, eq-eqb (getD l i zeroFork .continuation) (k .continuation) p, ne-eqb (getD l i zeroFork .depth) (k .depth) n)
+
+      pub belongs-on : getD l i zeroFork .depth ≡ k .depth → belong l k (d - i) i ≡ belong l k (d - (i + 1)) (i + 1)
+      unfolding belong
+      belongs-on q =
+          rw (more, belong, eq-eqb (getD l i zeroFork .continuation) (k .continuation) p, eq-eqb (getD l i zeroFork .depth) (k .depth) q)
+
+-- ---- fork
+
+module _ (cells : List ℕ) (s v : Value) (t : Task) where
+  pub fork-other : NotRecord s → faults 36 t ≡ forked cells s v t
+  unfolding required
+  fork-other k = not-record (λ (w : Value). faults 36 t ≡ forked cells w v t) (λ z. refl) (λ b. refl) s k
+
+  module _ {c d : ℕ} {z : Bool} (p : s ≡ Record c d) (e : z ≡ fits (record { continuation = c; depth = d }) t) where
+    pub fork-unfit : z ≡ false → faults 36 t ≡ forked cells s v t
+    unfolding required
+    fork-unfit k = rw (p, ← e, k)
+
+    module _ (k : z ≡ true) where
+      pub fork-no-target : NotLabel v → faults 34 t ≡ forked cells s v t
+      unfolding required
+      fork-no-target n =
+          rw p (not-label (λ (w : Value). faults 34 t ≡ forked cells (Record c d) w t) (λ z. rw (← e, k)) (λ b d. rw (← e, k)) v n)
+
+      module _ {b : ℕ} (q : v ≡ Label b) where
+        pub fork-no-places : t .places < 2 → faults 37 t ≡ forked cells s v t
+        unfolding required
+        fork-no-places h = rw (p, ← e, k, q, lt-leb 2 (t .places) h)
+
+        pub opens : {pc : ℕ} → 2 ≤ t .places → pc ≡ blockOf cells b .first
+            → forks (record { continuation = c; depth = d }) pc t ≡ forked cells s v t
+        unfolding required
+        opens h f = rw (f, p, ← e, k, q, le-leb 2 (t .places) h)
+
+-- ---- join
+
+module _ (cells : List ℕ) (interval : ℕ) (v : Value) (t : Task) where
+  pub meet-other : NotRecord v → faults 36 t ≡ met cells interval v t
+  unfolding required
+  meet-other k = not-record (λ (w : Value). faults 36 t ≡ met cells interval w t) (λ z. refl) (λ b. refl) v k
+
+  module _ {c d : ℕ} {z : Bool} (p : v ≡ Record c d) (e : z ≡ fits (record { continuation = c; depth = d }) t) where
+    pub meet-unfit : z ≡ false → faults 36 t ≡ met cells interval v t
+    unfolding required
+    meet-unfit k = rw (p, ← e, k)
+
+    pub meets : {n : Task} → z ≡ true → d ≡ t .depth → n ≡ entered cells interval c t → goes n ≡ met cells interval v t
+    unfolding required
+    meets k h f = rw (f, p, ← e, k, eq-eqb d (t .depth) h)
+
+    pub waits-on : z ≡ true → (d ≡ t .depth → ⊥) → ends Waiting t ≡ met cells interval v t
+    unfolding required
+    waits-on k h = rw (p, ← e, k, ne-eqb d (t .depth) h)

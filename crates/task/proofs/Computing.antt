@@ -1,0 +1,99 @@
+-- Each way through a function of opcodes 2 to 9, with plain variables for what the code has there. A signed value that goes to a call or
+-- comes from one is the number of its bits, `toZ w64 (ofZ w64 a)`.
+use mathlib.Core.Path.{_≡_, refl, sym, ap, _∙_}
+use mathlib.Core.Bool.{Bool, true, false, _&&_}
+use mathlib.Core.List.{List}
+use Prim.Native.Nat.{ℕ, suc, _<_, _≤_, _^_}
+use native.Mathlib.Omega.{arith}
+use lib.Dec.{T, ltb}
+use lib.IntN.{ℤ, pos, negsuc, natAbs}
+use lib.ListN.{length, getD}
+use lib.Signed.{mag, ltZ, nonNeg}
+use mir.Syntax.{w64}
+use mir.Val.{SFits, Fits, toZ, ofZ}
+use mir.ValLaws.{toZ-ofZ, ofZ-fits}
+use borrow.Author.Tests.{lt-ltb, le-ltb}
+use Rattle.int64.specs.Equal.{eqZ}
+use Rattle.int64.proofs.Equality.{eqZ-eq, eq-eqZ}
+use Rattle.int64.proofs.Sign.{natural}
+use Rattle.image.proofs.Booleans.{clash}
+use Rattle.task.specs.declared.Value.{Value}
+use Rattle.task.specs.declared.Value.the-variants.{Int, Label, Record}
+use Rattle.task.specs.declared.Task.{Task}
+use Rattle.task.specs.declared.Executed.{Executed}
+use Rattle.task.specs.Values.{isInt, truth}
+use Rattle.task.specs.Execute.{required, stores, faults, computed, divided, fetched}
+use Rattle.task.proofs.Variants.{NotInt, not-int}
+
+-- the value that a call gave
+pub given : {r z : ℤ} → mag r < 2 ^ 63 → r ≡ z → Int (toZ w64 (ofZ w64 r)) ≡ Int z
+given {r} h e = ap Int (toZ-ofZ w64 r (record { sfits = h }) ∙ e)
+
+module _ (t : Task) (s v : Value) where
+  -- the left operand is no integer, or the right one
+  pub left-other : (after : Executed) → NotInt s → faults 31 t ≡ required t (isInt s && isInt v) 31 after
+  unfolding required
+  left-other after k = not-int (λ (w : Value). faults 31 t ≡ required t (isInt w && isInt v) 31 after) (λ b. refl) (λ b d. refl) s k
+
+  pub right-other : (after : Executed) {a : ℤ} → s ≡ Int a → NotInt v → faults 31 t ≡ required t (isInt s && isInt v) 31 after
+  unfolding required
+  right-other after p k =
+      rw p (not-int (λ (w : Value). faults 31 t ≡ required t (isInt w) 31 after) (λ b. refl) (λ b d. refl) v k)
+
+  module _ {a b : ℤ} (p : s ≡ Int a) (q : v ≡ Int b) (f : SFits w64 a) (g : SFits w64 b) where
+    pub computes : (op : ℤ → ℤ → Value) {w : Value} → w ≡ op (toZ w64 (ofZ w64 a)) (toZ w64 (ofZ w64 b)) → stores w t ≡ computed op s v t
+    unfolding required
+    computes op e = rw (p, q, e, toZ-ofZ w64 a f, toZ-ofZ w64 b g)
+
+    -- a divisor of 0
+    pub no-divisor : (op : ℤ → ℤ → Value) {z : Bool} → z ≡ eqZ (toZ w64 (ofZ w64 b)) (pos 0) → z ≡ true → faults 32 t ≡ divided op s v t
+    unfolding required
+    no-divisor op e k = rw (p, q, required, ← toZ-ofZ w64 b g, ← e, k)
+
+    pub divides : (op : ℤ → ℤ → Value) {z : Bool} {w : Value} → z ≡ eqZ (toZ w64 (ofZ w64 b)) (pos 0) → z ≡ false
+        → w ≡ op (toZ w64 (ofZ w64 a)) (toZ w64 (ofZ w64 b)) → stores w t ≡ divided op s v t
+    unfolding required
+    divides op e k w = rw (w, toZ-ofZ w64 a f, p, q, required) (go (sym (rw (toZ-ofZ w64 b g) at e) ∙ k))
+      where
+        go : eqZ b (pos 0) ≡ false → stores (op a (toZ w64 (ofZ w64 b))) t ≡ divided op (Int a) (Int b) t
+        go z = rw (z, toZ-ofZ w64 b g)
+
+-- a divisor that the test let pass
+pub passes-test : (y : ℤ) {z : Bool} → z ≡ eqZ y (pos 0) → z ≡ false → y ≡ pos 0 → ⊥
+passes-test y e k q = clash (eq-eqZ y (pos 0) q) (sym e ∙ k)
+
+-- ---- word v
+
+not-negative : (a : ℤ) → ltZ a (pos 0) ≡ false → nonNeg a ≡ true
+not-negative (pos n) e = refl
+not-negative (negsuc n) e = clash refl e
+
+is-negative : (a : ℤ) → ltZ a (pos 0) ≡ true → nonNeg a ≡ false
+is-negative (pos n) e = clash e (le-ltb n 0 (omega arith))
+is-negative (negsuc n) e = refl
+
+-- the index as a number of 64 bits
+pub index-fits : (a : ℤ) → SFits w64 a → ltZ (toZ w64 (ofZ w64 a)) (pos 0) ≡ false
+    → T (nonNeg (toZ w64 (ofZ w64 a))) × Fits w64 (natAbs (toZ w64 (ofZ w64 a)))
+index-fits a f e = rw (natural a f e) (tt, ofZ-fits w64 a f)
+
+module _ (words : List ℤ) (v : Value) (t : Task) where
+  pub no-index : NotInt v → faults 31 t ≡ fetched words v t
+  unfolding required
+  no-index k = not-int (λ (w : Value). faults 31 t ≡ fetched words w t) (λ b. refl) (λ b d. refl) v k
+
+  module _ {a : ℤ} (p : v ≡ Int a) (f : SFits w64 a) where
+    pub index-negative : ltZ (toZ w64 (ofZ w64 a)) (pos 0) ≡ true → faults 33 t ≡ fetched words v t
+    unfolding required
+    index-negative e = rw (p, required, is-negative a (rw (toZ-ofZ w64 a f) at e))
+
+    pub index-past : ltZ (toZ w64 (ofZ w64 a)) (pos 0) ≡ false → length words ≤ natAbs (toZ w64 (ofZ w64 a)) → faults 33 t ≡ fetched words v t
+    unfolding required
+    index-past e h =
+        rw (p, required, not-negative a (rw (toZ-ofZ w64 a f) at e), le-ltb (natAbs a) (length words) (rw (toZ-ofZ w64 a f) at h))
+
+    pub fetches : ltZ (toZ w64 (ofZ w64 a)) (pos 0) ≡ false → natAbs (toZ w64 (ofZ w64 a)) < length words
+        → {w : Value} → w ≡ Int (getD words (natAbs (toZ w64 (ofZ w64 a))) (pos 0)) → stores w t ≡ fetched words v t
+    unfolding required
+    fetches e h w =
+        rw (w, p, toZ-ofZ w64 a f, required, not-negative a (rw (toZ-ofZ w64 a f) at e), lt-ltb (natAbs a) (length words) (rw (toZ-ofZ w64 a f) at h))

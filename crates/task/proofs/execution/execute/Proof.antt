@@ -1,0 +1,143 @@
+-- `execute` meets its contract.
+use mathlib.Core.Path.{_∙_}
+use Rattle.task.proofs.Dispatch.{counted-pc, counted-depth, counted-room, sends, sends-nowhere, past}
+use borrow.Author.Needs.{needs}
+use Rattle.task.proofs.execution.execute.Statement.{statement}
+use Rattle.task.proofs.execution.execute.Tie as tie
+
+count-requires : tie.Need-count-requires
+count-requires c κs = search needs
+
+store-requires : tie.Need-store-requires
+store-requires c κs = counted-pc (c .before .before .before .args .cells .now) (c .before .count .ensures) (c .before .before .before .pre)
+
+add-requires : tie.Need-add-requires
+add-requires c κs = counted-pc (c .before .before .before .args .cells .now) (c .before .count .ensures) (c .before .before .before .pre)
+
+subtract-requires : tie.Need-subtract-requires
+subtract-requires c κs = counted-pc (c .before .before .before .args .cells .now) (c .before .count .ensures) (c .before .before .before .pre)
+
+multiply-requires : tie.Need-multiply-requires
+multiply-requires c κs = counted-pc (c .before .before .before .args .cells .now) (c .before .count .ensures) (c .before .before .before .pre)
+
+divide-requires : tie.Need-divide-requires
+divide-requires c κs = counted-pc (c .before .before .before .args .cells .now) (c .before .count .ensures) (c .before .before .before .pre)
+
+modulo-requires : tie.Need-modulo-requires
+modulo-requires c κs = counted-pc (c .before .before .before .args .cells .now) (c .before .count .ensures) (c .before .before .before .pre)
+
+less-requires : tie.Need-less-requires
+less-requires c κs = counted-pc (c .before .before .before .args .cells .now) (c .before .count .ensures) (c .before .before .before .pre)
+
+equal-requires : tie.Need-equal-requires
+equal-requires c κs = counted-pc (c .before .before .before .args .cells .now) (c .before .count .ensures) (c .before .before .before .pre)
+
+fetch-requires : tie.Need-fetch-requires
+fetch-requires c κs = counted-pc (c .before .before .before .args .cells .now) (c .before .count .ensures) (c .before .before .before .pre)
+
+branch-requires : tie.Need-branch-requires
+branch-requires c κs = (c .before .before .before .pre .accepted-program, c .before .before .before .pre .v-fits, counted-pc (c .before .before .before .args .cells .now) (c .before .count .ensures) (c .before .before .before .pre))
+
+allocate-requires : tie.Need-allocate-requires
+allocate-requires c κs = (c .before .before .before .pre .accepted-program, c .before .before .before .pre .v-fits, counted-pc (c .before .before .before .args .cells .now) (c .before .count .ensures) (c .before .before .before .pre))
+
+fork-requires : tie.Need-fork-requires
+fork-requires c κs = (c .before .before .before .pre .accepted-program, c .before .before .before .pre .v-fits, counted-pc (c .before .before .before .args .cells .now) (c .before .count .ensures) (c .before .before .before .pre), counted-depth (c .before .before .before .args .cells .now) (c .before .count .ensures) (c .before .before .before .pre), counted-room (c .before .before .before .args .cells .now) (c .before .count .ensures) (c .before .before .before .pre))
+
+jump-requires : tie.Need-jump-requires
+jump-requires c κs = search needs
+
+halt-requires : tie.Need-halt-requires
+halt-requires c κs = search needs
+
+meet-requires : tie.Need-meet-requires
+meet-requires c κs = (c .before .before .before .pre .accepted-program, c .before .before .before .pre .v-fits, counted-depth (c .before .before .before .args .cells .now) (c .before .count .ensures) (c .before .before .before .pre))
+
+fault-requires : tie.Need-fault-requires
+fault-requires c κs = search needs
+
+returns : tie.Need-returns
+returns c = c .store .ensures ∙ sends (c .before .before .before .before .args .cells .now) (c .before .before .before .before .args .words .now) (c .before .before .before .before .args .interval) (c .before .before .before .before .args .x) (c .before .before .before .before .args .s) (c .before .before .before .before .args .v) (c .before .before .before .before .args .task) (c .before .before .count .ensures) 1 (c .before .match .keys1)
+
+returns-2 : tie.Need-returns-2
+returns-2 c = c .add .ensures ∙ sends (c .before .before .before .before .args .cells .now) (c .before .before .before .before .args .words .now) (c .before .before .before .before .args .interval) (c .before .before .before .before .args .x) (c .before .before .before .before .args .s) (c .before .before .before .before .args .v) (c .before .before .before .before .args .task) (c .before .before .count .ensures) 2 (c .before .match .keys2)
+
+returns-3 : tie.Need-returns-3
+returns-3 c = c .subtract .ensures ∙ sends (c .before .before .before .before .args .cells .now) (c .before .before .before .before .args .words .now) (c .before .before .before .before .args .interval) (c .before .before .before .before .args .x) (c .before .before .before .before .args .s) (c .before .before .before .before .args .v) (c .before .before .before .before .args .task) (c .before .before .count .ensures) 3 (c .before .match .keys3)
+
+returns-4 : tie.Need-returns-4
+returns-4 c = c .multiply .ensures ∙ sends (c .before .before .before .before .args .cells .now) (c .before .before .before .before .args .words .now) (c .before .before .before .before .args .interval) (c .before .before .before .before .args .x) (c .before .before .before .before .args .s) (c .before .before .before .before .args .v) (c .before .before .before .before .args .task) (c .before .before .count .ensures) 4 (c .before .match .keys4)
+
+returns-5 : tie.Need-returns-5
+returns-5 c = c .divide .ensures ∙ sends (c .before .before .before .before .args .cells .now) (c .before .before .before .before .args .words .now) (c .before .before .before .before .args .interval) (c .before .before .before .before .args .x) (c .before .before .before .before .args .s) (c .before .before .before .before .args .v) (c .before .before .before .before .args .task) (c .before .before .count .ensures) 5 (c .before .match .keys5)
+
+returns-6 : tie.Need-returns-6
+returns-6 c = c .modulo .ensures ∙ sends (c .before .before .before .before .args .cells .now) (c .before .before .before .before .args .words .now) (c .before .before .before .before .args .interval) (c .before .before .before .before .args .x) (c .before .before .before .before .args .s) (c .before .before .before .before .args .v) (c .before .before .before .before .args .task) (c .before .before .count .ensures) 6 (c .before .match .keys6)
+
+returns-7 : tie.Need-returns-7
+returns-7 c = c .less .ensures ∙ sends (c .before .before .before .before .args .cells .now) (c .before .before .before .before .args .words .now) (c .before .before .before .before .args .interval) (c .before .before .before .before .args .x) (c .before .before .before .before .args .s) (c .before .before .before .before .args .v) (c .before .before .before .before .args .task) (c .before .before .count .ensures) 7 (c .before .match .keys7)
+
+returns-8 : tie.Need-returns-8
+returns-8 c = c .equal .ensures ∙ sends (c .before .before .before .before .args .cells .now) (c .before .before .before .before .args .words .now) (c .before .before .before .before .args .interval) (c .before .before .before .before .args .x) (c .before .before .before .before .args .s) (c .before .before .before .before .args .v) (c .before .before .before .before .args .task) (c .before .before .count .ensures) 8 (c .before .match .keys8)
+
+returns-9 : tie.Need-returns-9
+returns-9 c = c .fetch .ensures ∙ sends (c .before .before .before .before .args .cells .now) (c .before .before .before .before .args .words .now) (c .before .before .before .before .args .interval) (c .before .before .before .before .args .x) (c .before .before .before .before .args .s) (c .before .before .before .before .args .v) (c .before .before .before .before .args .task) (c .before .before .count .ensures) 9 (c .before .match .keys9)
+
+returns-10 : tie.Need-returns-10
+returns-10 c = c .branch .ensures ∙ sends (c .before .before .before .before .args .cells .now) (c .before .before .before .before .args .words .now) (c .before .before .before .before .args .interval) (c .before .before .before .before .args .x) (c .before .before .before .before .args .s) (c .before .before .before .before .args .v) (c .before .before .before .before .args .task) (c .before .before .count .ensures) 10 (c .before .match .keys10)
+
+returns-11 : tie.Need-returns-11
+returns-11 c = c .allocate .ensures ∙ sends (c .before .before .before .before .args .cells .now) (c .before .before .before .before .args .words .now) (c .before .before .before .before .args .interval) (c .before .before .before .before .args .x) (c .before .before .before .before .args .s) (c .before .before .before .before .args .v) (c .before .before .before .before .args .task) (c .before .before .count .ensures) 11 (c .before .match .keys11)
+
+returns-12 : tie.Need-returns-12
+returns-12 c = c .fork .ensures ∙ sends (c .before .before .before .before .args .cells .now) (c .before .before .before .before .args .words .now) (c .before .before .before .before .args .interval) (c .before .before .before .before .args .x) (c .before .before .before .before .args .s) (c .before .before .before .before .args .v) (c .before .before .before .before .args .task) (c .before .before .count .ensures) 12 (c .before .match .keys12)
+
+returns-13 : tie.Need-returns-13
+returns-13 c = c .jump .ensures ∙ sends (c .before .before .before .before .args .cells .now) (c .before .before .before .before .args .words .now) (c .before .before .before .before .args .interval) (c .before .before .before .before .args .x) (c .before .before .before .before .args .s) (c .before .before .before .before .args .v) (c .before .before .before .before .args .task) (c .before .before .count .ensures) 13 (c .before .match .keys13)
+
+returns-14 : tie.Need-returns-14
+returns-14 c = c .halt .ensures ∙ sends (c .before .before .before .before .args .cells .now) (c .before .before .before .before .args .words .now) (c .before .before .before .before .args .interval) (c .before .before .before .before .args .x) (c .before .before .before .before .args .s) (c .before .before .before .before .args .v) (c .before .before .before .before .args .task) (c .before .before .count .ensures) 14 (c .before .match .keys14)
+
+returns-15 : tie.Need-returns-15
+returns-15 c = c .meet .ensures ∙ sends (c .before .before .before .before .args .cells .now) (c .before .before .before .before .args .words .now) (c .before .before .before .before .args .interval) (c .before .before .before .before .args .x) (c .before .before .before .before .args .s) (c .before .before .before .before .args .v) (c .before .before .before .before .args .task) (c .before .before .count .ensures) 15 (c .before .match .keys15)
+
+returns-16 : tie.Need-returns-16
+returns-16 c = let k = c .before .match .rest in c .fault .ensures ∙ sends-nowhere (c .before .before .before .before .args .cells .now) (c .before .before .before .before .args .words .now) (c .before .before .before .before .args .interval) (c .before .before .before .before .args .x) (c .before .before .before .before .args .s) (c .before .before .before .before .args .v) (c .before .before .before .before .args .task) (c .before .before .count .ensures) (λ least. past 15 (past 14 (past 13 (past 12 (past 11 (past 10 (past 9 (past 8 (past 7 (past 6 (past 5 (past 4 (past 3 (past 2 (past 1 least (k .0 .0 .0 .0 .0 .0 .0 .0 .0 .0 .0 .0 .0 .0 .1)) (k .0 .0 .0 .0 .0 .0 .0 .0 .0 .0 .0 .0 .0 .1)) (k .0 .0 .0 .0 .0 .0 .0 .0 .0 .0 .0 .0 .1)) (k .0 .0 .0 .0 .0 .0 .0 .0 .0 .0 .0 .1)) (k .0 .0 .0 .0 .0 .0 .0 .0 .0 .0 .1)) (k .0 .0 .0 .0 .0 .0 .0 .0 .0 .1)) (k .0 .0 .0 .0 .0 .0 .0 .0 .1)) (k .0 .0 .0 .0 .0 .0 .0 .1)) (k .0 .0 .0 .0 .0 .0 .1)) (k .0 .0 .0 .0 .0 .1)) (k .0 .0 .0 .0 .1)) (k .0 .0 .0 .1)) (k .0 .0 .1)) (k .0 .1)) (k .1))
+
+pub execute-spec : {M : Type 1} → statement M
+execute-spec =
+    tie.close
+    (tie.spec
+    count-requires
+    store-requires
+    add-requires
+    subtract-requires
+    multiply-requires
+    divide-requires
+    modulo-requires
+    less-requires
+    equal-requires
+    fetch-requires
+    branch-requires
+    allocate-requires
+    fork-requires
+    jump-requires
+    halt-requires
+    meet-requires
+    fault-requires
+    returns
+    returns-2
+    returns-3
+    returns-4
+    returns-5
+    returns-6
+    returns-7
+    returns-8
+    returns-9
+    returns-10
+    returns-11
+    returns-12
+    returns-13
+    returns-14
+    returns-15
+    returns-16)

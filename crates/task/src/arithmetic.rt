@@ -1,0 +1,135 @@
+// Opcodes 2 to 9: r := s op v, and r := word v.
+use crate::Executed;
+use crate::Task;
+use crate::Value;
+use crate::results::fault;
+use crate::results::store;
+ghost use mathlib.Core.Path.{_≡_};
+ghost use Prim.Native.Nat.{_<_};
+ghost use Rattle.task.specs.Values.{truth};
+ghost use Rattle.task.specs.Execute.{computed, divided, sum, difference, product, quotient, remainder, isLess, isEqual, fetched};
+
+// Comparisons give 0 when true, 1 when false.
+fn truth_of(holds: bool) -> Value
+    ensures { λ r. ⌜ r ≡ truth holds ⌝ }
+{
+    if holds {
+        return Value::Int(0);
+    }
+    Value::Int(1)
+}
+
+pub fn add(s: Value, v: Value, t: Task) -> Executed
+    requires { ⌜ t .pc < 1024 ⌝ }
+    ensures { λ r. ⌜ r ≡ computed sum s v t ⌝ }
+{
+    let Value::Int(a) = s else {
+        return fault(31, t);
+    };
+    let Value::Int(b) = v else {
+        return fault(31, t);
+    };
+    store(Value::Int(int64::wrapping_add(a, b)), t)
+}
+
+pub fn subtract(s: Value, v: Value, t: Task) -> Executed
+    requires { ⌜ t .pc < 1024 ⌝ }
+    ensures { λ r. ⌜ r ≡ computed difference s v t ⌝ }
+{
+    let Value::Int(a) = s else {
+        return fault(31, t);
+    };
+    let Value::Int(b) = v else {
+        return fault(31, t);
+    };
+    store(Value::Int(int64::wrapping_sub(a, b)), t)
+}
+
+pub fn multiply(s: Value, v: Value, t: Task) -> Executed
+    requires { ⌜ t .pc < 1024 ⌝ }
+    ensures { λ r. ⌜ r ≡ computed product s v t ⌝ }
+{
+    let Value::Int(a) = s else {
+        return fault(31, t);
+    };
+    let Value::Int(b) = v else {
+        return fault(31, t);
+    };
+    store(Value::Int(int64::wrapping_mul(a, b)), t)
+}
+
+pub fn divide(s: Value, v: Value, t: Task) -> Executed
+    requires { ⌜ t .pc < 1024 ⌝ }
+    ensures { λ r. ⌜ r ≡ divided quotient s v t ⌝ }
+{
+    let Value::Int(a) = s else {
+        return fault(31, t);
+    };
+    let Value::Int(b) = v else {
+        return fault(31, t);
+    };
+    if int64::equal(b, 0) {
+        return fault(32, t);
+    }
+    store(Value::Int(int64::quotient(a, b)), t)
+}
+
+pub fn modulo(s: Value, v: Value, t: Task) -> Executed
+    requires { ⌜ t .pc < 1024 ⌝ }
+    ensures { λ r. ⌜ r ≡ divided remainder s v t ⌝ }
+{
+    let Value::Int(a) = s else {
+        return fault(31, t);
+    };
+    let Value::Int(b) = v else {
+        return fault(31, t);
+    };
+    if int64::equal(b, 0) {
+        return fault(32, t);
+    }
+    store(Value::Int(int64::remainder(a, b)), t)
+}
+
+pub fn less(s: Value, v: Value, t: Task) -> Executed
+    requires { ⌜ t .pc < 1024 ⌝ }
+    ensures { λ r. ⌜ r ≡ computed isLess s v t ⌝ }
+{
+    let Value::Int(a) = s else {
+        return fault(31, t);
+    };
+    let Value::Int(b) = v else {
+        return fault(31, t);
+    };
+    store(truth_of(int64::less(a, b)), t)
+}
+
+pub fn equal(s: Value, v: Value, t: Task) -> Executed
+    requires { ⌜ t .pc < 1024 ⌝ }
+    ensures { λ r. ⌜ r ≡ computed isEqual s v t ⌝ }
+{
+    let Value::Int(a) = s else {
+        return fault(31, t);
+    };
+    let Value::Int(b) = v else {
+        return fault(31, t);
+    };
+    store(truth_of(int64::equal(a, b)), t)
+}
+
+// Word v of the call record, counted from 0.
+pub fn fetch(words: &[i64], v: Value, t: Task) -> Executed
+    requires { ⌜ t .pc < 1024 ⌝ }
+    ensures { λ r. ⌜ r ≡ fetched (now (words .entry)) v t ⌝ }
+{
+    let Value::Int(index) = v else {
+        return fault(31, t);
+    };
+    if index < 0 {
+        return fault(33, t);
+    }
+    let at = index as usize;
+    if words.len() <= at {
+        return fault(33, t);
+    }
+    store(Value::Int(words[at]), t)
+}

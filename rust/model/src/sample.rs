@@ -1,0 +1,100 @@
+//! Programs for the tests.
+
+use crate::image::{Block, Instruction, Program, MAX_PAIRS};
+use crate::opcode;
+
+#[derive(Clone, Copy)]
+pub enum Operand {
+    Reg(u8),
+    Lab(u8),
+    Int(i64),
+}
+
+use Operand::{Int, Lab, Reg};
+
+pub fn instruction(opcode: u8, r: u8, s: u8, v: Operand) -> Instruction {
+    let (kind, operand) = match v {
+        Reg(register) => (1, register.into()),
+        Lab(label) => (2, label.into()),
+        Int(integer) => (3, integer as u64),
+    };
+    Instruction {
+        opcode,
+        r,
+        s,
+        kind,
+        operand,
+    }
+}
+
+pub const HALT: Instruction = Instruction {
+    opcode: opcode::HALT,
+    r: 0,
+    s: 0,
+    kind: 0,
+    operand: 0,
+};
+
+pub const PLAIN: Block = Block {
+    first: 0,
+    annotation: 0,
+    policy: 0,
+    label: 0,
+    pair_count: 0,
+    pairs: [0; MAX_PAIRS],
+};
+
+/// Blocks with their annotations and code; the starts are counted here.
+pub fn program(blocks: &[(Block, &[Instruction])]) -> Program {
+    let mut program = Program {
+        blocks: Vec::new(),
+        instructions: Vec::new(),
+    };
+    for (block, code) in blocks {
+        let first = program.instructions.len() as u16;
+        program.blocks.push(Block { first, ..*block });
+        program.instructions.extend(*code);
+    }
+    program
+}
+
+/// Document 01's program F.
+pub fn f() -> Program {
+    let target = Block {
+        annotation: 2,
+        label: 3,
+        pair_count: 1,
+        pairs: [0x02, 0, 0, 0],
+        ..PLAIN
+    };
+    let join = instruction(opcode::JOIN, 0, 0, Reg(1));
+    program(&[
+        (
+            PLAIN,
+            &[
+                instruction(opcode::JRALLOC, 1, 0, Lab(2)),
+                instruction(opcode::FORK, 0, 1, Lab(1)),
+                instruction(opcode::ADD, 0, 0, Int(1)),
+                join,
+            ],
+        ),
+        (PLAIN, &[instruction(opcode::MOVE, 0, 0, Int(7)), join]),
+        (target, &[HALT]),
+        (PLAIN, &[instruction(opcode::ADD, 0, 0, Reg(2)), join]),
+    ])
+}
+
+/// One block that counts r0 down and then halts: three instructions for each and two more.
+pub fn countdown() -> Program {
+    program(&[
+        (
+            PLAIN,
+            &[
+                instruction(opcode::IF_JUMP, 0, 0, Lab(1)),
+                instruction(opcode::SUBTRACT, 0, 0, Int(1)),
+                instruction(opcode::JUMP, 0, 0, Lab(0)),
+            ],
+        ),
+        (PLAIN, &[HALT]),
+    ])
+}
