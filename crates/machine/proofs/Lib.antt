@@ -9,3 +9,6 @@ pub mod Filling
 pub mod Intervals
 pub mod Turning
 pub mod Carrying
+pub mod InPlace
+pub mod Issuing
+pub mod Readiness

@@ -56,7 +56,7 @@ module _ (cells : List ℕ) where
   truth-fits true = refl
   truth-fits false = refl
 
-  operand-fits : (f : Frame) (x : Instruction) → ((i : ℕ) → valueFits cells (register f i) ≡ true)
+  pub operand-fits : (f : Frame) (x : Instruction) → ((i : ℕ) → valueFits cells (register f i) ≡ true)
       → (x .kind ≡ 2 → x .operand < blockCount cells) → valueFits cells (operand f x) ≡ true
   unfolding operand
   operand-fits f x values below = go (eqb (x .kind) 1) refl
