@@ -12,3 +12,8 @@ pub mod Carrying
 pub mod InPlace
 pub mod Issuing
 pub mod Readiness
+pub mod Sizes
+pub mod Copying
+pub mod SettleLaws
+pub mod ShapeSlots
+pub mod SettleSafety

@@ -5,3 +5,4 @@ pub mod Starting
 pub mod Shape
 pub mod Picking
 pub mod Driving
+pub mod Settling

@@ -1,4 +1,6 @@
 // The state of a job.
+pub mod drive;
+pub mod slots;
 pub mod start;
 
 use task::Register;

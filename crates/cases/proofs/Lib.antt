@@ -1,0 +1,4 @@
+-- The test of a case, that it is enough, and the theorem.
+pub mod Test
+pub mod Enough
+pub mod Starred

@@ -1,0 +1,176 @@
+-- In a state of the shape settling is safe, and each join keeps that.
+use Prim.Native.Nat.{ℕ, zero, suc, _+_, _*_, _-_, _%_, _^_, _≤_, _<_}
+use mathlib.Core.Path.{_≡_, refl, sym, ap, _∙_, subst⁻¹}
+use mathlib.Core.Logic.{⊎-elim}
+use mathlib.Core.Bool.{true}
+use mathlib.Core.List.{List}
+use mathlib.Core.Option.{Option, none, some}
+use native.Mathlib.Omega.{arith}
+use native.Mathlib.Nat.{pow-suc, pow-le-pow-right, mul-assoc, add-mul, le-mul-of-pos-right}
+use lib.Dec.{ltb}
+use lib.Pow.{pow-add, pow-pos}
+use lib.IntN.{ℤ}
+use lib.ListN.{getD, set, List·getD-eq-default}
+use lib.Seq.{getD-set-other}
+use borrow.Author.Tests.{lt-ltb}
+use Rattle.agreement.specs.Facts.{by-below}
+use Rattle.agreement.specs.Plain.{one}
+use Rattle.agreement.specs.Slots.{due, merged, settle}
+use Rattle.image.specs.Questions.{programNo}
+use Rattle.task.specs.declared.Task.{Task}
+use Rattle.task.specs.declared.Frame.{Frame}
+use Rattle.task.specs.Frames.{zeroFork, vacant, vacantTask, noTask, faultOf, running}
+use Rattle.task.specs.Step.{firstFault, joinedBy, join, step}
+use Rattle.task.specs.Execute.{Joinable}
+use Rattle.task.proofs.Formation.{Formed, target-below}
+use Rattle.machine.specs.declared.Machine.{Machine}
+use Rattle.machine.specs.Slots.{at, put, slotsOf}
+use Rattle.machine.specs.Starting.{rank}
+use Rattle.machine.specs.Settling.{JoinSafe, SettleSafe}
+use Rattle.machine.proofs.SlotLaws.{put-tasks}
+use Rattle.machine.proofs.RankLaws.{rank-small}
+use Rattle.machine.proofs.Models.{Allowed, laws-hold}
+use Rattle.machine.proofs.ShapeLaws.{Fits}
+use Rattle.machine.proofs.SettleLaws.{due-sides, settle-goes}
+use Rattle.machine.proofs.ShapeSlots.{fits-framed, running-formed}
+
+-- ---- one task record
+
+-- at depth 0
+outermost : (cells : List ℕ) (t : Task) → t .places ≤ 64 → t .depth ≡ 0 → JoinSafe cells t
+outermost cells t p e = record {
+  places-fit = rw e (omega arith);
+  depth-fits = omega arith;
+  forks-name = λ i h. absurd (omega arith);
+}
+
+pub vacant-safe : (cells : List ℕ) → JoinSafe cells vacantTask
+vacant-safe cells = outermost cells vacantTask (omega arith) refl
+
+pub formed-safe : (cells : List ℕ) (D h : ℕ) (f : Frame) → D ≤ 6 → Formed cells D h f → JoinSafe cells (f .task)
+formed-safe cells D h f room x =
+    let all : f .task .places * 2 ^ f .task .depth ≡ 2 ^ D =
+    ap (λ p. p * 2 ^ f .task .depth) (x .has-places) ∙ sym (pow-add 2 h (f .task .depth)) ∙ ap (λ n. 2 ^ n) (omega (arith, x .has-depth)) in
+    let most : 2 ^ D ≤ 64 = pow-le-pow-right (omega arith) room in
+    record {
+      places-fit = omega arith;
+      depth-fits = omega (arith, x .has-depth);
+      forks-name = λ i p. let t : ltb i (f .task .depth) ≡ true = lt-ltb i (f .task .depth) p in
+          target-below cells _ (rw t at (x .forks-fit i (omega (arith, x .has-depth))));
+    }
+
+-- ---- a join
+
+half : (n e : ℕ) → n * 2 ^ suc e ≤ 64 → n * 2 ^ e ≤ 32
+half n e h =
+    let q : n * 2 ^ suc e ≡ n * 2 ^ e * 2 = ap (λ x. n * x) (pow-suc 2 e) ∙ sym (mul-assoc n (2 ^ e) 2) in
+    omega arith
+
+module _ (cells : List ℕ) (a b : Frame) (x : JoinSafe cells (a .task)) (y : JoinSafe cells (b .task)) (inside : 0 < a .task .depth)
+    (same : b .task .depth ≡ a .task .depth) where
+  closed : (t : Task) → t .places ≡ a .task .places + b .task .places → t .depth ≡ a .task .depth - 1
+      → t .forks ≡ set (a .task .forks) (a .task .depth - 1) zeroFork → JoinSafe cells t
+  closed t is-both is-outward is-closed =
+      let e = a .task .depth - 1 in
+      let d : a .task .depth ≡ suc e = omega arith in
+      let p : a .task .places * 2 ^ suc e ≤ 64 = rw (← d) (x .places-fit) in
+      let q : b .task .places * 2 ^ suc e ≤ 64 = rw (← d, ← same) (y .places-fit) in
+      record {
+        places-fit = rw (is-both, is-outward)
+            (omega (arith, half _ e p, half _ e q, add-mul (a .task .places) (b .task .places) (2 ^ e)));
+        depth-fits = omega (arith, x .depth-fits);
+        forks-name = λ i h. rw (is-closed, getD-set-other (a .task .forks) e i zeroFork zeroFork (omega arith)) (x .forks-name i (omega arith));
+      }
+
+  both-fit : a .task .places + b .task .places ≤ 64
+  both-fit =
+      let e = a .task .depth - 1 in
+      let d : a .task .depth ≡ suc e = omega arith in
+      let p : a .task .places * 2 ^ suc e ≤ 64 = rw (← d) (x .places-fit) in
+      let q : b .task .places * 2 ^ suc e ≤ 64 = rw (← d, ← same) (y .places-fit) in
+      omega (arith, half _ e p, half _ e q, le-mul-of-pos-right (a .task .places) (pow-pos e), le-mul-of-pos-right (b .task .places) (pow-pos e))
+
+  join-safe : JoinSafe cells (join cells a b .task)
+  unfolding join
+  join-safe = go (firstFault (faultOf (a .task .status)) (faultOf (b .task .status)))
+    where
+      go : (f : Option ℕ) → JoinSafe cells (joinedBy f cells (getD (a .task .forks) (a .task .depth - 1) zeroFork .continuation) a b .task)
+      go none = closed _ refl refl refl
+      go (some n) = closed _ refl refl refl
+
+-- ---- every slot
+
+-- two sides at one depth are as the code of the join asks
+pub sides-joinable : (cells : List ℕ) (m : Machine) (q w : ℕ) (parent child : Frame) → programNo cells ≡ 0 → SettleSafe cells m
+    → 0 < at m q .task .depth → at m (q + w) .task .depth ≡ at m q .task .depth → parent ≡ at m q → child ≡ at m (q + w) → Joinable cells parent child
+sides-joinable cells m q w parent child ok all inside same p c =
+    subst⁻¹ (λ f. Joinable cells f child) p
+    (subst⁻¹ (Joinable cells (at m q)) c
+    (record {
+      accepted-program = ok;
+      depth-least = inside;
+      depth-most = all q .depth-fits;
+      places-most = both-fit cells (at m q) (at m (q + w)) (all q) (all (q + w)) inside same;
+      continuation-below = all q .forks-name (at m q .task .depth - 1) (omega arith);
+    }))
+
+pub put-safe : (cells : List ℕ) (m : Machine) (k : ℕ) (f : Frame) → SettleSafe cells m → JoinSafe cells (f .task) → SettleSafe cells (put m k f)
+put-safe cells m k f all x i = put-tasks (JoinSafe cells) m k f i x (all i)
+
+merged-safe : (cells : List ℕ) (m : Machine) (q w : ℕ) → SettleSafe cells m → 0 < at m q .task .depth
+    → at m (q + w) .task .depth ≡ at m q .task .depth → SettleSafe cells (merged (slotsOf cells) m q w)
+merged-safe cells m q w all inside same =
+    put-safe cells (put m (q + w) vacant) q (join cells (at m q) (at m (q + w)))
+    (put-safe cells m (q + w) vacant all (vacant-safe cells))
+    (join-safe cells (at m q) (at m (q + w)) (all q) (all (q + w)) inside same)
+
+-- ---- a turn of settling
+
+-- the join of the fork at slot q, whose sides have w places each, is due at depth d for the task in slot k
+pub record Turn (cells : List ℕ) (m : Machine) (k d q w : ℕ) : Type 0 where
+  pub has-room : q + w < 64
+  pub inside : 0 < at m q .task .depth
+  pub same-depth : at m (q + w) .task .depth ≡ at m q .task .depth
+  pub goes-on : settle (slotsOf cells) d m k ≡ settle (slotsOf cells) (d - 1) (merged (slotsOf cells) m q w) q
+  pub stays-safe : SettleSafe cells (merged (slotsOf cells) m q w)
+
+pub turn : (cells : List ℕ) (m : Machine) (k d q w : ℕ) → SettleSafe cells m → 0 < d → at m k .task .places ≡ w → q ≡ k - k % (2 * w)
+    → due (slotsOf cells) m q w d ≡ true → Turn cells m k d q w
+turn cells m k d q w all left hw hq e =
+    let s = due-sides cells m q w d e in
+    let inside : 0 < at m q .task .depth = omega (arith, s .parent-depth) in
+    let same : at m (q + w) .task .depth ≡ at m q .task .depth = s .child-depth ∙ sym (s .parent-depth) in
+    record {
+      has-room = s .has-room;
+      inside = inside;
+      same-depth = same;
+      goes-on = settle-goes cells m k d q w left hw hq e;
+      stays-safe = merged-safe cells m q w all inside same;
+    }
+
+-- ---- a state of the shape
+
+module _ {cells : List ℕ} {interval places : ℕ} (allowed : Allowed cells interval places) (m : Machine) (x : Fits cells interval places m) where
+  room : rank places ≤ 6
+  room = rank-small places (allowed .places-allowed)
+
+  pub fits-safe : SettleSafe cells m
+  fits-safe i =
+      by-below i 64
+      (λ p. ⊎-elim
+      (λ (e : at m i ≡ vacant). subst⁻¹ (λ (f : Frame). JoinSafe cells (f .task)) e (vacant-safe cells))
+      (λ (f : (h : ℕ) × Formed cells (rank places) h (at m i)). formed-safe cells (rank places) (f .0) (at m i) room (f .1))
+      (fits-framed allowed m x i p))
+      (λ p. let e : at m i .task ≡ noTask = List·getD-eq-default (m .tasks) noTask {n = i} (omega (arith, x .sized .of-tasks)) in
+      rw e (outermost cells noTask (omega arith) refl))
+
+  -- the frame that an instruction leaves is safe to put back, and to settle
+  pub stepped-safe : (words : List ℤ) (k : ℕ) (g : Frame) → k < 64 → running (at m k) ≡ true → step cells words interval (at m k) ≡ one g
+      → JoinSafe cells (g .task)
+  stepped-safe words k g below runs e =
+      let f = running-formed allowed m x k below runs in
+      formed-safe cells (rank places) (f .0) g room (laws-hold allowed words .step-one (f .0) (at m k) g (f .1) runs e)
+
+  pub put-back-safe : (words : List ℤ) (k : ℕ) (g : Frame) → k < 64 → running (at m k) ≡ true → step cells words interval (at m k) ≡ one g
+      → SettleSafe cells (put m k g)
+  put-back-safe words k g below runs e = put-safe cells m k g fits-safe (stepped-safe words k g below runs e)
