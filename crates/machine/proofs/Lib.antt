@@ -17,3 +17,4 @@ pub mod Copying
 pub mod SettleLaws
 pub mod ShapeSlots
 pub mod SettleSafety
+pub mod Owning

@@ -9,7 +9,6 @@ use task::Register;
 use task::Status;
 use task::Task;
 use task::Value;
-
 ghost use mathlib.Core.Path.{_≡_};
 ghost use mathlib.Core.Bool.{true};
 ghost use Prim.Native.Nat.{_+_, _<_, _≤_};
@@ -51,8 +50,11 @@ pub fn is_running(status: Status) -> bool
     ensures { λ r. ⌜ r ≡ isRunning status ⌝ }
 {
     match status {
+        Status::Vacant => false,
         Status::Running => true,
-        _ => false,
+        Status::Waiting => false,
+        Status::Halted => false,
+        Status::Faulted(_) => false,
     }
 }
 
@@ -88,7 +90,15 @@ fn split(m: Machine, k: usize, t: Task, pc: u16) -> Machine
     let mut child = t;
     child.pc = pc;
     child.counter = 0;
-    slots::carried_two(m, k, Frame { task: t, registers }, Frame { task: child, registers })
+    slots::carried_two(
+        m,
+        k,
+        Frame { task: t, registers },
+        Frame {
+            task: child,
+            registers,
+        },
+    )
 }
 
 // At most `budget` picks from `slot` on.
@@ -107,18 +117,21 @@ pub fn drive(cells: &[u64], words: &[i64], machine: Machine, slot: usize, budget
             let x = image::layout::instruction_of(cells, t.pc as usize);
             let base = 16 * k;
             let at_s = base + (x.s as usize);
-            let held_s = m.bank[at_s];
+            let left_register = m.bank[at_s];
+            let s = left_register.value;
             let at_v = base + ((x.operand % 16) as usize);
-            let held_v = m.bank[at_v];
-            let v = task::execution::operand(x, held_v.value);
-            let e = task::execution::execute(cells, words, m.interval as u64, x, held_s.value, v, t);
+            let right_register = m.bank[at_v];
+            let held = right_register.value;
+            let v = task::execution::operand(x, held);
+            let e = task::execution::execute(cells, words, m.interval as u64, x, s, v, t);
             let kind = e.kind;
             let next = e.task;
             match kind {
                 Kind::Stores => {
                     let at_r = base + (x.r as usize);
+                    let value = e.value;
                     m.tasks[k] = next;
-                    m.bank[at_r] = Register { value: e.value };
+                    m.bank[at_r] = Register { value };
                     m.work = m.work + 1;
                     idle = 0;
                     left = left - 1;

@@ -311,6 +311,10 @@ fn a_record_fits_when_all_forks_beyond_its_depth_belong_to_it() {
     task.open_fork(inner);
     assert!(!task.fits(outer) && task.fits(inner));
     assert!(task.fits(record(TARGET, 3)) && !task.fits(record(TARGET, 4)));
+    // No order leads here, but the rule speaks of every fork, not of the innermost.
+    task.open_fork(outer);
+    assert!(!task.fits(outer) && !task.fits(inner));
+    assert_eq!(task.close_fork(), outer);
     assert_eq!(task.close_fork(), inner);
     assert_eq!(task.close_fork(), inner);
     assert!(task.fits(outer));

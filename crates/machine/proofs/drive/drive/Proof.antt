@@ -1,0 +1,389 @@
+-- `drive` meets its contract: from the loop's head on, the turns with the fuel that is left are the whole loop.
+use mathlib.Core.Path.{_≡_, refl, sym, ap, _∙_}
+use mathlib.Core.Bool.{true}
+use Prim.Native.Nat.{ℕ, _+_, _-_, _*_, _<_, _≤_}
+use lib.ListN.{getD}
+use Rattle.machine.specs.Driving.{goesOn, nextSlot}
+use Rattle.machine.specs.Slots.{at}
+use Rattle.image.specs.declared.Instruction.{Instruction}
+use Rattle.task.specs.declared.Value.{Value}
+use Rattle.task.specs.declared.Executed.{Executed}
+use Rattle.task.specs.declared.Kind.the-variants.{Goes}
+use Rattle.task.specs.Frames.{running}
+use Rattle.machine.specs.declared.Machine.{Machine}
+use Rattle.machine.specs.Picking.{issued}
+use Rattle.machine.specs.Slots.{Sized}
+use Rattle.machine.proofs.Sizes.{length-by}
+use Rattle.machine.proofs.Models.{Allowed}
+use Rattle.machine.proofs.ShapeLaws.{Fits, shape-allowed, shape-fits}
+use Rattle.machine.proofs.Owning.{own-allowed, own-fits, places-most}
+use Rattle.machine.proofs.Readiness.{its-instruction, s-small, r-small, label-small, left-read, right-read, ready}
+use Rattle.machine.proofs.Issuing.{Fetched, stores-issued, goes-issued, ends-issued, faults-issued, forks-issued}
+use Rattle.machine.proofs.Turning.{Goes, goes, Head, passed-over, issued-there, rests}
+use Rattle.task.specs.Frames.{zeroRegister}
+use Rattle.machine.specs.Slots.{ticked}
+use borrow.Author.Needs.{needs}
+use native.Mathlib.Omega.{arith}
+use Rattle.machine.proofs.drive.drive.Statement.{statement}
+use Rattle.machine.proofs.drive.drive.Tie as tie
+
+abbrev Inv-loop : tie.InvT-loop
+Inv-loop cells words slot budget m₀ k₀ idle₀ left₀ m k idle left = Head cells words (m₀ .interval) (m₀ .places) (record { machine = m₀; slot = slot; idle = 0; left = budget }) (65 * budget + 64) m k idle left
+
+abbrev μ-loop : tie.MeasureT-loop
+μ-loop cells words slot budget m₀ k₀ idle₀ left₀ m k idle left = 65 * left + (64 - idle)
+
+-- ---- places of the code, each by its own record
+
+abbrev Runs : Type 0
+Runs = tie.Then2 Inv-loop μ-loop
+
+abbrev Done : Type 0
+Done = tie.After-next Inv-loop μ-loop
+
+abbrev turning : Runs → tie.Then1 Inv-loop μ-loop
+turning c = c .before .before .before
+
+abbrev head : tie.Then1 Inv-loop μ-loop → tie.At-loop Inv-loop μ-loop
+head c = c .before .before
+
+abbrev entry : tie.At-loop Inv-loop μ-loop → tie.Start Inv-loop μ-loop
+entry c = c .before .before
+
+job-allowed : (c : tie.Start Inv-loop μ-loop) → Allowed (c .args .cells .now) (c .args .machine .interval) (c .args .machine .places)
+job-allowed c = shape-allowed (c .args .cells .now) (c .args .machine) (c .pre .0) (c .pre .2)
+
+slots-most : (c : tie.Start Inv-loop μ-loop) → c .args .machine .places ≤ 64
+slots-most c = places-most (c .args .machine .places) (job-allowed c .places-allowed)
+
+slot-inside : (c : tie.At-loop Inv-loop μ-loop) → c .loop .k < 64
+slot-inside c = omega (arith, c .loop .inv .slot-below, slots-most (entry c))
+
+test : (c : tie.Then1 Inv-loop μ-loop) → goesOn (head c .loop .left) (head c .loop .m .work) (head c .loop .idle) (head c .loop .m .places) ≡ true
+test c = sym (c .before .goes-on .ensures) ∙ c .if1 .taken
+
+goes-at : (c : tie.Then1 Inv-loop μ-loop) → Goes (head c .loop .left) (head c .loop .m .work) (head c .loop .idle) (head c .loop .m .places)
+goes-at c = goes _ _ _ _ (test c)
+
+-- ---- a running task
+
+abbrev at-head : Runs → tie.At-loop Inv-loop μ-loop
+at-head c = head (turning c)
+
+allowed-at : (c : Runs) → Allowed (entry (at-head c) .args .cells .now) (at-head c .loop .m .interval) (at-head c .loop .m .places)
+allowed-at c = own-allowed (at-head c .loop .inv .fits) (job-allowed (entry (at-head c)))
+
+fits-at : (c : Runs) → Fits (entry (at-head c) .args .cells .now) (at-head c .loop .m .interval) (at-head c .loop .m .places) (at-head c .loop .m)
+fits-at c = own-fits (at-head c .loop .inv .fits)
+
+below-at : (c : Runs) → at-head c .loop .k < at-head c .loop .m .places
+below-at c = omega (arith, at-head c .loop .inv .slot-below, at-head c .loop .inv .fits .its-places)
+
+runs-at : (c : Runs) → running (at (at-head c .loop .m) (at-head c .loop .k)) ≡ true
+runs-at c = sym (c .before .is-running .ensures) ∙ c .if2 .taken
+
+-- ---- an instruction that was carried out
+
+abbrev running-of : Done → Runs
+running-of c = c .before .before .before .before .before .before .before .before
+
+abbrev m-of : Done → Machine
+m-of c = at-head (running-of c) .loop .m
+
+abbrev k-of : Done → ℕ
+k-of c = at-head (running-of c) .loop .k
+
+abbrev args-of : (c : Done) → tie.Start Inv-loop μ-loop
+args-of c = entry (at-head (running-of c))
+
+abbrev x-of : Done → Instruction
+x-of c = c .before .before .before .before .before .before .instruction-of .result
+
+abbrev e-of : Done → Executed
+e-of c = c .before .execute .result
+
+abbrev s-of : Done → Value
+s-of c = getD (m-of c .bank) (16 * k-of c + x-of c .s) zeroRegister .value
+
+fetched-at : (c : Done) → Fetched (args-of c .args .cells .now) (args-of c .args .words .now) (m-of c) (k-of c) (x-of c) (s-of c) (c .before .before .operand .result) (e-of c)
+fetched-at c =
+    let r = running-of c in
+    let x = x-of c in
+    let p = c .before .before .before .before .before .before .instruction-of .ensures in
+    let w = args-of c .args .words .now in
+    record {
+      instruction = p;
+      left-value = left-read (allowed-at r) w (fits-at r) (below-at r) (runs-at r) x p;
+      right-value = right-read (allowed-at r) w (fits-at r) (below-at r) (runs-at r) x p (c .before .before .operand .result) (c .before .before .operand .ensures);
+      outcome = c .before .execute .ensures;
+    }
+
+r-inside : (c : Done) → x-of c .r < 16
+r-inside c =
+    let r = running-of c in
+    omega (arith, r-small (allowed-at r) (args-of c .args .words .now) (fits-at r) (below-at r) (runs-at r) (x-of c) (c .before .before .before .before .before .before .instruction-of .ensures))
+
+again : (c : Done) (m′ : Machine) (n : ℕ) → m′ ≡ issued (args-of c .args .cells .now) (args-of c .args .words .now) (m-of c) (k-of c) → n ≡ nextSlot (m-of c .places) (k-of c)
+    → Head (args-of c .args .cells .now) (args-of c .args .words .now) (args-of c .args .machine .interval) (args-of c .args .machine .places)
+    (record { machine = args-of c .args .machine; slot = args-of c .args .slot; idle = 0; left = args-of c .args .budget }) (65 * args-of c .args .budget + 64) m′ n 0 (at-head (running-of c) .loop .left - 1)
+again c m′ n p e =
+    issued-there (args-of c .args .cells .now) (args-of c .args .words .now) (job-allowed (args-of c)) (slots-most (args-of c)) (at-head (running-of c) .loop .inv) (test (turning (running-of c))) m′ n (runs-at (running-of c)) p e
+
+loop-holds : tie.Need-loop-holds Inv-loop μ-loop
+loop-holds c =
+    let sized : Sized (c .before .args .machine) = record { of-bank = search (needs, length-by); of-tasks = search (needs, length-by) } in
+    record { fits = shape-fits (c .before .args .cells .now) (c .before .args .machine) sized (c .before .pre .2); slot-below = c .before .pre .3; fuel = 65 * c .before .args .budget + 64; enough = omega arith; same = refl }
+
+goes-on-requires : tie.Need-goes-on-requires Inv-loop μ-loop
+goes-on-requires c κs = search needs
+
+mul-t : tie.Need-mul-t Inv-loop μ-loop
+mul-t c = omega (arith, slot-inside (c .before .before))
+
+element-copy-out-t : tie.Need-element-copy-out-t Inv-loop μ-loop
+element-copy-out-t c = omega (arith, slot-inside (c .before .before))
+
+is-running-requires : tie.Need-is-running-requires Inv-loop μ-loop
+is-running-requires c κs = search needs
+
+cast-instruction-of : tie.Need-cast-instruction-of Inv-loop μ-loop
+cast-instruction-of c = search needs
+
+instruction-of-requires : tie.Need-instruction-of-requires Inv-loop μ-loop
+instruction-of-requires c κs = omega (arith, (its-instruction (allowed-at (c .before)) (entry (at-head (c .before)) .args .words .now) (fits-at (c .before)) (below-at (c .before)) (runs-at (c .before))) .is-stored, c .before .before .before .before .before .before .before .before .pre .1)
+
+mul-base : tie.Need-mul-base Inv-loop μ-loop
+mul-base c = omega (arith, slot-inside (c .before .before .before .before .before .before .before))
+
+add-at-s : tie.Need-add-at-s Inv-loop μ-loop
+add-at-s c = omega (arith, slot-inside (c .before .before .before .before .before .before .before), s-small (allowed-at (c .before .before)) (entry (at-head (c .before .before)) .args .words .now) (fits-at (c .before .before)) (below-at (c .before .before)) (runs-at (c .before .before)) (c .instruction-of .result) (c .instruction-of .ensures))
+
+mul-left-register : tie.Need-mul-left-register Inv-loop μ-loop
+mul-left-register c = omega (arith, slot-inside (c .before .before .before .before .before .before .before), s-small (allowed-at (c .before .before)) (entry (at-head (c .before .before)) .args .words .now) (fits-at (c .before .before)) (below-at (c .before .before)) (runs-at (c .before .before)) (c .instruction-of .result) (c .instruction-of .ensures))
+
+element-copy-out-left-register : tie.Need-element-copy-out-left-register Inv-loop μ-loop
+element-copy-out-left-register c = omega (arith, slot-inside (c .before .before .before .before .before .before .before), s-small (allowed-at (c .before .before)) (entry (at-head (c .before .before)) .args .words .now) (fits-at (c .before .before)) (below-at (c .before .before)) (runs-at (c .before .before)) (c .instruction-of .result) (c .instruction-of .ensures))
+
+add-at-v : tie.Need-add-at-v Inv-loop μ-loop
+add-at-v c = omega (arith, slot-inside (c .before .before .before .before .before .before .before .before .before))
+
+mul-right-register : tie.Need-mul-right-register Inv-loop μ-loop
+mul-right-register c = omega (arith, slot-inside (c .before .before .before .before .before .before .before .before .before))
+
+element-copy-out-right-register : tie.Need-element-copy-out-right-register Inv-loop μ-loop
+element-copy-out-right-register c = omega (arith, slot-inside (c .before .before .before .before .before .before .before .before .before))
+
+operand-requires : tie.Need-operand-requires Inv-loop μ-loop
+operand-requires c κs = label-small (allowed-at (c .before .before .before .before .before)) (entry (at-head (c .before .before .before .before .before)) .args .words .now) (fits-at (c .before .before .before .before .before)) (below-at (c .before .before .before .before .before)) (runs-at (c .before .before .before .before .before)) (c .before .before .before .instruction-of .result) (c .before .before .before .instruction-of .ensures)
+
+cast-execute : tie.Need-cast-execute Inv-loop μ-loop
+cast-execute c = search needs
+
+execute-requires : tie.Need-execute-requires Inv-loop μ-loop
+execute-requires c κs = ready (allowed-at (c .before .before .before .before .before .before)) (entry (at-head (c .before .before .before .before .before .before)) .args .words .now) (fits-at (c .before .before .before .before .before .before)) (below-at (c .before .before .before .before .before .before)) (runs-at (c .before .before .before .before .before .before)) (c .before .before .before .before .instruction-of .result) (c .before .before .before .before .instruction-of .ensures) _ (c .operand .result) (left-read (allowed-at (c .before .before .before .before .before .before)) (entry (at-head (c .before .before .before .before .before .before)) .args .words .now) (fits-at (c .before .before .before .before .before .before)) (below-at (c .before .before .before .before .before .before)) (runs-at (c .before .before .before .before .before .before)) (c .before .before .before .before .instruction-of .result) (c .before .before .before .before .instruction-of .ensures)) (right-read (allowed-at (c .before .before .before .before .before .before)) (entry (at-head (c .before .before .before .before .before .before)) .args .words .now) (fits-at (c .before .before .before .before .before .before)) (below-at (c .before .before .before .before .before .before)) (runs-at (c .before .before .before .before .before .before)) (c .before .before .before .before .instruction-of .result) (c .before .before .before .before .instruction-of .ensures) (c .operand .result) (c .operand .ensures)) (goes-at (turning (c .before .before .before .before .before .before)) .below-limit)
+
+enum-told : tie.Need-enum-told Inv-loop μ-loop
+enum-told c = search needs
+
+add-at-r : tie.Need-add-at-r Inv-loop μ-loop
+add-at-r c = omega (arith, slot-inside (c .before .before .before .before .before .before .before .before .before .before .before .before .before .before .before), r-inside (c .before .before))
+
+mul-next : tie.Need-mul-next Inv-loop μ-loop
+mul-next c = omega (arith, slot-inside (c .before .before .before .before .before .before .before .before .before .before .before .before .before .before .before))
+
+element-set-from-next : tie.Need-element-set-from-next Inv-loop μ-loop
+element-set-from-next c = omega (arith, slot-inside (c .before .before .before .before .before .before .before .before .before .before .before .before .before .before .before))
+
+mul-t43 : tie.Need-mul-t43 Inv-loop μ-loop
+mul-t43 c = omega (arith, slot-inside (c .before .before .before .before .before .before .before .before .before .before .before .before .before .before .before), r-inside (c .before .before))
+
+element-set-from-m : tie.Need-element-set-from-m Inv-loop μ-loop
+element-set-from-m c = omega (arith, slot-inside (c .before .before .before .before .before .before .before .before .before .before .before .before .before .before .before), r-inside (c .before .before))
+
+add-m : tie.Need-add-m Inv-loop μ-loop
+add-m c = omega (arith, goes-at (turning (c .before .before .before .before .before .before .before .before .before .before)))
+
+sub-left : tie.Need-sub-left Inv-loop μ-loop
+sub-left c = omega (arith, goes-at (turning (c .before .before .before .before .before .before .before .before .before .before)))
+
+next-slot-requires : tie.Need-next-slot-requires Inv-loop μ-loop
+next-slot-requires c κs = slot-inside (c .before .before .before .before .before .before .before .before .before .before .before .before .before .before .before)
+
+loop-less : tie.Need-loop-less Inv-loop μ-loop
+loop-less c = omega (arith, goes-at (turning (c .before .before .before .before .before .before .before .before .before .before .before)))
+
+loop-again : tie.Need-loop-again Inv-loop μ-loop
+loop-again c = again (c .before .before .before) _ _ (stores-issued (allowed-at (running-of (c .before .before .before))) (fits-at (running-of (c .before .before .before))) (below-at (running-of (c .before .before .before))) (runs-at (running-of (c .before .before .before))) (fetched-at (c .before .before .before)) (search needs) (r-inside (c .before .before .before))) (c .next-slot .ensures)
+
+enum-told-2 : tie.Need-enum-told-2 Inv-loop μ-loop
+enum-told-2 c = search needs
+
+mul-next-2 : tie.Need-mul-next-2 Inv-loop μ-loop
+mul-next-2 c = omega (arith, slot-inside (c .before .before .before .before .before .before .before .before .before .before .before .before .before .before .before))
+
+element-set-from-next-2 : tie.Need-element-set-from-next-2 Inv-loop μ-loop
+element-set-from-next-2 c = omega (arith, slot-inside (c .before .before .before .before .before .before .before .before .before .before .before .before .before .before .before))
+
+add-m-2 : tie.Need-add-m-2 Inv-loop μ-loop
+add-m-2 c = omega (arith, goes-at (turning (c .before .before .before .before .before .before .before .before .before .before)))
+
+sub-left-2 : tie.Need-sub-left-2 Inv-loop μ-loop
+sub-left-2 c = omega (arith, goes-at (turning (c .before .before .before .before .before .before .before .before .before .before)))
+
+next-slot-requires-2 : tie.Need-next-slot-requires-2 Inv-loop μ-loop
+next-slot-requires-2 c κs = slot-inside (c .before .before .before .before .before .before .before .before .before .before .before .before .before .before .before)
+
+loop-less-2 : tie.Need-loop-less-2 Inv-loop μ-loop
+loop-less-2 c = omega (arith, goes-at (turning (c .before .before .before .before .before .before .before .before .before .before .before)))
+
+loop-again-2 : tie.Need-loop-again-2 Inv-loop μ-loop
+loop-again-2 c = again (c .before .before .before) _ _ (goes-issued (allowed-at (running-of (c .before .before .before))) (fits-at (running-of (c .before .before .before))) (below-at (running-of (c .before .before .before))) (runs-at (running-of (c .before .before .before))) (fetched-at (c .before .before .before)) (search needs)) (c .next-slot2 .ensures)
+
+enum-told-3 : tie.Need-enum-told-3 Inv-loop μ-loop
+enum-told-3 c = search needs
+
+end-side-requires : tie.Need-end-side-requires Inv-loop μ-loop
+end-side-requires c κs = ?es
+
+add-m-3 : tie.Need-add-m-3 Inv-loop μ-loop
+add-m-3 c = omega (arith, goes-at (turning (c .before .before .before .before .before .before .before .before .before .before .before)))
+
+sub-left-3 : tie.Need-sub-left-3 Inv-loop μ-loop
+sub-left-3 c = omega (arith, goes-at (turning (c .before .before .before .before .before .before .before .before .before .before .before)))
+
+next-slot-requires-3 : tie.Need-next-slot-requires-3 Inv-loop μ-loop
+next-slot-requires-3 c κs = slot-inside (c .before .before .before .before .before .before .before .before .before .before .before .before .before .before .before .before)
+
+loop-less-3 : tie.Need-loop-less-3 Inv-loop μ-loop
+loop-less-3 c = omega (arith, goes-at (turning (c .before .before .before .before .before .before .before .before .before .before .before .before)))
+
+loop-again-3 : tie.Need-loop-again-3 Inv-loop μ-loop
+loop-again-3 c = again (c .before .before .before .before) _ _ (ap ticked (c .before .end-side .ensures) ∙ ends-issued (allowed-at (running-of (c .before .before .before .before))) (fits-at (running-of (c .before .before .before .before))) (below-at (running-of (c .before .before .before .before))) (runs-at (running-of (c .before .before .before .before))) (fetched-at (c .before .before .before .before)) (search needs)) (?n3)
+
+enum-told-4 : tie.Need-enum-told-4 Inv-loop μ-loop
+enum-told-4 c = search needs
+
+fault-side-requires : tie.Need-fault-side-requires Inv-loop μ-loop
+fault-side-requires c κs = ?fs
+
+add-m-4 : tie.Need-add-m-4 Inv-loop μ-loop
+add-m-4 c = omega (arith, goes-at (turning (c .before .before .before .before .before .before .before .before .before .before .before)))
+
+sub-left-4 : tie.Need-sub-left-4 Inv-loop μ-loop
+sub-left-4 c = omega (arith, goes-at (turning (c .before .before .before .before .before .before .before .before .before .before .before)))
+
+next-slot-requires-4 : tie.Need-next-slot-requires-4 Inv-loop μ-loop
+next-slot-requires-4 c κs = slot-inside (c .before .before .before .before .before .before .before .before .before .before .before .before .before .before .before .before)
+
+loop-less-4 : tie.Need-loop-less-4 Inv-loop μ-loop
+loop-less-4 c = omega (arith, goes-at (turning (c .before .before .before .before .before .before .before .before .before .before .before .before)))
+
+loop-again-4 : tie.Need-loop-again-4 Inv-loop μ-loop
+loop-again-4 c = again (c .before .before .before .before) _ _ (ap ticked (c .before .fault-side .ensures) ∙ faults-issued (allowed-at (running-of (c .before .before .before .before))) (fits-at (running-of (c .before .before .before .before))) (below-at (running-of (c .before .before .before .before))) (runs-at (running-of (c .before .before .before .before))) (fetched-at (c .before .before .before .before)) (search needs)) (?n4)
+
+enum-known-kind : tie.Need-enum-known-kind Inv-loop μ-loop
+enum-known-kind c = search needs
+
+split-requires : tie.Need-split-requires Inv-loop μ-loop
+split-requires c κs = slot-inside (c .before .before .before .before .before .before .before .before .before .before .before .before .before .before .before .before)
+
+add-m-5 : tie.Need-add-m-5 Inv-loop μ-loop
+add-m-5 c = omega (arith, goes-at (turning (c .before .before .before .before .before .before .before .before .before .before .before .before)))
+
+sub-left-5 : tie.Need-sub-left-5 Inv-loop μ-loop
+sub-left-5 c = omega (arith, goes-at (turning (c .before .before .before .before .before .before .before .before .before .before .before .before)))
+
+next-slot-requires-5 : tie.Need-next-slot-requires-5 Inv-loop μ-loop
+next-slot-requires-5 c κs = slot-inside (c .before .before .before .before .before .before .before .before .before .before .before .before .before .before .before .before .before)
+
+loop-less-5 : tie.Need-loop-less-5 Inv-loop μ-loop
+loop-less-5 c = omega (arith, goes-at (turning (c .before .before .before .before .before .before .before .before .before .before .before .before .before)))
+
+loop-again-5 : tie.Need-loop-again-5 Inv-loop μ-loop
+loop-again-5 c = again (c .before .before .before .before .before) _ _ (ap ticked (c .before .split .ensures) ∙ forks-issued (allowed-at (running-of (c .before .before .before .before .before))) (fits-at (running-of (c .before .before .before .before .before))) (below-at (running-of (c .before .before .before .before .before))) (runs-at (running-of (c .before .before .before .before .before))) (fetched-at (c .before .before .before .before .before)) _ ?k5) (?n5)
+
+add-idle : tie.Need-add-idle Inv-loop μ-loop
+add-idle c = omega (arith, goes-at (c .before .before .before), slots-most (entry (c .before .before .before .before .before)), c .before .before .before .before .before .loop .inv .fits .its-places)
+
+next-slot-requires-6 : tie.Need-next-slot-requires-6 Inv-loop μ-loop
+next-slot-requires-6 c κs = slot-inside (c .before .before .before .before .before)
+
+loop-less-6 : tie.Need-loop-less-6 Inv-loop μ-loop
+loop-less-6 c = omega (arith, goes-at (c .before .before .before .before), slots-most (entry (c .before .before .before .before .before .before)), c .before .before .before .before .before .before .loop .inv .fits .its-places)
+
+loop-again-6 : tie.Need-loop-again-6 Inv-loop μ-loop
+loop-again-6 c = passed-over (c .before .before .before .before .before .before .before .before .args .cells .now) (c .before .before .before .before .before .before .before .before .args .words .now) (job-allowed (entry (c .before .before .before .before .before .before))) (slots-most (entry (c .before .before .before .before .before .before))) (c .before .before .before .before .before .before .loop .inv) (test (c .before .before .before .before)) _ (sym (c .before .before .is-running .ensures) ∙ c .before .if2 .left) (c .next-slot6 .ensures)
+
+returns : tie.Need-returns Inv-loop μ-loop
+returns c =
+    let e = c .before .before .loop .inv .same ∙ rests (c .before .before .before .before .args .cells .now) (c .before .before .before .before .args .words .now) (c .before .before .loop .inv .fuel) (record { machine = c .before .before .loop .m; slot = c .before .before .loop .k; idle = c .before .before .loop .idle; left = c .before .before .loop .left }) (sym (c .before .goes-on .ensures) ∙ c .if1 .left) in
+    λ j. record { machine = sym e j .machine; left = sym e j .left }
+
+pub drive-spec : {M : Type 1} → statement M
+drive-spec =
+    tie.close
+    (tie.spec
+    Inv-loop
+    μ-loop
+    loop-holds
+    goes-on-requires
+    mul-t
+    element-copy-out-t
+    is-running-requires
+    cast-instruction-of
+    instruction-of-requires
+    mul-base
+    add-at-s
+    mul-left-register
+    element-copy-out-left-register
+    add-at-v
+    mul-right-register
+    element-copy-out-right-register
+    operand-requires
+    cast-execute
+    execute-requires
+    enum-told
+    add-at-r
+    mul-next
+    element-set-from-next
+    mul-t43
+    element-set-from-m
+    add-m
+    sub-left
+    next-slot-requires
+    loop-less
+    loop-again
+    enum-told-2
+    mul-next-2
+    element-set-from-next-2
+    add-m-2
+    sub-left-2
+    next-slot-requires-2
+    loop-less-2
+    loop-again-2
+    enum-told-3
+    end-side-requires
+    add-m-3
+    sub-left-3
+    next-slot-requires-3
+    loop-less-3
+    loop-again-3
+    enum-told-4
+    fault-side-requires
+    add-m-4
+    sub-left-4
+    next-slot-requires-4
+    loop-less-4
+    loop-again-4
+    enum-known-kind
+    split-requires
+    add-m-5
+    sub-left-5
+    next-slot-requires-5
+    loop-less-5
+    loop-again-5
+    add-idle
+    next-slot-requires-6
+    loop-less-6
+    loop-again-6
+    returns)
