@@ -8,7 +8,7 @@ use lib.IntN.{ℤ}
 use lib.ListN.{getD, set}
 use Rattle.agreement.specs.Plain.{Stepped, one, two}
 use Rattle.agreement.specs.Slots.{settle, carry}
-use Rattle.agreement.specs.SlotLaws.{carry-one, carry-two}
+use Rattle.agreement.specs.SlotLaws.{carry-one, carry-two, settle-keeps}
 use Rattle.image.specs.declared.Instruction.{Instruction}
 use Rattle.image.specs.Layout.{instructionOf}
 use Rattle.task.specs.declared.Value.{Value}
@@ -25,10 +25,12 @@ use Rattle.task.proofs.Executing.{step-executed}
 use Rattle.task.proofs.RunsOn.{stores-runs-on, goes-runs-on}
 use Rattle.machine.specs.declared.Machine.{Machine}
 use Rattle.machine.specs.Slots.{at, put, ticked, slotsOf}
+use Rattle.machine.specs.Settling.{JoinSafe}
 use Rattle.machine.specs.Picking.{issued}
 use Rattle.machine.proofs.InPlace.{withTaskAt, storedAt, put-task, put-stored}
 use Rattle.machine.proofs.Models.{Allowed}
 use Rattle.machine.proofs.ShapeLaws.{Fits}
+use Rattle.machine.proofs.SettleSafety.{stepped-safe}
 use Rattle.machine.proofs.Carrying.{goes-on-alone}
 
 -- what was read, and what came of it
@@ -91,3 +93,18 @@ module _ {cells : List ℕ} {words : List ℤ} {m : Machine} {k : ℕ} {x : Inst
       ≡ issued cells words m k
   forks-issued pc h =
       ap ticked (sym (carry-two (slotsOf cells) (step cells words (m .interval)) m k (record { task = e .task; registers = f .registers }) (record { task = movedTo pc 0 (e .task); registers = f .registers }) (steps-by (Forks pc) h)))
+
+  -- what a join that falls due then needs
+  pub ends-safe : e .kind ≡ Ends → k < 64 → JoinSafe cells (e .task)
+  ends-safe h b = stepped-safe allowed m fits words k (record { task = e .task; registers = f .registers }) b runs (steps-by Ends h)
+
+  pub faults-safe : e .kind ≡ Faults → k < 64 → JoinSafe cells (e .task)
+  faults-safe h b = stepped-safe allowed m fits words k (record { task = e .task; registers = zeros }) b runs (steps-by Faults h)
+
+-- the joins leave the work and the places
+module _ (cells : List ℕ) (d : ℕ) (m : Machine) (k : ℕ) (g : Frame) where
+  pub ended-work : settle (slotsOf cells) d (put m k g) k .work ≡ m .work
+  ended-work = settle-keeps (slotsOf cells) (λ (n : Machine). n .work) (λ n i h. refl) d (put m k g) k
+
+  pub ended-places : settle (slotsOf cells) d (put m k g) k .places ≡ m .places
+  ended-places = settle-keeps (slotsOf cells) (λ (n : Machine). n .places) (λ n i h. refl) d (put m k g) k

@@ -8,7 +8,6 @@ use Rattle.machine.specs.Slots.{at}
 use Rattle.image.specs.declared.Instruction.{Instruction}
 use Rattle.task.specs.declared.Value.{Value}
 use Rattle.task.specs.declared.Executed.{Executed}
-use Rattle.task.specs.declared.Kind.the-variants.{Goes}
 use Rattle.task.specs.Frames.{running}
 use Rattle.machine.specs.declared.Machine.{Machine}
 use Rattle.machine.specs.Picking.{issued}
@@ -16,9 +15,10 @@ use Rattle.machine.specs.Slots.{Sized}
 use Rattle.machine.proofs.Sizes.{length-by}
 use Rattle.machine.proofs.Models.{Allowed}
 use Rattle.machine.proofs.ShapeLaws.{Fits, shape-allowed, shape-fits}
+use Rattle.machine.proofs.SettleSafety.{fits-safe}
 use Rattle.machine.proofs.Owning.{own-allowed, own-fits, places-most}
 use Rattle.machine.proofs.Readiness.{its-instruction, s-small, r-small, label-small, left-read, right-read, ready}
-use Rattle.machine.proofs.Issuing.{Fetched, stores-issued, goes-issued, ends-issued, faults-issued, forks-issued}
+use Rattle.machine.proofs.Issuing.{Fetched, ended-work, ended-places, stores-issued, goes-issued, ends-issued, faults-issued, forks-issued, ends-safe, faults-safe}
 use Rattle.machine.proofs.Turning.{Goes, goes, Head, passed-over, issued-there, rests}
 use Rattle.task.specs.Frames.{zeroRegister}
 use Rattle.machine.specs.Slots.{ticked}
@@ -243,10 +243,10 @@ enum-told-3 : tie.Need-enum-told-3 Inv-loop μ-loop
 enum-told-3 c = search needs
 
 end-side-requires : tie.Need-end-side-requires Inv-loop μ-loop
-end-side-requires c κs = ?es
+end-side-requires c κs = (c .before .before .before .before .before .before .before .before .before .before .before .before .before .before .before .before .before .pre .0, fits-safe (allowed-at (running-of (c .before .before))) (m-of (c .before .before)) (fits-at (running-of (c .before .before))), ends-safe (allowed-at (running-of (c .before .before))) (fits-at (running-of (c .before .before))) (below-at (running-of (c .before .before))) (runs-at (running-of (c .before .before))) (fetched-at (c .before .before)) (search needs) (slot-inside (c .before .before .before .before .before .before .before .before .before .before .before .before .before .before .before)), slot-inside (c .before .before .before .before .before .before .before .before .before .before .before .before .before .before .before))
 
 add-m-3 : tie.Need-add-m-3 Inv-loop μ-loop
-add-m-3 c = omega (arith, goes-at (turning (c .before .before .before .before .before .before .before .before .before .before .before)))
+add-m-3 c = omega (arith, goes-at (turning (c .before .before .before .before .before .before .before .before .before .before .before)), ap (λ (n : Machine). n .work) (c .end-side .ensures) ∙ ended-work (c .before .before .before .before .before .before .before .before .before .before .before .before .before .before .before .before .before .before .args .cells .now) (e-of (c .before .before .before) .task .depth) (m-of (c .before .before .before)) (k-of (c .before .before .before)) _)
 
 sub-left-3 : tie.Need-sub-left-3 Inv-loop μ-loop
 sub-left-3 c = omega (arith, goes-at (turning (c .before .before .before .before .before .before .before .before .before .before .before)))
@@ -258,16 +258,16 @@ loop-less-3 : tie.Need-loop-less-3 Inv-loop μ-loop
 loop-less-3 c = omega (arith, goes-at (turning (c .before .before .before .before .before .before .before .before .before .before .before .before)))
 
 loop-again-3 : tie.Need-loop-again-3 Inv-loop μ-loop
-loop-again-3 c = again (c .before .before .before .before) _ _ (ap ticked (c .before .end-side .ensures) ∙ ends-issued (allowed-at (running-of (c .before .before .before .before))) (fits-at (running-of (c .before .before .before .before))) (below-at (running-of (c .before .before .before .before))) (runs-at (running-of (c .before .before .before .before))) (fetched-at (c .before .before .before .before)) (search needs)) (?n3)
+loop-again-3 c = again (c .before .before .before .before) _ _ (ap ticked (c .before .end-side .ensures) ∙ ends-issued (allowed-at (running-of (c .before .before .before .before))) (fits-at (running-of (c .before .before .before .before))) (below-at (running-of (c .before .before .before .before))) (runs-at (running-of (c .before .before .before .before))) (fetched-at (c .before .before .before .before)) (search needs)) (c .next-slot3 .ensures ∙ ap (λ (p : ℕ). nextSlot p (k-of (c .before .before .before .before))) (ap (λ (n : Machine). n .places) (c .before .end-side .ensures) ∙ ended-places (c .before .before .before .before .before .before .before .before .before .before .before .before .before .before .before .before .before .before .before .args .cells .now) (e-of (c .before .before .before .before) .task .depth) (m-of (c .before .before .before .before)) (k-of (c .before .before .before .before)) _))
 
 enum-told-4 : tie.Need-enum-told-4 Inv-loop μ-loop
 enum-told-4 c = search needs
 
 fault-side-requires : tie.Need-fault-side-requires Inv-loop μ-loop
-fault-side-requires c κs = ?fs
+fault-side-requires c κs = (c .before .before .before .before .before .before .before .before .before .before .before .before .before .before .before .before .before .pre .0, fits-safe (allowed-at (running-of (c .before .before))) (m-of (c .before .before)) (fits-at (running-of (c .before .before))), faults-safe (allowed-at (running-of (c .before .before))) (fits-at (running-of (c .before .before))) (below-at (running-of (c .before .before))) (runs-at (running-of (c .before .before))) (fetched-at (c .before .before)) (search needs) (slot-inside (c .before .before .before .before .before .before .before .before .before .before .before .before .before .before .before)), slot-inside (c .before .before .before .before .before .before .before .before .before .before .before .before .before .before .before))
 
 add-m-4 : tie.Need-add-m-4 Inv-loop μ-loop
-add-m-4 c = omega (arith, goes-at (turning (c .before .before .before .before .before .before .before .before .before .before .before)))
+add-m-4 c = omega (arith, goes-at (turning (c .before .before .before .before .before .before .before .before .before .before .before)), ap (λ (n : Machine). n .work) (c .fault-side .ensures) ∙ ended-work (c .before .before .before .before .before .before .before .before .before .before .before .before .before .before .before .before .before .before .args .cells .now) (e-of (c .before .before .before) .task .depth) (m-of (c .before .before .before)) (k-of (c .before .before .before)) _)
 
 sub-left-4 : tie.Need-sub-left-4 Inv-loop μ-loop
 sub-left-4 c = omega (arith, goes-at (turning (c .before .before .before .before .before .before .before .before .before .before .before)))
@@ -279,7 +279,7 @@ loop-less-4 : tie.Need-loop-less-4 Inv-loop μ-loop
 loop-less-4 c = omega (arith, goes-at (turning (c .before .before .before .before .before .before .before .before .before .before .before .before)))
 
 loop-again-4 : tie.Need-loop-again-4 Inv-loop μ-loop
-loop-again-4 c = again (c .before .before .before .before) _ _ (ap ticked (c .before .fault-side .ensures) ∙ faults-issued (allowed-at (running-of (c .before .before .before .before))) (fits-at (running-of (c .before .before .before .before))) (below-at (running-of (c .before .before .before .before))) (runs-at (running-of (c .before .before .before .before))) (fetched-at (c .before .before .before .before)) (search needs)) (?n4)
+loop-again-4 c = again (c .before .before .before .before) _ _ (ap ticked (c .before .fault-side .ensures) ∙ faults-issued (allowed-at (running-of (c .before .before .before .before))) (fits-at (running-of (c .before .before .before .before))) (below-at (running-of (c .before .before .before .before))) (runs-at (running-of (c .before .before .before .before))) (fetched-at (c .before .before .before .before)) (search needs)) (c .next-slot4 .ensures ∙ ap (λ (p : ℕ). nextSlot p (k-of (c .before .before .before .before))) (ap (λ (n : Machine). n .places) (c .before .fault-side .ensures) ∙ ended-places (c .before .before .before .before .before .before .before .before .before .before .before .before .before .before .before .before .before .before .before .args .cells .now) (e-of (c .before .before .before .before) .task .depth) (m-of (c .before .before .before .before)) (k-of (c .before .before .before .before)) _))
 
 enum-known-kind : tie.Need-enum-known-kind Inv-loop μ-loop
 enum-known-kind c = search needs
@@ -288,7 +288,7 @@ split-requires : tie.Need-split-requires Inv-loop μ-loop
 split-requires c κs = slot-inside (c .before .before .before .before .before .before .before .before .before .before .before .before .before .before .before .before)
 
 add-m-5 : tie.Need-add-m-5 Inv-loop μ-loop
-add-m-5 c = omega (arith, goes-at (turning (c .before .before .before .before .before .before .before .before .before .before .before .before)))
+add-m-5 c = omega (arith, goes-at (turning (c .before .before .before .before .before .before .before .before .before .before .before .before)), ap (λ (n : Machine). n .work) (c .split .ensures))
 
 sub-left-5 : tie.Need-sub-left-5 Inv-loop μ-loop
 sub-left-5 c = omega (arith, goes-at (turning (c .before .before .before .before .before .before .before .before .before .before .before .before)))
@@ -300,7 +300,7 @@ loop-less-5 : tie.Need-loop-less-5 Inv-loop μ-loop
 loop-less-5 c = omega (arith, goes-at (turning (c .before .before .before .before .before .before .before .before .before .before .before .before .before)))
 
 loop-again-5 : tie.Need-loop-again-5 Inv-loop μ-loop
-loop-again-5 c = again (c .before .before .before .before .before) _ _ (ap ticked (c .before .split .ensures) ∙ forks-issued (allowed-at (running-of (c .before .before .before .before .before))) (fits-at (running-of (c .before .before .before .before .before))) (below-at (running-of (c .before .before .before .before .before))) (runs-at (running-of (c .before .before .before .before .before))) (fetched-at (c .before .before .before .before .before)) _ ?k5) (?n5)
+loop-again-5 c = again (c .before .before .before .before .before) _ _ (ap ticked (c .before .split .ensures) ∙ forks-issued (allowed-at (running-of (c .before .before .before .before .before))) (fits-at (running-of (c .before .before .before .before .before))) (below-at (running-of (c .before .before .before .before .before))) (runs-at (running-of (c .before .before .before .before .before))) (fetched-at (c .before .before .before .before .before)) _ (search needs)) (c .next-slot5 .ensures ∙ ap (λ (n : Machine). nextSlot (n .places) (k-of (c .before .before .before .before .before))) (c .before .split .ensures))
 
 add-idle : tie.Need-add-idle Inv-loop μ-loop
 add-idle c = omega (arith, goes-at (c .before .before .before), slots-most (entry (c .before .before .before .before .before)), c .before .before .before .before .before .loop .inv .fits .its-places)
