@@ -1,6 +1,6 @@
 -- In a state of the shape the job has ended just where slot 0 has a task at depth 0 that is not running.
 use Prim.Native.Nat.{ℕ, zero, suc}
-use mathlib.Core.Path.{_≡_, refl}
+use mathlib.Core.Path.{_≡_, refl, sym, ap, _∙_}
 use mathlib.Core.Bool.{Bool, true, false, not, cond, _&&_}
 use mathlib.Core.List.{List}
 use native.Mathlib.Omega.{arith}
@@ -18,6 +18,7 @@ use Rattle.task.specs.Formed.{atRest, statusFits}
 use Rattle.task.proofs.Formation.{Formed}
 use Rattle.machine.specs.declared.Machine.{Machine}
 use Rattle.machine.specs.Slots.{at, slotsOf}
+use Rattle.machine.specs.declared.End.{End}
 use Rattle.machine.specs.declared.End.the-variants.{NotEnded, Fault}
 use Rattle.machine.specs.Ending.{endAt, isEnd, jobEnded}
 use Rattle.machine.proofs.Models.{formsOf}
@@ -48,3 +49,7 @@ module _ (cells : List ℕ) (D : ℕ) where
 
   pub ended-is : (T : Tree Frame) (m : Machine) → Holds (slotsOf cells) (formsOf cells D) m 0 D T → jobEnded m ≡ sideEnded (slotsOf cells) m 0 0
   ended-is T m l = end-test (at m 0) (at m 0 .task .status) (first-formed T m 0 D l .1 .status-fits)
+
+-- what is said of a fault's number is said of the status that has it
+pub by-fault : (depth n : ℕ) (s : Status) (r : End) → r ≡ endAt depth (Faulted n) → s ≡ Faulted n → r ≡ endAt depth s
+by-fault depth n s r p e = p ∙ ap (endAt depth) (sym e)

@@ -18,3 +18,10 @@ pub mod SettleLaws
 pub mod ShapeSlots
 pub mod SettleSafety
 pub mod Owning
+pub mod EveryLaws
+pub mod GradeLaws
+pub mod SlotWise
+pub mod TiledLaws
+pub mod CodeLaws
+pub mod MeetsShape
+pub mod Picked

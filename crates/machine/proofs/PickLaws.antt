@@ -26,7 +26,7 @@ use Rattle.machine.specs.Slots.{at, ticked, slotsOf}
 use Rattle.machine.specs.Ending.{jobEnded}
 use Rattle.machine.specs.Starting.{rank}
 use Rattle.machine.specs.Shape.{shape}
-use Rattle.machine.specs.Picking.{workLimit, pickNo, issued, picked}
+use Rattle.machine.specs.Picking.{workLimit, slotNo, pickNoBy, pickNo, issued, picked}
 use Rattle.machine.proofs.EndingLaws.{ended-is}
 use Rattle.machine.proofs.Models.{modelOf, formsOf, Allowed, laws-hold}
 use Rattle.machine.proofs.ShapeLaws.{Fits, fits-shape, fits-shows, pick-fits}
@@ -48,12 +48,12 @@ pub record Lent (cells : List ℕ) (words : List ℤ) : Type 0 where
 -- in a state of the shape 21 to 24 are left
 questions-from-21 : (cells : List ℕ) (words : List ℤ) (m : Machine) (k : ℕ) → programNo cells ≡ 0 → Lent cells words → shape cells m ≡ true
     → pickNo cells words m k ≡ ask (ltb k (m .places)) 21 (ask (not (jobEnded m)) 22 (ask (running (at m k)) 23 (ask (ltb (m .work) workLimit) 24 0)))
-unfolding pickNo orElse
+unfolding pickNoBy slotNo orElse
 questions-from-21 cells words m k e lent s = rw (e, lent .few-words, lent .whole, s)
 
 -- what a pick that is not refused was lent
 pub pick-lent : (cells : List ℕ) (words : List ℤ) (m : Machine) (k : ℕ) → pickNo cells words m k ≡ 0 → Lent cells words
-unfolding pickNo
+unfolding pickNoBy
 pick-lent cells words m k e =
     let p = or-else-both (programNo cells) _ e in
     let a = ask-yes (leb (length words) 4096) 13 _ (p .1) in

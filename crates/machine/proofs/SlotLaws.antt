@@ -2,15 +2,16 @@
 use Prim.Native.Nat.{ℕ, zero, suc, _+_, _*_, _/_, _%_, _≤_, _<_}
 use mathlib.Core.Path.{_≡_, refl, sym, ap, _∙_}
 use mathlib.Core.Logic.{_⊎_, inl, inr, _≢_}
+use mathlib.Core.Bool.{false}
 use mathlib.Core.List.{List, [], _∷_}
 use native.Mathlib.Omega.{arith}
 use native.Mathlib.Nat.{add-zero}
-use lib.ListN.{length, getD, set, length-set}
+use lib.ListN.{length, getD, set, length-set, List·getD-eq-default}
 use lib.Seq.{sets, length-sets, getD-set-same, getD-set-other, ext-getD}
 use Rattle.agreement.specs.Facts.{by-order}
 use Rattle.task.specs.declared.Task.{Task}
 use Rattle.task.specs.declared.Frame.{Frame}
-use Rattle.task.specs.Frames.{zeroRegister, noTask}
+use Rattle.task.specs.Frames.{zeroRegister, noTask, isRunning, running}
 use Rattle.task.proofs.Facts.{set-keeps}
 use Rattle.machine.specs.declared.Machine.{Machine}
 use Rattle.machine.specs.Slots.{reads, at, put, Sized, ticked}
@@ -117,3 +118,7 @@ module _ (m m′ : Machine) (s : Sized m) (s′ : Sized m′) (same : (i : ℕ) 
 
   pub same-state : m .places ≡ m′ .places → m .interval ≡ m′ .interval → m .work ≡ m′ .work → m ≡ m′
   same-state p q r = λ i. record { places = p i; interval = q i; work = r i; bank = same-bank i; tasks = same-tasks i }
+
+-- past the last slot there is no task
+pub no-task-beyond : (m : Machine) (k : ℕ) → length (m .tasks) ≡ 64 → 64 ≤ k → running (at m k) ≡ false
+no-task-beyond m k n h = ap (λ (t : Task). isRunning (t .status)) (List·getD-eq-default (m .tasks) noTask {n = k} (omega arith))

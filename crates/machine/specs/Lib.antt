@@ -6,3 +6,4 @@ pub mod Shape
 pub mod Picking
 pub mod Driving
 pub mod Settling
+pub mod Codes

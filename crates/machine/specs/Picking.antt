@@ -20,18 +20,20 @@ use Rattle.machine.specs.Shape.{shape}
 abbrev pub workLimit : ℕ
 workLimit = 4294967295
 
--- The program's questions, 14 and 15, then: does the state meet the shape test? (20)
 -- Slot below P? (21) Job not ended? (22) A running task there? (23) Work below 4,294,967,295? (24)
-unfoldable pub pickNo : List ℕ → List ℤ → Machine → ℕ → ℕ
-pickNo cells words m k =
+unfoldable pub slotNo : Machine → ℕ → ℕ
+slotNo m k =
+    ask (ltb k (m .places)) 21
+    (ask (not (jobEnded m)) 22 (ask (running (at m k)) 23 (ask (ltb (m .work) workLimit) 24 0)))
+
+-- The program's questions, 14 and 15, then: does the state meet the shape test? (20) Then the slot's. Of the words only their number counts
+unfoldable pub pickNoBy : List ℕ → ℕ → Machine → ℕ → ℕ
+pickNoBy cells words m k =
     orElse (programNo cells)
-    (ask (leb (length words) 4096) 14
-    (ask (eqb (length cells) programCells) 15
-    (ask (shape cells m) 20
-    (ask (ltb k (m .places)) 21
-    (ask (not (jobEnded m)) 22
-    (ask (running (at m k)) 23
-    (ask (ltb (m .work) workLimit) 24 0)))))))
+    (ask (leb words 4096) 14 (ask (eqb (length cells) programCells) 15 (ask (shape cells m) 20 (slotNo m k))))
+
+abbrev pub pickNo : List ℕ → List ℤ → Machine → ℕ → ℕ
+pickNo cells words m k = pickNoBy cells (length words) m k
 
 -- one instruction of slot k's task issued, the joins that then are due made, and 1 added to the work
 abbrev pub issued : List ℕ → List ℤ → Machine → ℕ → Machine

@@ -1,5 +1,8 @@
 // The state of a job.
+mod codes;
 pub mod drive;
+pub mod pick;
+pub mod shape;
 pub mod slots;
 pub mod start;
 

@@ -1,0 +1,110 @@
+// Pick: its questions, and one instruction issued.
+use crate::Answered;
+use crate::End;
+use crate::Machine;
+use crate::drive;
+use crate::drive::is_running;
+use crate::shape;
+use task::Status;
+ghost use mathlib.Core.Path.{_≡_};
+ghost use Rattle.machine.specs.Ending.{endAt, ending, isEnd};
+ghost use Rattle.machine.specs.Picking.{slotNo, pickNoBy, pickNo, picked};
+
+fn fault_end(depth: u32, n: u8) -> End
+    ensures { λ r. ⌜ r ≡ endAt depth (Status.Faulted n) ⌝ }
+{
+    if depth == 0 {
+        return End::Fault(n);
+    }
+    End::NotEnded
+}
+
+fn end_at(depth: u32, status: Status) -> End
+    ensures { λ r. ⌜ r ≡ endAt depth status ⌝ }
+{
+    match status {
+        Status::Vacant => End::NotEnded,
+        Status::Running => End::NotEnded,
+        Status::Waiting => End::NotEnded,
+        Status::Halted => End::Halt,
+        Status::Faulted(n) => fault_end(depth, n),
+    }
+}
+
+// How the job has ended, read off slot 0.
+pub fn end_of(m: Machine) -> End
+    ensures { λ r. ⌜ r ≡ ending m ⌝ }
+{
+    let t = m.tasks[0];
+    let status = t.status;
+    end_at(t.depth, status)
+}
+
+fn has_ended(end: End) -> bool
+    ensures { λ r. ⌜ r ≡ isEnd end ⌝ }
+{
+    match end {
+        End::NotEnded => false,
+        End::Halt => true,
+        End::Fault(_) => true,
+    }
+}
+
+// Questions 21 to 24. A state of the shape has at most 64 places.
+fn ask_slot(m: Machine, slot: u64) -> u8
+    ensures { λ r. ⌜ r ≡ slotNo m slot ⌝ }
+{
+    if m.places <= slot {
+        return 21;
+    }
+    if has_ended(end_of(m)) {
+        return 22;
+    }
+    if 64 <= slot {
+        return 23;
+    }
+    let t = m.tasks[slot as usize];
+    let status = t.status;
+    if !is_running(status) {
+        return 23;
+    }
+    if 4294967295 <= m.work {
+        return 24;
+    }
+    0
+}
+
+// Pick's questions. Of the words only their number counts.
+fn ask_pick(cells: &[u64], words: usize, m: Machine, slot: u64) -> u8
+    ensures { λ r. ⌜ r ≡ pickNoBy (now (cells .entry)) words m slot ⌝ }
+{
+    let no = image::questions::ask_program(cells);
+    if no != 0 {
+        return no;
+    }
+    if 4096 < words {
+        return 14;
+    }
+    if cells.len() != 5890 {
+        return 15;
+    }
+    if !shape::meets_shape(cells, m) {
+        return 20;
+    }
+    ask_slot(m, slot)
+}
+
+impl Machine {
+    // One instruction of the slot's task; a refused pick hands back the old state.
+    pub fn pick(self, cells: &[u64], words: &[i64], slot: u64) -> Answered
+        ensures { λ r. ⌜ (r .no ≡ pickNo (now (cells .entry)) (now (words .entry)) self slot) × (r .machine ≡ picked (now (cells .entry)) (now (words .entry)) self slot) ⌝ }
+    {
+        let no = ask_pick(cells, words.len(), self, slot);
+        if no != 0 {
+            return Answered { no, machine: self };
+        }
+        let driven = drive::drive(cells, words, self, slot as usize, 1);
+        let machine = driven.machine;
+        Answered { no: 0, machine }
+    }
+}
