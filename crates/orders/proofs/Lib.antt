@@ -3,3 +3,4 @@ pub mod Plays
 pub mod Demand
 pub mod Complete
 pub mod Shapes
+pub mod Replaying

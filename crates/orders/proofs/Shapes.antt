@@ -78,7 +78,7 @@ every-shape cells words m e meets =
       open-runs = λ o. let r = open-runs M K laws (t .0) m (t .1) (sym ended ∙ o) in (r .0, omega (arith, r .1, laws .places-power), r .2);
       ended-idle = λ o k h.
           ended-idle M K laws (t .0) m (t .1) (sym ended ∙ o) k (omega (arith, h, laws .places-power, laws .places-fit));
-      running-pickable = λ few whole k b r w. running-accepted allowed (record { few-words = few; whole = whole }) m k x b r w;
+      running-pickable = λ few whole k b r w. running-accepted {words = words} allowed (record { few-words = few; whole = whole }) m k x b r w;
     }
 
 -- ---- every state of an order

@@ -2,3 +2,4 @@
 pub mod Demand
 pub mod Complete
 pub mod Shapes
+pub mod Replay
