@@ -1,7 +1,17 @@
 // The exports: what a program in C or another language calls. Numbers and byte slices only.
+pub mod input;
+pub mod state;
+
+use machine::Machine;
 ghost use mathlib.Core.Path.{_≡_};
 ghost use lib.ListN.{length};
+ghost use Rattle.image.specs.Layout.{cellsIn};
 ghost use Rattle.image.specs.Doors.{imageNo, rewriteNo, unlessRefused};
+ghost use Rattle.machine.specs.Starting.{empty};
+ghost use Rattle.orders.specs.Demand.{WhateverTheOrder, startOn};
+ghost use Rattle.job.specs.Job.{jobImage, wordCount, jobNo};
+ghost use Rattle.job.specs.State.{stateBytes};
+ghost use Rattle.job.specs.Replay.{jobIn, replayNo, replayOf};
 
 // The image check: 0, or the number of the first question, 1 to 9, that is answered with no.
 #[no_mangle]
@@ -18,4 +28,41 @@ pub extern "C" fn tpal_image_rewrite(image: &[u8], out: &mut [u8]) -> u8
     ensures { λ r. ⌜ now (out .exit) ≡ unlessRefused r (now (image .entry)) (now (out .entry)) ⌝ }
 {
     image::rewrite(image, out)
+}
+
+// The order carried out on an accepted job, whose words go to the lent slice.
+fn carry_out(job: &[u8], cells: &[u64], words: &mut [i64], order: &[u8]) -> Machine
+    requires { ⌜ (jobNo (now job) ≡ 0) × (now cells ≡ cellsIn (jobImage (now job))) × (length (now words) ≡ wordCount (now job)) ⌝ }
+    ensures { λ r. ⌜ r ≡ replayOf (now (job .entry)) (now (order .entry)) ⌝ }
+{
+    let mut registers = [0i64; 16];
+    input::read_registers(job, &mut registers);
+    input::read_words(job, words);
+    let places = input::places_of(job);
+    let interval = input::interval_of(job);
+    let answer = orders::replay(cells, places, interval, &registers, words, order);
+    answer.machine
+}
+
+// Starts a job, given by its bytes, and carries out one pick for each byte of the order; then writes the whole state into `state`, which
+// has 34,328 bytes (15). A refusal leaves `state` as it was.
+#[no_mangle]
+pub extern "C" fn tpal_replay(job: &[u8], order: &[u8], state: &mut [u8]) -> u8
+    ensures { λ r. ⌜ r ≡ replayNo (now (job .entry)) (length (now (state .entry))) ⌝ }
+    ensures { λ r. ⌜ now (state .exit) ≡ unlessRefused r (stateBytes (replayOf (now (job .entry)) (now (order .entry)))) (now (state .entry)) ⌝ }
+    ensures { λ r. ⌜ (r ≡ 0 → WhateverTheOrder (jobIn (now (job .entry))) (startOn (jobIn (now (job .entry))) (empty 0 0)) (now (order .entry))) ⌝ }
+{
+    let mut cells = [0u64; 5890];
+    let no = input::ask_job(job, &mut cells);
+    if no != 0 {
+        return no;
+    }
+    if state.len() != 34328 {
+        return 15;
+    }
+    let mut words = [0i64; 4096];
+    let count = input::word_count(job);
+    let machine = carry_out(job, &cells, &mut words[..count], order);
+    state::write_state(machine, state);
+    0
 }

@@ -1,56 +1,12 @@
 //! One image put to the model and to the engine.
 
+use crate::lent::Lent;
 use model::Program;
 
 /// What model and engine both answered.
 pub struct Answers {
     pub read: Result<Program, u8>,
     pub rewrite: Result<(), u8>,
-}
-
-/// Bytes before and after each lent buffer, to see a write outside it.
-const MARGIN: usize = 64;
-
-/// A buffer of any alignment inside a larger one that is filled with a pattern.
-struct Lent {
-    bytes: Vec<u8>,
-    start: usize,
-    end: usize,
-    salt: u8,
-}
-
-impl Lent {
-    fn new(len: usize, salt: u64) -> Self {
-        let start = MARGIN + (salt % 16) as usize;
-        let end = start + len;
-        let salt = (salt >> 8) as u8;
-        Lent {
-            bytes: (0..end + MARGIN).map(|at| pattern(at, salt)).collect(),
-            start,
-            end,
-            salt,
-        }
-    }
-
-    fn slice(&mut self) -> &mut [u8] {
-        &mut self.bytes[self.start..self.end]
-    }
-
-    fn holds_pattern(&self, from: usize, to: usize) -> bool {
-        (from..to).all(|at| self.bytes[at] == pattern(at, self.salt))
-    }
-
-    fn is_untouched(&self) -> bool {
-        self.holds_pattern(self.start, self.end)
-    }
-
-    fn margins_are_untouched(&self) -> bool {
-        self.holds_pattern(0, self.start) && self.holds_pattern(self.end, self.bytes.len())
-    }
-}
-
-fn pattern(at: usize, salt: u8) -> u8 {
-    (at as u8).wrapping_mul(37).wrapping_add(salt)
 }
 
 fn number<T>(answer: &Result<T, u8>) -> u8 {

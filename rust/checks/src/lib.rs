@@ -1,9 +1,9 @@
-//! The engine's exports compared with the model, on seeded images; and the model's machine compared
-//! with its plain evaluation, on seeded jobs and orders of picks.
+//! The engine's exports compared with the model, on seeded images, jobs and orders of picks; and the
+//! model's machine compared with its plain evaluation.
 //!
 //! A case is named by a seed and a number, and made from these two alone, so that one that failed
 //! can be run again by itself: `cargo run --release --bin soak -- 1 SEED NUMBER` for an image,
-//! `--bin soak_orders` for a job.
+//! `--bin soak_orders` for a job on the model, `--bin soak_replay` for one on both.
 
 pub mod assemble;
 pub mod compare;
@@ -14,8 +14,12 @@ pub mod generate;
 pub mod job_coverage;
 pub mod jobs;
 pub mod layout;
+mod lent;
 pub mod orders;
 pub mod product;
 pub mod random;
+pub mod replay;
+pub mod replay_coverage;
 pub mod run;
 pub mod shares;
+pub mod state;

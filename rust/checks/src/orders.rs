@@ -22,7 +22,7 @@ use std::ops::Range;
 
 /// How an order chooses the next slot.
 #[derive(Clone, Copy, Debug, PartialEq, Eq)]
-enum Manner {
+pub(crate) enum Manner {
     /// One of the running tasks.
     AnyRunning,
     /// Half the time any number, so that picks are refused.
@@ -33,7 +33,7 @@ enum Manner {
     Bursts,
 }
 
-const MANNERS: [Manner; 5] = [
+pub(crate) const MANNERS: [Manner; 5] = [
     Manner::AnyRunning,
     Manner::AnyNumber,
     Manner::Lowest,
@@ -43,7 +43,13 @@ const MANNERS: [Manner; 5] = [
 
 impl Manner {
     /// The next slot to pick; `running` is not empty.
-    fn next(self, random: &mut Random, running: &[usize], last: usize, places: usize) -> usize {
+    pub(crate) fn next(
+        self,
+        random: &mut Random,
+        running: &[usize],
+        last: usize,
+        places: usize,
+    ) -> usize {
         match self {
             Manner::AnyNumber if random.one_in(2) => any_number(random, places),
             Manner::AnyRunning | Manner::AnyNumber => random.pick(running),
@@ -56,7 +62,7 @@ impl Manner {
 }
 
 /// A slot's number mostly.
-fn any_number(random: &mut Random, places: usize) -> usize {
+pub(crate) fn any_number(random: &mut Random, places: usize) -> usize {
     match random.below(16) {
         0 => random.pick(&[places, places + 1, 64, 255, usize::MAX]),
         _ => random.below(places),

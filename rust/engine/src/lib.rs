@@ -12,8 +12,19 @@ mod exports {
             out: *mut u8,
             out_len: usize,
         ) -> u8;
+        pub fn tpal_replay(
+            job: *const u8,
+            job_len: usize,
+            order: *const u8,
+            order_len: usize,
+            state: *mut u8,
+            state_len: usize,
+        ) -> u8;
     }
 }
+
+/// Length of a state: 4,291 numbers of 64 bits.
+pub const STATE_BYTES: usize = 34_328;
 
 fn answer(number: u8) -> Result<(), u8> {
     match number {
@@ -35,4 +46,21 @@ pub fn image_rewrite(image: &[u8], out: &mut [u8]) -> Result<(), u8> {
     answer(unsafe {
         exports::tpal_image_rewrite(image.as_ptr(), image.len(), out.as_mut_ptr(), out.len())
     })
+}
+
+/// Starts a job, carries out a pick for each byte of `order`, refused ones passed over, and writes
+/// the whole state over `state`, which has `STATE_BYTES`. Answers 0, or the number of the first
+/// question that was answered with no; a refusal leaves `state` as it was.
+pub fn replay(job: &[u8], order: &[u8], state: &mut [u8]) -> u8 {
+    // SAFETY: as above.
+    unsafe {
+        exports::tpal_replay(
+            job.as_ptr(),
+            job.len(),
+            order.as_ptr(),
+            order.len(),
+            state.as_mut_ptr(),
+            state.len(),
+        )
+    }
 }

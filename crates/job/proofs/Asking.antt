@@ -1,0 +1,46 @@
+-- The questions of a job, put one after the other.
+use mathlib.Core.Path.{_≡_, sym, ap, _∙_}
+use mathlib.Core.Bool.{true}
+use mathlib.Core.List.{List}
+use Prim.Native.Nat.{ℕ}
+use Rattle.image.specs.Layout.{cellsIn}
+use Rattle.image.specs.Questions.{orElse}
+use Rattle.image.specs.Doors.{imageNo}
+use Rattle.image.proofs.Asked.{ask-yes, or-else-no, or-else-yes}
+use Rattle.machine.specs.Starting.{startNoBy}
+use Rattle.job.specs.Job.{jobImage, jobPlaces, jobInterval, wordCount, endsExactly, lengthNo, jobNo}
+
+-- an input that question 10 lets pass ends exactly
+pub length-asked : (bytes : List ℕ) (r : ℕ) → r ≡ lengthNo bytes → r ≡ 0 → endsExactly bytes ≡ true
+length-asked bytes r e z = ask-yes (endsExactly bytes) 9 0 (sym e ∙ z) .0
+
+module _ (bytes : List ℕ) where
+  abbrev start : ℕ
+  start = startNoBy (cellsIn (jobImage bytes)) (jobPlaces bytes) (jobInterval bytes) 16 (wordCount bytes)
+
+  pub refused-by-length : (r : ℕ) → r ≡ lengthNo bytes → (r ≡ 0 → ⊥) → r ≡ jobNo bytes
+  unfolding jobNo
+  refused-by-length r e h = e ∙ sym (or-else-no (lengthNo bytes) (orElse (imageNo (jobImage bytes)) start) (λ z. h (e ∙ z)))
+
+  module _ (fits : lengthNo bytes ≡ 0) where
+    pub refused-by-image : (r : ℕ) → r ≡ imageNo (jobImage bytes) → (r ≡ 0 → ⊥) → r ≡ jobNo bytes
+    unfolding jobNo
+    refused-by-image r e h =
+        e
+        ∙ sym
+        (or-else-yes (lengthNo bytes) (orElse (imageNo (jobImage bytes)) start) fits
+        ∙ or-else-no (imageNo (jobImage bytes)) start (λ z. h (e ∙ z)))
+
+    pub answered-by-start : (cells : List ℕ) (places interval words r : ℕ) → imageNo (jobImage bytes) ≡ 0
+        → cells ≡ cellsIn (jobImage bytes) → places ≡ jobPlaces bytes → interval ≡ jobInterval bytes → words ≡ wordCount bytes
+        → r ≡ startNoBy cells places interval 16 words → r ≡ jobNo bytes
+    unfolding jobNo
+    answered-by-start cells places interval words r i hc hp hi hw e =
+        e
+        ∙ ap (λ (x : List ℕ). startNoBy x places interval 16 words) hc
+        ∙ ap (λ (x : ℕ). startNoBy (cellsIn (jobImage bytes)) x interval 16 words) hp
+        ∙ ap (λ (x : ℕ). startNoBy (cellsIn (jobImage bytes)) (jobPlaces bytes) x 16 words) hi
+        ∙ ap (λ (x : ℕ). startNoBy (cellsIn (jobImage bytes)) (jobPlaces bytes) (jobInterval bytes) 16 x) hw
+        ∙ sym
+        (or-else-yes (lengthNo bytes) (orElse (imageNo (jobImage bytes)) start) fits
+        ∙ or-else-yes (imageNo (jobImage bytes)) start i)

@@ -1,0 +1,57 @@
+-- Integers read one after the other, and a list that is overwritten whole.
+use mathlib.Core.Path.{_≡_, refl, sym, ap, _∙_}
+use mathlib.Core.List.{List, [], _∷_, _++_, append-nil}
+use Prim.Native.Nat.{ℕ, zero, suc, _+_, _*_, _^_, _<_}
+use native.Mathlib.Omega.{arith}
+use native.Mathlib.Numerals.{add-one}
+use mir.Syntax.{w64}
+use mir.Val.{ofZ, toZ}
+use mir.ValLaws.{toZ-ofZ}
+use lib.IntN.{ℤ}
+use lib.Signed.{mag}
+use lib.ListN.{length, set, drop-of-length-le}
+use lib.Seq.{sets, sets-eq}
+use Rattle.int64.specs.Little.{little}
+use Rattle.int64.proofs.Stores.{sets-append}
+use Rattle.job.specs.Job.{numbers}
+
+-- a list that is overwritten whole
+pub sets-whole : {A : Type 0} (l xs : List A) → length xs ≡ length l → sets l 0 xs ≡ xs
+sets-whole {A} l xs e =
+    sets-eq xs l 0 (omega arith)
+    ∙ ap (λ (r : List A). xs ++ r) (drop-of-length-le l {i = 0 + length xs} (omega arith))
+    ∙ append-nil xs
+
+pub length-numbers : (bytes : List ℕ) (at n : ℕ) → length (numbers bytes at n) ≡ n
+unfolding numbers
+length-numbers bytes at zero = refl
+length-numbers bytes at (suc n) = ap suc (length-numbers bytes (at + 8) n)
+
+one-later : (at n : ℕ) → at + 8 + 8 * n ≡ at + 8 * suc n
+one-later at n = omega arith
+
+-- one integer more
+pub numbers-snoc : (bytes : List ℕ) (at n : ℕ) → numbers bytes at (suc n) ≡ numbers bytes at n ++ (toZ w64 (little 8 bytes (at + 8 * n)) ∷ [])
+unfolding numbers
+numbers-snoc bytes at zero = ap (λ (k : ℕ). toZ w64 (little 8 bytes k) ∷ []) (omega arith)
+numbers-snoc bytes at (suc n) =
+    rw (← one-later at n) (ap (λ (t : List ℤ). toZ w64 (little 8 bytes at) ∷ t) (numbers-snoc bytes (at + 8) n))
+
+pub read-none : (bytes : List ℕ) (at : ℕ) (out : List ℤ) → out ≡ sets out 0 (numbers bytes at 0)
+unfolding numbers
+read-none bytes at out = refl
+
+pub read-more : (bytes : List ℕ) (at : ℕ) (out now₁ : List ℤ) (i : ℕ) (z : ℤ) → now₁ ≡ sets out 0 (numbers bytes at i)
+    → z ≡ toZ w64 (little 8 bytes (at + 8 * i)) → set now₁ i z ≡ sets out 0 (numbers bytes at (i + 1))
+read-more bytes at out now₁ i z e q =
+    let n : 0 + length (numbers bytes at i) ≡ i = omega (arith, length-numbers bytes at i) in
+    ap (λ (l : List ℤ). set l i z) e
+    ∙ ap (λ (k : ℕ). set (sets out 0 (numbers bytes at i)) k z) (sym n)
+    ∙ ap (λ (y : ℤ). set (sets out 0 (numbers bytes at i)) (0 + length (numbers bytes at i)) y) q
+    ∙ sets-append out 0 (numbers bytes at i) (toZ w64 (little 8 bytes (at + 8 * i)) ∷ [])
+    ∙ ap (sets out 0) (sym (numbers-snoc bytes at i))
+    ∙ ap (λ (k : ℕ). sets out 0 (numbers bytes at k)) (sym (add-one i))
+
+-- a number that a call handed back is stored as the number of its bits
+pub number-stored : (z : ℤ) (u n : ℕ) → mag z < 2 ^ 63 → z ≡ toZ w64 u → u ≡ n → toZ w64 (ofZ w64 z) ≡ toZ w64 n
+number-stored z u n f e q = toZ-ofZ w64 z (record { sfits = f }) ∙ e ∙ ap (toZ w64) q

@@ -1,0 +1,28 @@
+-- `read_registers` meets its contract.
+use mathlib.Core.Path.{ap₂, _∙_}
+use Prim.Native.Nat.{ℕ, _+_}
+use Rattle.job.specs.Job.{numbers}
+use Rattle.job.proofs.Ends.{ends}
+use borrow.Author.Needs.{needs}
+use native.Mathlib.Omega.{arith}
+use Rattle.job.proofs.input.read_registers.Statement.{statement}
+use Rattle.job.proofs.input.read_registers.Tie as tie
+
+image-size-requires : tie.Need-image-size-requires
+image-size-requires c κs = search needs
+
+add-at : tie.Need-add-at
+add-at c = search needs
+
+read-numbers-requires : tie.Need-read-numbers-requires
+read-numbers-requires c κs = let e = ends (c .before .before .before .args .job .now) (c .before .before .before .pre .0) in omega (arith, c .before .image-size .ensures .0, c .before .before .before .pre .1)
+
+same-length : tie.Need-same-length
+same-length c = search needs
+
+returns : tie.Need-returns
+returns c = c .before .read-numbers .ensures ∙ ap₂ (λ (a n : ℕ). numbers (c .before .before .before .before .before .args .job .now) (5 + a) n) (c .before .before .before .image-size .ensures .0) (c .before .before .before .before .before .pre .1)
+
+pub read-registers-spec : {M : Type 1} → statement M
+read-registers-spec =
+    tie.close (tie.spec image-size-requires add-at read-numbers-requires same-length returns)

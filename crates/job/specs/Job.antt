@@ -1,0 +1,61 @@
+-- The run program's input, a job, and the questions put to it. Little-endian:
+-- image length (16 bits), image, P (8 bits), interval (16 bits), 16 registers (64 bits), word count (16 bits), words (64 bits).
+use mathlib.Core.Bool.{Bool, _&&_}
+use mathlib.Core.List.{List, [], _∷_}
+use Prim.Native.Nat.{ℕ, zero, suc, _+_, _*_}
+use mir.Syntax.{w64}
+use mir.Val.{toZ}
+use lib.Dec.{eqb, leb}
+use lib.IntN.{ℤ}
+use lib.ListN.{length, getD, take, drop}
+use Rattle.int64.specs.Little.{little}
+use Rattle.image.specs.Layout.{cellsIn}
+use Rattle.image.specs.Questions.{ask, orElse}
+use Rattle.image.specs.Doors.{imageNo}
+use Rattle.machine.specs.Starting.{startNoBy}
+
+-- ---- What the bytes hold
+
+abbrev pub imageSize : List ℕ → ℕ
+imageSize bytes = little 2 bytes 0
+
+abbrev pub jobImage : List ℕ → List ℕ
+jobImage bytes = take (imageSize bytes) (drop 2 bytes)
+
+abbrev pub jobPlaces : List ℕ → ℕ
+jobPlaces bytes = getD bytes (2 + imageSize bytes) 0
+
+abbrev pub jobInterval : List ℕ → ℕ
+jobInterval bytes = little 2 bytes (3 + imageSize bytes)
+
+-- `count` integers of 64 bits, the first at `at`
+unfoldable pub numbers : List ℕ → ℕ → ℕ → List ℤ
+numbers bytes at zero = []
+numbers bytes at (suc count) = toZ w64 (little 8 bytes at) ∷ numbers bytes (at + 8) count
+
+abbrev pub jobRegisters : List ℕ → List ℤ
+jobRegisters bytes = numbers bytes (5 + imageSize bytes) 16
+
+abbrev pub wordCount : List ℕ → ℕ
+wordCount bytes = little 2 bytes (133 + imageSize bytes)
+
+abbrev pub jobWords : List ℕ → List ℤ
+jobWords bytes = numbers bytes (135 + imageSize bytes) (wordCount bytes)
+
+-- ---- The questions
+
+-- does the input end exactly after its last word?
+unfoldable pub endsExactly : List ℕ → Bool
+endsExactly bytes =
+    leb 2 (length bytes)
+    && (leb (135 + imageSize bytes) (length bytes) && eqb (length bytes) (135 + imageSize bytes + 8 * wordCount bytes))
+
+abbrev pub lengthNo : List ℕ → ℕ
+lengthNo bytes = ask (endsExactly bytes) 10 0
+
+-- 10 before all else, then the reader's questions, then start's
+unfoldable pub jobNo : List ℕ → ℕ
+jobNo bytes =
+    orElse (lengthNo bytes)
+    (orElse (imageNo (jobImage bytes))
+    (startNoBy (cellsIn (jobImage bytes)) (jobPlaces bytes) (jobInterval bytes) 16 (wordCount bytes)))

@@ -1,0 +1,189 @@
+//! Jobs and orders of picks put to the engine's replay and to the model's machine.
+
+use crate::jobs::{job, refused};
+use crate::lent::Lent;
+use crate::orders::{any_number, MANNERS};
+use crate::random::Random;
+use crate::replay_coverage::ReplayCoverage;
+use crate::{shares, state};
+use engine::STATE_BYTES;
+use model::{question, Call, Job, Machine, Status};
+use std::ops::Range;
+
+/// What a replay is handed.
+pub struct ReplayCase {
+    pub job: Vec<u8>,
+    pub order: Vec<u8>,
+    pub state_len: usize,
+}
+
+/// What an order that was not refused comes to on the model.
+pub struct Replayed {
+    pub machine: Machine,
+    /// The refused picks by the number of the question, from 21 on.
+    pub refused: [u64; 3],
+}
+
+/// The case of this number under this seed.
+pub fn case(seed: u64, number: u64) -> ReplayCase {
+    // Not the numbers that the job was made from.
+    let random = &mut Random::new(!seed, number);
+    let (job, order) = if random.one_in(6) {
+        let length = random.below(8);
+        let order = (0..length).map(|_| random.byte()).collect();
+        (refused(seed, number).bytes, order)
+    } else {
+        let bytes = job(seed, number).input.bytes();
+        let order = order(&bytes, random);
+        (bytes, order)
+    };
+    let state_len = if random.one_in(16) {
+        random.pick(&[
+            0,
+            8,
+            STATE_BYTES - 8,
+            STATE_BYTES - 1,
+            STATE_BYTES + 1,
+            STATE_BYTES + 8,
+            2 * STATE_BYTES,
+        ])
+    } else {
+        STATE_BYTES
+    };
+    ReplayCase {
+        job,
+        order,
+        state_len,
+    }
+}
+
+/// Running tasks mostly, with refused picks among them and up to three after the end.
+fn order(job: &[u8], random: &mut Random) -> Vec<u8> {
+    let job = Job::parse(job).expect("the job is as laid out");
+    let mut machine = job.start().expect("start accepts the job");
+    let call = Call::new(&job.program, &job.words).expect("start put the same questions");
+    // Long orders are rare: every pick of the engine puts all questions.
+    let length = match random.below(8) {
+        0 => random.below(4),
+        1..=3 => random.below(40),
+        4..=6 => random.below(150),
+        _ => random.below(400),
+    };
+    let manner = random.pick(&MANNERS);
+    let mut after_end = random.below(4);
+    let mut order = Vec::with_capacity(length);
+    let mut last = 0;
+    while order.len() < length {
+        let running: Vec<usize> = (0..machine.places())
+            .filter(|&slot| machine.slots()[slot].status == Status::Running)
+            .collect();
+        if running.is_empty() {
+            if after_end == 0 {
+                break;
+            }
+            after_end -= 1;
+        }
+        let slot = if running.is_empty() || random.one_in(8) {
+            any_number(random, machine.places()).min(255)
+        } else {
+            last = manner
+                .next(random, &running, last, machine.places())
+                .min(255);
+            last
+        };
+        order.push(slot as u8);
+        let _ = machine.pick_in(call, slot);
+    }
+    order
+}
+
+/// What the model says to a case.
+fn replayed(case: &ReplayCase) -> Result<Replayed, u8> {
+    let job = Job::parse(&case.job)?;
+    let mut machine = job.start()?;
+    let call = Call::new(&job.program, &job.words)?;
+    if case.state_len != STATE_BYTES {
+        return Err(question::BUFFER);
+    }
+    let mut refused = [0; 3];
+    for &slot in &case.order {
+        if let Err(number) = machine.pick_in(call, slot.into()) {
+            refused[usize::from(number - question::SLOT)] += 1;
+        }
+    }
+    Ok(Replayed { machine, refused })
+}
+
+/// Puts a case to both; `salt` moves and fills the buffers. The error says in words how the two
+/// differ.
+pub fn compare(case: &ReplayCase, salt: u64) -> Result<Result<Replayed, u8>, String> {
+    let expected = replayed(case);
+    let expected_answer = expected.as_ref().err().copied().unwrap_or(0);
+
+    let mut lent_job = Lent::new(case.job.len(), salt);
+    lent_job.slice().copy_from_slice(&case.job);
+    let mut lent_order = Lent::new(case.order.len(), salt >> 16);
+    lent_order.slice().copy_from_slice(&case.order);
+    let mut lent_state = Lent::new(case.state_len, salt >> 32);
+    let answer = engine::replay(lent_job.slice(), lent_order.slice(), lent_state.slice());
+    if answer != expected_answer {
+        return Err(format!(
+            "the model answers {}, the engine {}",
+            expected_answer, answer
+        ));
+    }
+    match &expected {
+        Ok(replayed) => {
+            let expected = state::bytes(&replayed.machine);
+            if let Some(what) = state::first_difference(&expected, lent_state.slice()) {
+                return Err(what);
+            }
+        }
+        Err(_) if !lent_state.is_untouched() => {
+            return Err(format!("a call refused {} changed the state", answer));
+        }
+        Err(_) => {}
+    }
+    if lent_job.slice() != case.job || lent_order.slice() != case.order {
+        return Err("the job or the order was changed".to_string());
+    }
+    if [&lent_job, &lent_order, &lent_state]
+        .iter()
+        .any(|lent| !lent.margins_are_untouched())
+    {
+        return Err("bytes outside the lent buffers were changed".to_string());
+    }
+    Ok(expected)
+}
+
+/// Runs one case.
+pub fn run_case(seed: u64, number: u64, coverage: &mut ReplayCoverage) -> Result<(), String> {
+    let case = case(seed, number);
+    let salt = Random::new(seed.rotate_left(16), number).bits();
+    match compare(&case, salt) {
+        Ok(answer) => {
+            coverage.count(&case, &answer);
+            Ok(())
+        }
+        Err(what) => Err(format!(
+            "seed {} job {}: {}\n\
+             order {:?}, state of {} bytes\n\
+             job begins {:02x?}\n\
+             again: cargo run --release --bin soak_replay -- 1 {} {}",
+            seed,
+            number,
+            what,
+            case.order,
+            case.state_len,
+            &case.job[..case.job.len().min(400)],
+            seed,
+            number
+        )),
+    }
+}
+
+/// Runs the cases of these numbers. What differs ends it.
+pub fn run(seed: u64, numbers: Range<u64>) -> Result<ReplayCoverage, String> {
+    shares::run(numbers, |number, coverage| run_case(seed, number, coverage))
+        .map_err(|(_, what)| what)
+}

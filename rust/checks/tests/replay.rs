@@ -1,0 +1,101 @@
+//! Engine and model on seeded jobs with orders of picks, and program F's orders.
+
+use checks::assemble::{op, word, JobInput, Operand};
+use checks::layout::{program_f, INSTRUCTION};
+use checks::replay::{compare, run, ReplayCase};
+use checks::state::number_at;
+use engine::STATE_BYTES;
+use model::opcode::DIVIDE;
+
+const SEED: u64 = 0x7265_706c_6179;
+const JOBS: u64 = 24_000;
+
+#[test]
+fn seeded_jobs() {
+    match run(SEED, 0..JOBS) {
+        Err(what) => panic!("{}", what),
+        Ok(coverage) => {
+            println!("{}", coverage);
+            assert_eq!(coverage.jobs(), JOBS);
+            let missing = coverage.missing();
+            assert!(missing.is_empty(), "not covered: {}", missing.join("; "));
+        }
+    }
+}
+
+const HALTED: u64 = 3;
+const FAULTED: u64 = 4;
+
+/// Numbers of a state.
+const WORK: usize = 2;
+const STATUS: usize = 3;
+const FAULT: usize = 4;
+const SPAN: usize = 8;
+const R0: usize = 22;
+
+fn f(places: u8) -> JobInput {
+    JobInput::new(program_f(), places, 0).with_register(0, 4)
+}
+
+/// The engine's state, after it was compared with the model's.
+fn state(input: &JobInput, order: &[u8]) -> Vec<u8> {
+    let case = ReplayCase {
+        job: input.bytes(),
+        order: order.to_vec(),
+        state_len: STATE_BYTES,
+    };
+    if let Err(what) = compare(&case, 0) {
+        panic!("order {:?}: {}", order, what);
+    }
+    let mut state = vec![0xa5; STATE_BYTES];
+    assert_eq!(engine::replay(&case.job, &case.order, &mut state), 0);
+    state
+}
+
+/// Status, fault number, work and span of slot 0's task.
+fn outcome(state: &[u8]) -> [u64; 4] {
+    [STATUS, FAULT, WORK, SPAN].map(|index| number_at(state, index))
+}
+
+#[test]
+fn f_in_two_orders() {
+    let parent_first = state(&f(2), &[0, 0, 0, 0, 1, 1, 0, 0, 0]);
+    let child_first = state(&f(2), &[1, 0, 0, 1, 2, 1, 0, 1, 255, 0, 0, 0, 1, 0, 0]);
+    assert_eq!(outcome(&parent_first), [HALTED, 0, 9, 7]);
+    assert_eq!(number_at(&parent_first, R0 + 1), 12);
+    assert!(parent_first == child_first);
+}
+
+#[test]
+fn f_after_every_part_of_an_order() {
+    let order = [0, 0, 1, 0, 1, 0, 0, 0, 0];
+    for length in 0..=order.len() {
+        let state = state(&f(2), &order[..length]);
+        assert_eq!(number_at(&state, WORK), length as u64);
+        let ended = number_at(&state, STATUS) == HALTED;
+        assert_eq!(ended, length == order.len());
+    }
+}
+
+#[test]
+fn f_with_one_place_faults() {
+    let state = state(&f(1), &[0, 0, 0]);
+    assert_eq!(outcome(&state), [FAULTED, 37, 2, 2]);
+}
+
+#[test]
+fn f_with_two_faults_keeps_the_parents_in_either_order() {
+    let mut input = f(2);
+    let instructions = input.image.len() - 9 * INSTRUCTION;
+    let mut replace = |number: usize, record: [u8; INSTRUCTION]| {
+        let at = instructions + number * INSTRUCTION;
+        input.image[at..at + INSTRUCTION].copy_from_slice(&record);
+    };
+    replace(2, word(0, Operand::Int(0)));
+    replace(4, op(DIVIDE, 0, 0, Operand::Int(0)));
+
+    let parent_first = state(&input, &[0, 0, 0, 1]);
+    let child_first = state(&input, &[0, 0, 1, 0]);
+    assert_eq!(outcome(&parent_first), [FAULTED, 33, 4, 3]);
+    assert!(parent_first == child_first);
+}
