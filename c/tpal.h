@@ -7,8 +7,8 @@
  * call.
  *
  * Threads. The engine has no global state, takes no memory from the heap and makes no system
- * calls. Each function may be called from any thread, by several at once. A call takes less than
- * 50 KB of the caller's stack.
+ * calls. Each function may be called from any thread, by several at once. A call on an image takes
+ * less than 64 KB of the caller's stack, a replay less than 512 KB.
  *
  * Answers. 0 is accepted; any other answer is the number of the first question that was answered
  * with no. A refused call leaves `out` and `state` as they were.
