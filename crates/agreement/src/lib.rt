@@ -1,2 +1,1 @@
-// The proof that all orders of picks agree stands in specs/.
-pub fn none() {}
+// The proof that all orders of picks agree, over any step and join: the definitions and theorems stand in specs/.
