@@ -26,7 +26,7 @@ use Rattle.machine.specs.declared.End.{End}
 use Rattle.machine.specs.declared.End.the-variants.{NotEnded, Halt, Fault}
 use Rattle.machine.specs.Slots.{at}
 use Rattle.machine.specs.Ending.{endOf, jobEnded}
-use Rattle.machine.specs.Starting.{placesAllowed, intervalAllowed, startNo}
+use Rattle.machine.specs.Starting.{placesAllowed, intervalAllowed, startNo, startNoBy}
 use Rattle.machine.specs.Picking.{workLimit}
 use Rattle.machine.proofs.StartLaws.{fresh-fits}
 use Rattle.orders.specs.Demand.{Job, Accepted, startOn, played, evaluation, Ends}
@@ -85,7 +85,7 @@ unfolding writeNo
 reads-program bytes h = or-else-both (programNo (cellsIn bytes)) _ (read-writes bytes h) .0
 
 starts : (x : Case) → imageNo (x .given .image) ≡ 0 → startable (x .given) ≡ true → Accepted (jobOf x)
-unfolding startNo
+unfolding startNoBy
 starts x h t =
     let g = x .given in
     let a = both-true (placesAllowed (g .places)) _ t in
