@@ -1,4 +1,4 @@
-// Records taken out of images and program buffers, and put into them. Callers test that a record is inside.
+// Records taken out of images and program buffers, and put into them.
 use crate::Block;
 use crate::Instruction;
 ghost use mathlib.Core.Path.{_≡_};
@@ -7,6 +7,7 @@ ghost use lib.ListN.{length};
 ghost use lib.Seq.{sets};
 ghost use Rattle.image.specs.Layout.{blockIn, blockBytes, blockOf, blockCells, instructionIn, instructionBytes, instructionOf, instructionCells};
 
+// Our crates alone call it: writer and questions count below the blocks, a join below a checked program's.
 pub fn block_of(cells: &[u64], b: usize) -> Block
     requires { ⌜ 2 + 6 * b + 6 ≤ length (now cells) ⌝ }
     ensures { λ r. ⌜ r ≡ blockOf (now (cells .entry)) b ⌝ }
@@ -22,6 +23,7 @@ pub fn block_of(cells: &[u64], b: usize) -> Block
     }
 }
 
+// Our crates alone call it: writer and questions count below the instructions, drive has the shape test's pc.
 pub fn instruction_of(cells: &[u64], i: usize) -> Instruction
     requires { ⌜ 770 + 5 * i + 5 ≤ length (now cells) ⌝ }
     ensures { λ r. ⌜ r ≡ instructionOf (now (cells .entry)) i ⌝ }
@@ -36,6 +38,7 @@ pub fn instruction_of(cells: &[u64], i: usize) -> Instruction
     }
 }
 
+// The reader alone calls it, with a program buffer whose length it asked and a block below its count.
 pub fn put_block(cells: &mut [u64], at: usize, k: Block)
     requires { ⌜ at + 6 ≤ length (now cells) ⌝ }
     ensures { λ _. ⌜ now (cells .exit) ≡ sets (now (cells .entry)) at (blockCells k) ⌝ }
@@ -48,6 +51,7 @@ pub fn put_block(cells: &mut [u64], at: usize, k: Block)
     cells[at + 5] = k.packed;
 }
 
+// The reader alone calls it, as above, with an instruction below its count.
 pub fn put_instruction(cells: &mut [u64], at: usize, x: Instruction)
     requires { ⌜ at + 5 ≤ length (now cells) ⌝ }
     ensures { λ _. ⌜ now (cells .exit) ≡ sets (now (cells .entry)) at (instructionCells x) ⌝ }
@@ -65,6 +69,7 @@ pub fn wide(x: u8) -> u64
     x as u64
 }
 
+// The reader alone calls it, after the image's length was found to be that of its counts.
 pub fn block_in(image: &[u8], at: usize) -> Block
     requires { ⌜ at + 10 ≤ length (now image) ⌝ }
     ensures { λ r. ⌜ r ≡ blockIn (now (image .entry)) at ⌝ }
@@ -85,6 +90,7 @@ pub fn block_in(image: &[u8], at: usize) -> Block
     }
 }
 
+// The reader alone calls it, as above.
 pub fn instruction_in(image: &[u8], at: usize) -> Instruction
     requires { ⌜ at + 12 ≤ length (now image) ⌝ }
     ensures { λ r. ⌜ r ≡ instructionIn (now (image .entry)) at ⌝ }
@@ -103,6 +109,7 @@ pub fn instruction_in(image: &[u8], at: usize) -> Instruction
     }
 }
 
+// The writer alone calls it, with an image of the length of the program's counts.
 pub fn put_block_bytes(image: &mut [u8], at: usize, k: Block)
     requires { ⌜ at + 10 ≤ length (now image) ⌝ }
     ensures { λ _. ⌜ now (image .exit) ≡ sets (now (image .entry)) at (blockBytes k) ⌝ }
@@ -115,6 +122,7 @@ pub fn put_block_bytes(image: &mut [u8], at: usize, k: Block)
     int64::write_u32(image, at + 6, k.packed);
 }
 
+// The writer alone calls it, as above.
 pub fn put_instruction_bytes(image: &mut [u8], at: usize, x: Instruction)
     requires { ⌜ at + 12 ≤ length (now image) ⌝ }
     ensures { λ _. ⌜ now (image .exit) ≡ sets (now (image .entry)) at (instructionBytes x) ⌝ }

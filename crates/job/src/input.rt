@@ -24,6 +24,7 @@ pub fn ask_length(job: &[u8]) -> u8
     0
 }
 
+// This crate alone calls it, after question 10 found that the job ends exactly.
 pub fn image_size(job: &[u8]) -> usize
     requires { ⌜ endsExactly (now job) ≡ true ⌝ }
     ensures { λ r. ⌜ (r ≡ imageSize (now (job .entry))) × (r < 65536) ⌝ }
@@ -31,6 +32,7 @@ pub fn image_size(job: &[u8]) -> usize
     int64::read_u16(job, 0) as usize
 }
 
+// As above.
 pub fn image_of(job: &[u8]) -> &[u8]
     requires { ⌜ endsExactly (now job) ≡ true ⌝ }
     ensures { λ r. ⌜ now r ≡ jobImage (now (job .entry)) ⌝ }
@@ -39,6 +41,7 @@ pub fn image_of(job: &[u8]) -> &[u8]
     &job[2..end]
 }
 
+// As above.
 pub fn places_of(job: &[u8]) -> u64
     requires { ⌜ endsExactly (now job) ≡ true ⌝ }
     ensures { λ r. ⌜ r ≡ jobPlaces (now (job .entry)) ⌝ }
@@ -47,6 +50,7 @@ pub fn places_of(job: &[u8]) -> u64
     image::layout::wide(job[2 + n])
 }
 
+// As above.
 pub fn interval_of(job: &[u8]) -> u64
     requires { ⌜ endsExactly (now job) ≡ true ⌝ }
     ensures { λ r. ⌜ r ≡ jobInterval (now (job .entry)) ⌝ }
@@ -55,6 +59,7 @@ pub fn interval_of(job: &[u8]) -> u64
     int64::read_u16(job, 3 + n)
 }
 
+// As above.
 pub fn word_count(job: &[u8]) -> usize
     requires { ⌜ endsExactly (now job) ≡ true ⌝ }
     ensures { λ r. ⌜ (r ≡ wordCount (now (job .entry))) × (r < 65536) ⌝ }

@@ -19,6 +19,7 @@ fn truth_of(holds: bool) -> Value
     Value::Int(1)
 }
 
+// Execute alone calls it; the shape test has put pc inside the program.
 pub fn add(s: Value, v: Value, t: Task) -> Executed
     requires { ⌜ t .pc < 1024 ⌝ }
     ensures { λ r. ⌜ r ≡ computed sum s v t ⌝ }
@@ -32,6 +33,7 @@ pub fn add(s: Value, v: Value, t: Task) -> Executed
     store(Value::Int(int64::wrapping_add(a, b)), t)
 }
 
+// As above.
 pub fn subtract(s: Value, v: Value, t: Task) -> Executed
     requires { ⌜ t .pc < 1024 ⌝ }
     ensures { λ r. ⌜ r ≡ computed difference s v t ⌝ }
@@ -45,6 +47,7 @@ pub fn subtract(s: Value, v: Value, t: Task) -> Executed
     store(Value::Int(int64::wrapping_sub(a, b)), t)
 }
 
+// As above.
 pub fn multiply(s: Value, v: Value, t: Task) -> Executed
     requires { ⌜ t .pc < 1024 ⌝ }
     ensures { λ r. ⌜ r ≡ computed product s v t ⌝ }
@@ -58,6 +61,7 @@ pub fn multiply(s: Value, v: Value, t: Task) -> Executed
     store(Value::Int(int64::wrapping_mul(a, b)), t)
 }
 
+// As above.
 pub fn divide(s: Value, v: Value, t: Task) -> Executed
     requires { ⌜ t .pc < 1024 ⌝ }
     ensures { λ r. ⌜ r ≡ divided quotient s v t ⌝ }
@@ -74,6 +78,7 @@ pub fn divide(s: Value, v: Value, t: Task) -> Executed
     store(Value::Int(int64::quotient(a, b)), t)
 }
 
+// As above.
 pub fn modulo(s: Value, v: Value, t: Task) -> Executed
     requires { ⌜ t .pc < 1024 ⌝ }
     ensures { λ r. ⌜ r ≡ divided remainder s v t ⌝ }
@@ -90,6 +95,7 @@ pub fn modulo(s: Value, v: Value, t: Task) -> Executed
     store(Value::Int(int64::remainder(a, b)), t)
 }
 
+// As above.
 pub fn less(s: Value, v: Value, t: Task) -> Executed
     requires { ⌜ t .pc < 1024 ⌝ }
     ensures { λ r. ⌜ r ≡ computed isLess s v t ⌝ }
@@ -103,6 +109,7 @@ pub fn less(s: Value, v: Value, t: Task) -> Executed
     store(truth_of(int64::less(a, b)), t)
 }
 
+// As above.
 pub fn equal(s: Value, v: Value, t: Task) -> Executed
     requires { ⌜ t .pc < 1024 ⌝ }
     ensures { λ r. ⌜ r ≡ computed isEqual s v t ⌝ }

@@ -59,6 +59,7 @@ pub fn enter(cells: &[u64], interval: u64, b: u32, t: Task) -> Task
     n
 }
 
+// This crate alone calls it, with an accepted program and a value whose label the shape test has put inside it.
 pub fn jump(cells: &[u64], interval: u64, v: Value, t: Task) -> Executed
     requires { ⌜ (programNo (now cells) ≡ 0) × (valueFits (now cells) v ≡ true) ⌝ }
     ensures { λ r. ⌜ r ≡ jumped (now (cells .entry)) interval v t ⌝ }

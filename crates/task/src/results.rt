@@ -31,6 +31,7 @@ pub fn advance(t: Task) -> Task
     n
 }
 
+// This crate alone calls it; the shape test has put pc inside the program.
 pub fn store(v: Value, t: Task) -> Executed
     requires { ⌜ t .pc < 1024 ⌝ }
     ensures { λ r. ⌜ r ≡ stores v t ⌝ }
