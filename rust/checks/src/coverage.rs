@@ -3,7 +3,7 @@
 use crate::compare::Answers;
 use crate::damage::{Field, BLOCK_FIELDS, HEADER_FIELDS, INSTRUCTION_FIELDS};
 use crate::generate::{Case, Shape, SHAPES};
-use crate::shares::Tally;
+use crate::shares::{unmet, Tally};
 use std::collections::BTreeMap;
 use std::fmt;
 
@@ -157,11 +157,7 @@ impl Coverage {
 
     /// What ought to be met and was not.
     pub fn missing(&self) -> Vec<String> {
-        let lines = self.lines().into_iter();
-        lines
-            .filter(|(_, count)| *count == 0)
-            .map(|(name, _)| name)
-            .collect()
+        unmet(self.lines())
     }
 }
 

@@ -1,7 +1,7 @@
 //! What a run of jobs has covered, and what it ought to.
 
 use crate::jobs::{JobCase, INTERVALS, MAKES};
-use crate::shares::Tally;
+use crate::shares::{add_all, unmet, Tally};
 use model::plain::Evaluation;
 use model::task::{Step, Surroundings, MAX_DEPTH};
 use model::{fault, question, End, Job, Machine, Status};
@@ -196,16 +196,8 @@ impl JobCoverage {
 
     /// What ought to be met and was not.
     pub fn missing(&self) -> Vec<String> {
-        let lines = self.lines().into_iter();
-        lines
-            .filter(|(_, count)| *count == 0)
-            .map(|(name, _)| name)
-            .collect()
+        unmet(self.lines())
     }
-}
-
-fn add_all(mine: &mut [u64], theirs: &[u64]) {
-    mine.iter_mut().zip(theirs).for_each(|(m, t)| *m += t);
 }
 
 impl Tally for JobCoverage {

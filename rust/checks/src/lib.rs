@@ -22,4 +22,5 @@ pub mod replay;
 pub mod replay_coverage;
 pub mod run;
 pub mod shares;
+pub mod soak;
 pub mod state;

@@ -1,7 +1,7 @@
 //! What a run of replays has covered, and what it ought to.
 
 use crate::replay::{ReplayCase, Replayed};
-use crate::shares::Tally;
+use crate::shares::{add_all, unmet, Tally};
 use model::task::MAX_DEPTH;
 use model::{fault, question, End, Status, Value};
 use std::fmt;
@@ -117,16 +117,8 @@ impl ReplayCoverage {
 
     /// What ought to be met and was not.
     pub fn missing(&self) -> Vec<String> {
-        let lines = self.lines().into_iter();
-        lines
-            .filter(|(_, count)| *count == 0)
-            .map(|(name, _)| name)
-            .collect()
+        unmet(self.lines())
     }
-}
-
-fn add_all(mine: &mut [u64], theirs: &[u64]) {
-    mine.iter_mut().zip(theirs).for_each(|(m, t)| *m += t);
 }
 
 impl Tally for ReplayCoverage {

@@ -10,6 +10,17 @@ pub trait Tally: Default + Send {
     fn add(&mut self, other: &Self);
 }
 
+/// Adds each count of theirs to the same one of mine.
+pub fn add_all(mine: &mut [u64], theirs: &[u64]) {
+    mine.iter_mut().zip(theirs).for_each(|(m, t)| *m += t);
+}
+
+/// The names of those that were never met.
+pub fn unmet(lines: Vec<(String, u64)>) -> Vec<String> {
+    let unmet = lines.into_iter().filter(|(_, count)| *count == 0);
+    unmet.map(|(name, _)| name).collect()
+}
+
 /// Runs the cases of these numbers. An error ends it; the one of least number is handed back.
 pub fn run<T: Tally, E: Send>(
     numbers: Range<u64>,

@@ -1,0 +1,52 @@
+//! The command line of the long runs: `NAME [COUNT [SEED [FIRST]]]`.
+
+use std::env;
+use std::fmt::Display;
+use std::ops::Range;
+use std::process::exit;
+
+/// A long run: its program's name, how many cases it runs unless told, and of what kind.
+pub struct Soak {
+    pub name: &'static str,
+    pub count: u64,
+    pub cases: &'static str,
+    /// Fewer cases than this may miss something by chance.
+    pub enough: u64,
+}
+
+impl Soak {
+    fn argument(&self, position: usize, default: u64) -> u64 {
+        match env::args().nth(position) {
+            None => default,
+            Some(text) => text.parse().unwrap_or_else(|_| {
+                eprintln!("usage: {} [COUNT [SEED [FIRST]]]", self.name);
+                exit(2)
+            }),
+        }
+    }
+
+    /// Runs the cases and prints what they covered; status 1 for a difference or a gap.
+    pub fn run<C: Display, E: Display>(
+        &self,
+        run: impl FnOnce(u64, Range<u64>) -> Result<C, E>,
+        counted: impl FnOnce(&C) -> u64,
+        missing: impl FnOnce(&C) -> Vec<String>,
+    ) {
+        let count = self.argument(1, self.count);
+        let seed = self.argument(2, 1);
+        let first = self.argument(3, 0);
+        let numbers = first..first.saturating_add(count);
+        let coverage = run(seed, numbers).unwrap_or_else(|difference| {
+            println!("{}", difference);
+            exit(1)
+        });
+        println!("{}", coverage);
+        let missing = missing(&coverage);
+        if count >= self.enough && !missing.is_empty() {
+            println!("not covered: {}", missing.join("; "));
+            exit(1);
+        }
+        let counted = counted(&coverage);
+        println!("seed {}: {} {}, no difference", seed, counted, self.cases);
+    }
+}
