@@ -3,11 +3,12 @@ pub mod RankLaws
 pub mod Models
 pub mod EndingLaws
 pub mod ShapeLaws
+pub mod Quiet
 pub mod PickLaws
 pub mod StartLaws
 pub mod Filling
 pub mod Intervals
-pub mod Turning
+pub mod Passing
 pub mod Carrying
 pub mod InPlace
 pub mod Issuing

@@ -2,9 +2,10 @@
 use mathlib.Core.Path.{_≡_, refl, sym, subst}
 use mathlib.Core.Bool.{true}
 use mathlib.Core.List.{List}
-use Prim.Native.Nat.{ℕ, _^_, _≤_}
+use Prim.Native.Nat.{ℕ, _^_, _<_, _≤_}
 use native.Mathlib.Omega.{arith}
 use native.Mathlib.Nat.{pow-le-pow-right}
+use lib.Pow.{pow-pos}
 use Rattle.machine.specs.declared.Machine.{Machine}
 use Rattle.machine.specs.Starting.{rank, placesAllowed}
 use Rattle.machine.proofs.RankLaws.{rank-small, rank-power}
@@ -31,3 +32,6 @@ pub places-most : (p : ℕ) → placesAllowed p ≡ true → p ≤ 64
 places-most p h =
     let most : 2 ^ rank p ≤ 2 ^ 6 = pow-le-pow-right {n = 2} (omega arith) (rank-small p h) in
     omega (arith, rank-power p h)
+
+pub places-some : (p : ℕ) → placesAllowed p ≡ true → 0 < p
+places-some p h = omega (arith, rank-power p h, pow-pos (rank p))

@@ -9,11 +9,10 @@ use lib.IntN.{ℤ}
 use lib.ListN.{length}
 use borrow.Author.Tests.{eqb-true, ltb-true}
 use Rattle.agreement.specs.Facts.{by-test}
-use Rattle.agreement.specs.Slots.{sideEnded, carry}
+use Rattle.agreement.specs.Slots.{carry}
 use Rattle.agreement.specs.SlotLaws.{carry-keeps}
 use Rattle.agreement.specs.Picks.{Model, canPick, pick}
 use Rattle.agreement.specs.PickLaws.{parts-can, pick-carried, pick-refused}
-use Rattle.agreement.specs.HoldsLaws.{ended-idle}
 use Rattle.image.specs.Layout.{programCells}
 use Rattle.image.specs.Questions.{ask, orElse, programNo}
 use Rattle.image.specs.Doors.{unlessRefused}
@@ -24,12 +23,11 @@ use Rattle.task.specs.Step.{step}
 use Rattle.machine.specs.declared.Machine.{Machine}
 use Rattle.machine.specs.Slots.{at, ticked, slotsOf}
 use Rattle.machine.specs.Ending.{jobEnded}
-use Rattle.machine.specs.Starting.{rank}
 use Rattle.machine.specs.Shape.{shape}
-use Rattle.machine.specs.Picking.{workLimit, slotNo, pickNoBy, pickNo, issued, picked}
-use Rattle.machine.proofs.EndingLaws.{ended-is}
-use Rattle.machine.proofs.Models.{modelOf, formsOf, Allowed, laws-hold}
-use Rattle.machine.proofs.ShapeLaws.{Fits, fits-shape, fits-shows, pick-fits}
+use Rattle.machine.specs.Picking.{workLimit, slotNo, stateNoBy, stateNo, pickNo, issued, picked}
+use Rattle.machine.proofs.Models.{modelOf, Allowed}
+use Rattle.machine.proofs.ShapeLaws.{Fits, fits-shape, pick-fits}
+use Rattle.machine.proofs.Quiet.{ended-quiet}
 
 -- the last four questions, of which 22 is a no only where 23 would be one
 last-questions : (below ended runs room : Bool) → (below ≡ true → ended ≡ true → runs ≡ false)
@@ -48,14 +46,14 @@ pub record Lent (cells : List ℕ) (words : List ℤ) : Type 0 where
 -- in a state of the shape 21 to 24 are left
 questions-from-21 : (cells : List ℕ) (words : List ℤ) (m : Machine) (k : ℕ) → programNo cells ≡ 0 → Lent cells words → shape cells m ≡ true
     → pickNo cells words m k ≡ ask (ltb k (m .places)) 21 (ask (not (jobEnded m)) 22 (ask (running (at m k)) 23 (ask (ltb (m .work) workLimit) 24 0)))
-unfolding pickNoBy slotNo orElse
+unfolding stateNoBy slotNo orElse
 questions-from-21 cells words m k e lent s = rw (e, lent .few-words, lent .whole, s)
 
 -- what a pick that is not refused was lent
 pub pick-lent : (cells : List ℕ) (words : List ℤ) (m : Machine) (k : ℕ) → pickNo cells words m k ≡ 0 → Lent cells words
-unfolding pickNoBy
+unfolding stateNoBy
 pick-lent cells words m k e =
-    let p = or-else-both (programNo cells) _ e in
+    let p = or-else-both (programNo cells) _ (or-else-both (stateNo cells words m) (slotNo m k) e .0) in
     let a = ask-yes (leb (length words) 4096) 13 _ (p .1) in
     let b = ask-yes (eqb (length cells) programCells) 14 _ (a .1) in
     record { few-words = a .0; whole = b .0 }
@@ -64,17 +62,9 @@ module _ {cells : List ℕ} {interval places : ℕ} {words : List ℤ} (allowed 
   abbrev M : Model Frame Machine
   M = modelOf cells words interval places
 
-  -- whether the job has ended is as agreement has it
-  pub fits-ended : (m : Machine) → Fits cells interval places m → jobEnded m ≡ sideEnded (slotsOf cells) m 0 0
-  fits-ended m x = let t = fits-shows allowed words m x in ended-is cells (rank places) (t .0) m (t .1 .holds)
-
   module _ (m : Machine) (k : ℕ) (x : Fits cells interval places m) where
     idle : ltb k (m .places) ≡ true → jobEnded m ≡ true → running (at m k) ≡ false
-    idle b e =
-        let laws = laws-hold allowed words in
-        let t = fits-shows allowed words m x in
-        ended-idle M (formsOf cells (rank places)) laws (t .0) m (t .1) (sym (fits-ended m x) ∙ e) k
-        (omega (arith, ltb-true k (m .places) b, x .its-places, laws .places-power, laws .places-fit))
+    idle b e = ended-quiet allowed words m x e k (ltb-true k (m .places) b)
 
     pub pick-test : eqb (pickNo cells words m k) 0 ≡ canPick (modelOf cells words interval places) m k
     pick-test =

@@ -1,56 +1,91 @@
--- What a pick that is not refused is like, and that the loop with a budget of 1 carries it out.
+-- What a pick or a run that is not refused is like, and that the loop carries it out.
 use mathlib.Core.Path.{_≡_, refl, sym, ap, _∙_}
-use mathlib.Core.Bool.{Bool, true, false, not}
+use mathlib.Core.Bool.{Bool, true, false, cond, not}
 use mathlib.Core.List.{List}
-use Prim.Native.Nat.{ℕ, _+_, _*_, _<_}
-use native.Mathlib.Omega.{arith}
+use Prim.Native.Nat.{ℕ, _<_}
 use lib.Dec.{eqb, ltb, leb}
 use lib.IntN.{ℤ}
 use lib.ListN.{length}
-use borrow.Author.Tests.{eqb-true, ltb-true}
+use borrow.Author.Tests.{eqb-true, ltb-true, ne-eqb}
 use Rattle.image.specs.Layout.{programCells}
 use Rattle.image.specs.Questions.{programNo}
-use Rattle.image.proofs.Asked.{ask-yes, or-else-both}
+use Rattle.image.specs.Doors.{unlessRefused}
+use Rattle.image.proofs.Asked.{ask-yes, or-else-no, or-else-yes, or-else-both}
 use Rattle.task.specs.Frames.{running}
 use Rattle.machine.specs.declared.Machine.{Machine}
-use Rattle.machine.specs.Slots.{at}
+use Rattle.machine.specs.declared.Driven.{Driven}
+use Rattle.machine.specs.declared.Outcome.{Outcome}
+use Rattle.machine.specs.Slots.{at, Sized}
 use Rattle.machine.specs.Ending.{jobEnded}
 use Rattle.machine.specs.Shape.{shape}
-use Rattle.machine.specs.Picking.{workLimit, slotNo, pickNoBy, pickNo, issued, picked}
-use Rattle.machine.specs.Driving.{Turn, turns, driven}
+use Rattle.machine.specs.Picking.{workLimit, slotNo, stateNoBy, stateNo, pickNo, issued, picked}
+use Rattle.machine.specs.Running.{Run, driven, outcome}
+use Rattle.machine.proofs.ShapeLaws.{shape-allowed, shape-fits}
 use Rattle.machine.proofs.PickLaws.{picked-issued}
-use Rattle.machine.proofs.Turning.{one-pick}
+use Rattle.machine.proofs.Passing.{one-pick}
 
--- no question was answered with no
-pub record Accepted (cells : List ℕ) (m : Machine) (k : ℕ) : Type 0 where
+-- no question up to 20 was answered with no
+pub record Passes (cells : List ℕ) (words : List ℤ) (m : Machine) : Type 0 where
   pub program : programNo cells ≡ 0
+  pub few-words : leb (length words) 4096 ≡ true
   pub whole : length cells ≡ programCells
   pub shaped : shape cells m ≡ true
+
+pub state-passes : (cells : List ℕ) (words : List ℤ) (m : Machine) → stateNo cells words m ≡ 0 → Passes cells words m
+unfolding stateNoBy
+state-passes cells words m e =
+    let p = or-else-both (programNo cells) _ e in
+    let a = ask-yes (leb (length words) 4096) 13 _ (p .1) in
+    let b = ask-yes (eqb (length cells) programCells) 14 _ (a .1) in
+    let c = ask-yes (shape cells m) 19 0 (b .1) in
+    record { program = p .0; few-words = a .0; whole = eqb-true (length cells) programCells (b .0); shaped = c .0 }
+
+-- nor any after it
+pub record Ready (m : Machine) (k : ℕ) : Type 0 where
   pub below : k < m .places
   pub runs : running (at m k) ≡ true
   pub below-limit : m .work < workLimit
 
-pub pick-accepted : (cells : List ℕ) (words : List ℤ) (m : Machine) (k : ℕ) → pickNo cells words m k ≡ 0 → Accepted cells m k
-unfolding pickNoBy slotNo
-pick-accepted cells words m k e =
-    let p = or-else-both (programNo cells) _ e in
-    let a = ask-yes (leb (length words) 4096) 13 _ (p .1) in
-    let b = ask-yes (eqb (length cells) programCells) 14 _ (a .1) in
-    let c = ask-yes (shape cells m) 19 _ (b .1) in
-    let d = ask-yes (ltb k (m .places)) 20 _ (c .1) in
+pub slot-ready : (m : Machine) (k : ℕ) → slotNo m k ≡ 0 → Ready m k
+unfolding slotNo
+slot-ready m k e =
+    let d = ask-yes (ltb k (m .places)) 20 _ e in
     let f = ask-yes (not (jobEnded m)) 21 _ (d .1) in
     let g = ask-yes (running (at m k)) 22 _ (f .1) in
     let h = ask-yes (ltb (m .work) workLimit) 23 0 (g .1) in
-    record {
-      program = p .0;
-      whole = eqb-true (length cells) programCells (b .0);
-      shaped = c .0;
-      below = ltb-true k (m .places) (d .0);
-      runs = g .0;
-      below-limit = ltb-true (m .work) workLimit (h .0);
-    }
+    record { below = ltb-true k (m .places) (d .0); runs = g .0; below-limit = ltb-true (m .work) workLimit (h .0) }
 
-pub picked-one : (cells : List ℕ) (words : List ℤ) (m : Machine) (k : ℕ) → pickNo cells words m k ≡ 0 → driven cells words m k 1 .machine ≡ picked cells words m k
-picked-one cells words m k e =
-    let a = pick-accepted cells words m k e in
-    one-pick cells words m k (a .runs) (a .below-limit) (omega (arith, a .below)) ∙ sym (picked-issued cells words m k e)
+pub picked-one : (cells : List ℕ) (words : List ℤ) (m : Machine) (k : ℕ) → Sized m → pickNo cells words m k ≡ 0
+    → driven cells words m k 1 .machine ≡ picked cells words m k
+picked-one cells words m k sized e =
+    let both = or-else-both (stateNo cells words m) (slotNo m k) e in
+    let a = state-passes cells words m (both .0) in
+    let b = slot-ready m k (both .1) in
+    let one = one-pick (shape-allowed cells m (a .program) (a .shaped)) words m (shape-fits cells m sized (a .shaped)) k (b .below) (b .runs) (b .below-limit) in
+    ap (λ (r : Run). r .machine) one ∙ sym (picked-issued cells words m k e)
+
+-- ---- what each way through a pick, and through a run, hands back
+
+module _ (cells : List ℕ) (words : List ℤ) (m : Machine) where
+  refused-as : (k n : ℕ) → n ≡ pickNo cells words m k → (n ≡ 0 → ⊥) → (n ≡ pickNo cells words m k) × (m ≡ picked cells words m k)
+  unfolding unlessRefused
+  refused-as k n e some = (e, sym (ap (λ a. cond (eqb a 0) (issued cells words m k) m) (sym e) ∙ ap (λ b. cond b (issued cells words m k) m) (ne-eqb n 0 some)))
+
+  pub refused-by-state : (k n : ℕ) → n ≡ stateNo cells words m → (n ≡ 0 → ⊥) → (n ≡ pickNo cells words m k) × (m ≡ picked cells words m k)
+  refused-by-state k n e some = refused-as k n (e ∙ sym (or-else-no (stateNo cells words m) (slotNo m k) (λ z. some (e ∙ z)))) some
+
+  pub refused-by-slot : (k n : ℕ) → stateNo cells words m ≡ 0 → n ≡ slotNo m k → (n ≡ 0 → ⊥) → (n ≡ pickNo cells words m k) × (m ≡ picked cells words m k)
+  refused-by-slot k n passes e some = refused-as k n (e ∙ sym (or-else-yes (stateNo cells words m) (slotNo m k) passes)) some
+
+  pub accepted-by-both : (k n : ℕ) → stateNo cells words m ≡ 0 → n ≡ slotNo m k → n ≡ 0 → pickNo cells words m k ≡ 0
+  accepted-by-both k n passes e none = or-else-yes (stateNo cells words m) (slotNo m k) passes ∙ sym e ∙ none
+
+  module _ (budget : ℕ) where
+    pub run-refused : (n : ℕ) → n ≡ stateNo cells words m → (n ≡ 0 → ⊥) → record { no = n; ended = false; picks = 0; machine = m } ≡ outcome cells words m budget
+    unfolding outcome
+    run-refused n e some = rw (← e, ne-eqb n 0 some)
+
+    pub run-answered : stateNo cells words m ≡ 0 → (d : Driven) (z : Bool) → d ≡ driven cells words m 0 budget → z ≡ jobEnded (d .machine)
+        → record { no = 0; ended = z; picks = d .picks; machine = d .machine } ≡ outcome cells words m budget
+    unfolding outcome
+    run-answered passes d z e f = rw (passes, f, e)

@@ -4,6 +4,7 @@ pub mod Ending
 pub mod Starting
 pub mod Shape
 pub mod Picking
+pub mod Running
 pub mod Driving
 pub mod Settling
 pub mod Codes

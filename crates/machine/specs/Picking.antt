@@ -26,14 +26,18 @@ slotNo m k =
     ask (ltb k (m .places)) 21
     (ask (not (jobEnded m)) 22 (ask (running (at m k)) 23 (ask (ltb (m .work) workLimit) 24 0)))
 
--- The program's questions, 14 and 15, then: does the state meet the shape test? (20) Then the slot's. Of the words only their number counts
-unfoldable pub pickNoBy : List ℕ → ℕ → Machine → ℕ → ℕ
-pickNoBy cells words m k =
+-- The program's questions, 14 and 15, then: does the state meet the shape test? (20) Of the words only their number counts
+unfoldable pub stateNoBy : List ℕ → ℕ → Machine → ℕ
+stateNoBy cells words m =
     orElse (programNo cells)
-    (ask (leb words 4096) 14 (ask (eqb (length cells) programCells) 15 (ask (shape cells m) 20 (slotNo m k))))
+    (ask (leb words 4096) 14 (ask (eqb (length cells) programCells) 15 (ask (shape cells m) 20 0)))
 
+abbrev pub stateNo : List ℕ → List ℤ → Machine → ℕ
+stateNo cells words m = stateNoBy cells (length words) m
+
+-- these, then the slot's
 abbrev pub pickNo : List ℕ → List ℤ → Machine → ℕ → ℕ
-pickNo cells words m k = pickNoBy cells (length words) m k
+pickNo cells words m k = orElse (stateNo cells words m) (slotNo m k)
 
 -- one instruction of slot k's task issued, the joins that then are due made, and 1 added to the work
 abbrev pub issued : List ℕ → List ℤ → Machine → ℕ → Machine

@@ -1,4 +1,4 @@
-// The loop over the slots, which every pick goes through. It keeps the state in a local and changes it in place: only a fork and an ended
+// The loop over the slots, which every pick and every run goes through. It keeps the state in a local and changes it in place: only a fork and an ended
 // side go through functions that copy it.
 use crate::Driven;
 use crate::Machine;
@@ -21,7 +21,8 @@ ghost use Rattle.task.specs.Step.{movedTo};
 ghost use Rattle.machine.specs.Slots.{at, put, slotsOf};
 ghost use Rattle.machine.specs.Settling.{JoinSafe, SettleSafe};
 ghost use Rattle.machine.specs.Shape.{shape};
-ghost use Rattle.machine.specs.Driving.{goesOn, nextSlot, driven};
+ghost use Rattle.machine.specs.Running.{driven};
+ghost use Rattle.machine.specs.Driving.{goesOn, nextSlot};
 
 fn goes_on(left: u64, work: u32, idle: u64, places: u64) -> bool
     ensures { λ r. ⌜ r ≡ goesOn left work idle places ⌝ }
@@ -171,5 +172,6 @@ pub fn drive(cells: &[u64], words: &[i64], machine: Machine, slot: usize, budget
             k = next_slot(m.places, k);
         }
     }
-    Driven { machine: m, left }
+    let picks = budget - left;
+    Driven { machine: m, picks }
 }

@@ -2,6 +2,7 @@
 mod codes;
 pub mod drive;
 pub mod pick;
+pub mod run;
 pub mod shape;
 pub mod slots;
 pub mod start;
@@ -31,8 +32,17 @@ pub struct Answered {
     pub machine: Machine,
 }
 
-// What the loop over the slots leaves: the state, and the picks that were not used.
+// What a run hands back: 0 or the number of a refusal, whether the job has ended or the budget is spent, the picks carried out, and the
+// state.
+pub struct Outcome {
+    pub no: u8,
+    pub ended: bool,
+    pub picks: u64,
+    pub machine: Machine,
+}
+
+// What the loop over the slots leaves: the state, and the picks carried out.
 pub struct Driven {
     pub machine: Machine,
-    pub left: u64,
+    pub picks: u64,
 }

@@ -8,7 +8,7 @@ use crate::shape;
 use task::Status;
 ghost use mathlib.Core.Path.{_≡_};
 ghost use Rattle.machine.specs.Ending.{endAt, ending, isEnd};
-ghost use Rattle.machine.specs.Picking.{slotNo, pickNoBy, pickNo, picked};
+ghost use Rattle.machine.specs.Picking.{slotNo, stateNoBy, pickNo, picked};
 
 fn fault_end(depth: u32, n: u8) -> End
     ensures { λ r. ⌜ r ≡ endAt depth (Status.Faulted n) ⌝ }
@@ -40,7 +40,7 @@ pub fn end_of(m: Machine) -> End
     end_at(t.depth, status)
 }
 
-fn has_ended(end: End) -> bool
+pub fn has_ended(end: End) -> bool
     ensures { λ r. ⌜ r ≡ isEnd end ⌝ }
 {
     match end {
@@ -74,9 +74,9 @@ fn ask_slot(m: Machine, slot: u64) -> u8
     0
 }
 
-// Pick's questions. Of the words only their number counts.
-fn ask_pick(cells: &[u64], words: usize, m: Machine, slot: u64) -> u8
-    ensures { λ r. ⌜ r ≡ pickNoBy (now (cells .entry)) words m slot ⌝ }
+// The questions of pick and run about program, words and state. Of the words only their number counts.
+pub fn ask_state(cells: &[u64], words: usize, m: Machine) -> u8
+    ensures { λ r. ⌜ r ≡ stateNoBy (now (cells .entry)) words m ⌝ }
 {
     let no = image::questions::ask_program(cells);
     if no != 0 {
@@ -91,7 +91,7 @@ fn ask_pick(cells: &[u64], words: usize, m: Machine, slot: u64) -> u8
     if !shape::meets_shape(cells, m) {
         return 20;
     }
-    ask_slot(m, slot)
+    0
 }
 
 impl Machine {
@@ -99,9 +99,16 @@ impl Machine {
     pub fn pick(self, cells: &[u64], words: &[i64], slot: u64) -> Answered
         ensures { λ r. ⌜ (r .no ≡ pickNo (now (cells .entry)) (now (words .entry)) self slot) × (r .machine ≡ picked (now (cells .entry)) (now (words .entry)) self slot) ⌝ }
     {
-        let no = ask_pick(cells, words.len(), self, slot);
+        let no = ask_state(cells, words.len(), self);
         if no != 0 {
             return Answered { no, machine: self };
+        }
+        let last = ask_slot(self, slot);
+        if last != 0 {
+            return Answered {
+                no: last,
+                machine: self,
+            };
         }
         let driven = drive::drive(cells, words, self, slot as usize, 1);
         let machine = driven.machine;

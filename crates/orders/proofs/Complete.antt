@@ -17,7 +17,8 @@ use Rattle.machine.specs.Starting.{rank}
 use Rattle.machine.specs.Picking.{picked}
 use Rattle.machine.proofs.SlotLaws.{same-state}
 use Rattle.machine.proofs.Models.{formsOf, laws-hold}
-use Rattle.machine.proofs.PickLaws.{fits-ended, picked-work}
+use Rattle.machine.proofs.Quiet.{fits-ended}
+use Rattle.machine.proofs.PickLaws.{picked-work}
 use Rattle.machine.proofs.StartLaws.{fresh-shows, fresh-fits}
 use Rattle.orders.specs.Demand.{Job, startOn, played, carriedOut, Agrees}
 use Rattle.orders.specs.Complete.{Complete, SameOutcome, CompleteOrdersAgree, SomeOrderCompletes}
@@ -65,7 +66,7 @@ module _ {j : Job} (start : JobAccepted j) where
   fits ks = play-fits start ks m₀ (fresh-fits start)
 
   ends : (ks : List ℕ) → Complete j m₀ ks → model.jobEnded M (play M m₀ ks) ≡ true
-  ends ks o = sym (fits-ended (start .allowed) (start .lent) (play M m₀ ks) (fits ks)) ∙ sym (ap jobEnded (after ks)) ∙ o
+  ends ks o = sym (fits-ended (start .allowed) (j .words) (play M m₀ ks) (fits ks)) ∙ sym (ap jobEnded (after ks)) ∙ o
 
   counts : (i : ℕ) (ks : List ℕ) → carriedOut j (onlyAt i) m₀ ks ≡ model.carriedOut M (onlyAt i) m₀ ks
   counts i ks = carriedOut-is start (onlyAt i) ks m₀ (fresh-fits start)

@@ -19,7 +19,8 @@ use Rattle.machine.specs.Ending.{endOf, jobEnded}
 use Rattle.machine.specs.Starting.{rank}
 use Rattle.machine.specs.Picking.{workLimit}
 use Rattle.machine.proofs.Models.{formsOf, laws-hold}
-use Rattle.machine.proofs.PickLaws.{fits-ended, can-accepted}
+use Rattle.machine.proofs.Quiet.{fits-ended}
+use Rattle.machine.proofs.PickLaws.{can-accepted}
 use Rattle.machine.proofs.StartLaws.{fresh-work, fresh-shows, fresh-fits}
 use Rattle.orders.specs.Demand.{Job, played, Pickable, SameResult, Agrees, Unending, WhateverTheOrder, Demand3, AnyFuel}
 use Rattle.orders.proofs.Plays.{modelOfJob, FitsJob, freshJob, JobAccepted, job-accepted, started-job, play-fits, played-is, carriedOut-is}
@@ -34,7 +35,7 @@ module _ {j : Job} (start : JobAccepted j) where
   -- a state of the job, and what the model says of it
   module _ (m : Machine) (x : FitsJob j m) where
     ended-here : jobEnded m ≡ model.jobEnded M m
-    ended-here = fits-ended (start .allowed) (start .lent) m x
+    ended-here = fits-ended (start .allowed) (j .words) m x
 
     pickable-here : (k : ℕ) × (canPick M m k ≡ true) → Pickable j m
     pickable-here t = (t .0, can-accepted (start .allowed) (start .lent) m (t .0) x (t .1))

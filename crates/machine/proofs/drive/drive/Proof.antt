@@ -1,8 +1,9 @@
--- `drive` meets its contract: from the loop's head on, the turns with the fuel that is left are the whole loop.
+-- `drive` meets its contract: from the loop's head on, a run with the picks that are left is the whole run.
 use mathlib.Core.Path.{_≡_, refl, sym, ap, _∙_}
 use mathlib.Core.Bool.{true}
 use Prim.Native.Nat.{ℕ, _+_, _-_, _*_, _<_, _≤_}
 use lib.ListN.{getD}
+use Rattle.machine.specs.Running.{Run}
 use Rattle.machine.specs.Driving.{goesOn, nextSlot}
 use Rattle.machine.specs.Slots.{at}
 use Rattle.image.specs.declared.Instruction.{Instruction}
@@ -19,7 +20,7 @@ use Rattle.machine.proofs.SettleSafety.{fits-safe}
 use Rattle.machine.proofs.Owning.{own-allowed, own-fits, places-most}
 use Rattle.machine.proofs.Readiness.{its-instruction, s-small, r-small, label-small, left-read, right-read, ready}
 use Rattle.machine.proofs.Issuing.{Fetched, ended-work, ended-places, stores-issued, goes-issued, ends-issued, faults-issued, forks-issued, ends-safe, faults-safe}
-use Rattle.machine.proofs.Turning.{Goes, goes, Head, passed-over, issued-there, rests}
+use Rattle.machine.proofs.Passing.{Goes, goes, Head, begins, passed-over, issued-there, stopped}
 use Rattle.task.specs.Frames.{zeroRegister}
 use Rattle.machine.specs.Slots.{ticked}
 use borrow.Author.Needs.{needs}
@@ -28,7 +29,7 @@ use Rattle.machine.proofs.drive.drive.Statement.{statement}
 use Rattle.machine.proofs.drive.drive.Tie as tie
 
 abbrev Inv-loop : tie.InvT-loop
-Inv-loop cells words slot budget m₀ k₀ idle₀ left₀ m k idle left = Head cells words (m₀ .interval) (m₀ .places) (record { machine = m₀; slot = slot; idle = 0; left = budget }) (65 * budget + 64) m k idle left
+Inv-loop cells words slot budget m₀ k₀ idle₀ left₀ m k idle left = Head cells words (m₀ .interval) (m₀ .places) (record { machine = m₀; slot = slot; picks = 0 }) budget m k idle left
 
 abbrev μ-loop : tie.MeasureT-loop
 μ-loop cells words slot budget m₀ k₀ idle₀ left₀ m k idle left = 65 * left + (64 - idle)
@@ -125,14 +126,24 @@ r-inside c =
 
 again : (c : Done) (m′ : Machine) (n : ℕ) → m′ ≡ issued (args-of c .args .cells .now) (args-of c .args .words .now) (m-of c) (k-of c) → n ≡ nextSlot (m-of c .places) (k-of c)
     → Head (args-of c .args .cells .now) (args-of c .args .words .now) (args-of c .args .machine .interval) (args-of c .args .machine .places)
-    (record { machine = args-of c .args .machine; slot = args-of c .args .slot; idle = 0; left = args-of c .args .budget }) (65 * args-of c .args .budget + 64) m′ n 0 (at-head (running-of c) .loop .left - 1)
+    (record { machine = args-of c .args .machine; slot = args-of c .args .slot; picks = 0 }) (args-of c .args .budget) m′ n 0 (at-head (running-of c) .loop .left - 1)
 again c m′ n p e =
-    issued-there (args-of c .args .cells .now) (args-of c .args .words .now) (job-allowed (args-of c)) (slots-most (args-of c)) (at-head (running-of c) .loop .inv) (test (turning (running-of c))) m′ n (runs-at (running-of c)) p e
+    issued-there (args-of c .args .cells .now) (args-of c .args .words .now) (job-allowed (args-of c)) (at-head (running-of c) .loop .inv) (test (turning (running-of c))) m′ n (runs-at (running-of c)) p e
 
 loop-holds : tie.Need-loop-holds Inv-loop μ-loop
 loop-holds c =
     let sized : Sized (c .before .args .machine) = record { of-bank = search (needs, length-by); of-tasks = search (needs, length-by) } in
-    record { fits = shape-fits (c .before .args .cells .now) (c .before .args .machine) sized (c .before .pre .2); slot-below = c .before .pre .3; fuel = 65 * c .before .args .budget + 64; enough = omega arith; same = refl }
+    record {
+      fits = shape-fits (c .before .args .cells .now) (c .before .args .machine) sized (c .before .pre .2);
+      slot-below = c .before .pre .3;
+      from = c .before .args .slot;
+      passed = 0;
+      picks = 0;
+      counted = omega arith;
+      seeks = begins (c .before .args .machine) (c .before .args .slot) (c .before .pre .3);
+      all-picks = omega arith;
+      same = refl;
+    }
 
 goes-on-requires : tie.Need-goes-on-requires Inv-loop μ-loop
 goes-on-requires c κs = search needs
@@ -194,8 +205,8 @@ mul-next c = omega (arith, slot-inside (c .before .before .before .before .befor
 element-set-from-next : tie.Need-element-set-from-next Inv-loop μ-loop
 element-set-from-next c = omega (arith, slot-inside (c .before .before .before .before .before .before .before .before .before .before .before .before .before .before .before))
 
-mul-t43 : tie.Need-mul-t43 Inv-loop μ-loop
-mul-t43 c = omega (arith, slot-inside (c .before .before .before .before .before .before .before .before .before .before .before .before .before .before .before), r-inside (c .before .before))
+mul-t44 : tie.Need-mul-t44 Inv-loop μ-loop
+mul-t44 c = omega (arith, slot-inside (c .before .before .before .before .before .before .before .before .before .before .before .before .before .before .before), r-inside (c .before .before))
 
 element-set-from-m : tie.Need-element-set-from-m Inv-loop μ-loop
 element-set-from-m c = omega (arith, slot-inside (c .before .before .before .before .before .before .before .before .before .before .before .before .before .before .before), r-inside (c .before .before))
@@ -312,12 +323,17 @@ loop-less-6 : tie.Need-loop-less-6 Inv-loop μ-loop
 loop-less-6 c = omega (arith, goes-at (c .before .before .before .before), slots-most (entry (c .before .before .before .before .before .before)), c .before .before .before .before .before .before .loop .inv .fits .its-places)
 
 loop-again-6 : tie.Need-loop-again-6 Inv-loop μ-loop
-loop-again-6 c = passed-over (c .before .before .before .before .before .before .before .before .args .cells .now) (c .before .before .before .before .before .before .before .before .args .words .now) (job-allowed (entry (c .before .before .before .before .before .before))) (slots-most (entry (c .before .before .before .before .before .before))) (c .before .before .before .before .before .before .loop .inv) (test (c .before .before .before .before)) _ (sym (c .before .before .is-running .ensures) ∙ c .before .if2 .left) (c .next-slot6 .ensures)
+loop-again-6 c = passed-over (c .before .before .before .before .before .before .before .before .args .cells .now) (c .before .before .before .before .before .before .before .before .args .words .now) (job-allowed (entry (c .before .before .before .before .before .before))) (c .before .before .before .before .before .before .loop .inv) (test (c .before .before .before .before)) _ (sym (c .before .before .is-running .ensures) ∙ c .before .if2 .left) (c .next-slot6 .ensures)
+
+sub-picks : tie.Need-sub-picks Inv-loop μ-loop
+sub-picks c = omega (arith, c .before .before .loop .inv .all-picks)
 
 returns : tie.Need-returns Inv-loop μ-loop
 returns c =
-    let e = c .before .before .loop .inv .same ∙ rests (c .before .before .before .before .args .cells .now) (c .before .before .before .before .args .words .now) (c .before .before .loop .inv .fuel) (record { machine = c .before .before .loop .m; slot = c .before .before .loop .k; idle = c .before .before .loop .idle; left = c .before .before .loop .left }) (sym (c .before .goes-on .ensures) ∙ c .if1 .left) in
-    λ j. record { machine = sym e j .machine; left = sym e j .left }
+    let inv = c .before .before .loop .inv in
+    let e = stopped (c .before .before .before .before .args .cells .now) (c .before .before .before .before .args .words .now) (job-allowed (entry (c .before .before))) inv (sym (c .before .goes-on .ensures) ∙ c .if1 .left) in
+    let p : c .before .before .before .before .args .budget - c .before .before .loop .left ≡ inv .picks = omega (arith, inv .all-picks) in
+    λ j. record { machine = sym e j .machine; picks = (p ∙ sym (ap (λ (r : Run). r .picks) e)) j }
 
 pub drive-spec : {M : Type 1} → statement M
 drive-spec =
@@ -346,7 +362,7 @@ drive-spec =
     add-at-r
     mul-next
     element-set-from-next
-    mul-t43
+    mul-t44
     element-set-from-m
     add-m
     sub-left
@@ -386,4 +402,5 @@ drive-spec =
     next-slot-requires-6
     loop-less-6
     loop-again-6
+    sub-picks
     returns)

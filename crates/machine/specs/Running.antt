@@ -1,0 +1,62 @@
+-- The budgeted run: it passes over slots 0 to P - 1 again and again, picking each that has a running task when reached.
+use mathlib.Core.Bool.{Bool, true, false, cond, not, _||_}
+use mathlib.Core.List.{List}
+use Prim.Native.Nat.{ℕ, zero, suc, _+_, _-_}
+use lib.Dec.{eqb, ltb}
+use lib.IntN.{ℤ}
+use Rattle.task.specs.Frames.{running}
+use Rattle.machine.specs.declared.Machine.{Machine}
+use Rattle.machine.specs.declared.Driven.{Driven}
+use Rattle.machine.specs.declared.Outcome.{Outcome}
+use Rattle.machine.specs.Slots.{at}
+use Rattle.machine.specs.Ending.{jobEnded}
+use Rattle.machine.specs.Picking.{workLimit, stateNo, issued}
+
+-- where a run stands: the state, the slot that it reaches next, and the picks carried out
+pub record Run : Type 0 where
+  pub machine : Machine
+  pub slot : ℕ
+  pub picks : ℕ
+
+-- the first of the n slots from k on that has a running task; k + n where none has
+unfoldable pub firstRunning : Machine → ℕ → ℕ → ℕ
+firstRunning m zero k = k
+firstRunning m (suc n) k = elim (running (at m k)) [ true ↦ k | false ↦ firstRunning m n (k + 1) ]
+
+-- the slot that is picked next: in this pass from slot k on, or, where that has none left, in the next pass
+unfoldable pub nextPick : Machine → ℕ → ℕ
+nextPick m k =
+    let here = firstRunning m (m .places - k) k in
+    cond (ltb here (m .places)) here (firstRunning m (m .places) 0)
+
+-- it stops when the job has ended, or the work stands at the limit
+abbrev pub stops : Machine → Bool
+stops m = jobEnded m || not (ltb (m .work) workLimit)
+
+module _ (cells : List ℕ) (words : List ℤ) where
+  abbrev pub pickedAt : ℕ → Run → Run
+  pickedAt k r = record { machine = issued cells words (r .machine) k; slot = k + 1; picks = r .picks + 1 }
+
+  -- at most `budget` picks more
+  unfoldable pub runs : ℕ → Run → Run
+  runs zero r = r
+  runs (suc budget) r = elim (stops (r .machine)) [
+    | true ↦ r
+    | false ↦ runs budget (pickedAt (nextPick (r .machine) (r .slot)) r)
+  ]
+
+  -- at most `budget` picks from slot k on
+  abbrev pub runFrom : Machine → ℕ → ℕ → Run
+  runFrom m k budget = runs budget (record { machine = m; slot = k; picks = 0 })
+
+  abbrev pub driven : Machine → ℕ → ℕ → Driven
+  driven m k budget = record { machine = runFrom m k budget .machine; picks = runFrom m k budget .picks }
+
+  -- The pick's questions up to 20 apply first. Ended, or spent: it says which, and the picks carried out. A refused run hands back the old state
+  abbrev pub outcomeBy : ℕ → Machine → Run → Outcome
+  outcomeBy refusal m r =
+      cond (eqb refusal 0) (record { no = 0; ended = jobEnded (r .machine); picks = r .picks; machine = r .machine })
+      (record { no = refusal; ended = false; picks = 0; machine = m })
+
+  unfoldable pub outcome : Machine → ℕ → Outcome
+  outcome m budget = outcomeBy (stateNo cells words m) m (runFrom m 0 budget)

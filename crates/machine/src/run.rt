@@ -1,0 +1,34 @@
+// The budgeted run: its questions, put once, and the loop over the slots.
+use crate::Machine;
+use crate::Outcome;
+use crate::drive;
+use crate::pick;
+ghost use mathlib.Core.Path.{_≡_};
+ghost use Rattle.machine.specs.Running.{outcome};
+
+impl Machine {
+    // Passes over the slots until the job has ended, the budget's picks are carried out, or the work stands at its limit; a refused run
+    // hands back the old state.
+    pub fn run(self, cells: &[u64], words: &[i64], budget: u64) -> Outcome
+        ensures { λ r. ⌜ r ≡ outcome (now (cells .entry)) (now (words .entry)) self budget ⌝ }
+    {
+        let no = pick::ask_state(cells, words.len(), self);
+        if no != 0 {
+            return Outcome {
+                no,
+                ended: false,
+                picks: 0,
+                machine: self,
+            };
+        }
+        let driven = drive::drive(cells, words, self, 0, budget);
+        let machine = driven.machine;
+        let ended = pick::has_ended(pick::end_of(machine));
+        Outcome {
+            no: 0,
+            ended,
+            picks: driven.picks,
+            machine,
+        }
+    }
+}
