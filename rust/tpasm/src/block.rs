@@ -79,7 +79,6 @@ impl Parser<'_> {
                 return Err(Error::new(first.position, expected, "one more"));
             }
             program.instructions.push(self.instruction()?);
-            self.expect_statement_end()?;
             last = Some(first);
         }
     }

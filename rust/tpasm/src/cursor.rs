@@ -80,10 +80,10 @@ impl<'a> Parser<'a> {
         }
     }
 
-    /// What stands after a setting, an annotation's block or an instruction.
-    pub fn expect_statement_end(&mut self) -> Result<(), Error> {
+    /// The end of a setting or instruction; `or` says what could have continued it.
+    pub fn expect_end(&mut self, or: &str) -> Result<(), Error> {
         if !self.peek().ends_statement() {
-            return Err(self.unexpected("';' or the end of the line"));
+            return Err(self.unexpected(format!("{}';' or the end of the line", or)));
         }
         self.next();
         Ok(())

@@ -36,7 +36,15 @@ fn record(opcode: u8, r: u8, s: u8, v: Option<Operand>) -> Instruction {
 }
 
 impl Parser<'_> {
+    /// An instruction and the end of its line, or a `;`.
     pub fn instruction(&mut self) -> Result<Instruction, Error> {
+        let instruction = self.instruction_alone()?;
+        let may_go_on = instruction.opcode == opcode::MOVE && instruction.kind == REGISTER;
+        self.expect_end(if may_go_on { "an operator, " } else { "" })?;
+        Ok(instruction)
+    }
+
+    fn instruction_alone(&mut self) -> Result<Instruction, Error> {
         let first = self.peek();
         if first.kind != Kind::Name {
             return Err(self.misplaced(INSTRUCTION));

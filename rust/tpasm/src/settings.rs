@@ -60,7 +60,6 @@ impl<'a> Parser<'a> {
             };
             self.next();
             line(self, word.position, &mut settings)?;
-            self.expect_statement_end()?;
         }
     }
 
@@ -72,7 +71,7 @@ impl<'a> Parser<'a> {
             let number = self.unnamed_register()?;
             self.registers.declare(name, number);
             if !self.accept(",") {
-                return Ok(());
+                return self.expect_end("',', ");
             }
         }
     }
@@ -110,13 +109,15 @@ impl<'a> Parser<'a> {
     /// `places N`
     fn places_line(&mut self, at: Position, settings: &mut Settings) -> Result<(), Error> {
         let places = self.number_of(PLACES, Settings::allowed_places)?;
-        given_once(&mut settings.places, places, at, "places")
+        given_once(&mut settings.places, places, at, "places")?;
+        self.expect_end("")
     }
 
     /// `interval N`
     fn interval_line(&mut self, at: Position, settings: &mut Settings) -> Result<(), Error> {
         let interval = self.number_of(INTERVALS, Settings::allowed_interval)?;
-        given_once(&mut settings.interval, interval, at, "interval")
+        given_once(&mut settings.interval, interval, at, "interval")?;
+        self.expect_end("")
     }
 
     fn number_of<T>(
@@ -142,7 +143,7 @@ impl<'a> Parser<'a> {
                 return Err(Error::new(token.position, "each register set once", found));
             }
             if !self.accept(",") {
-                return Ok(());
+                return self.expect_end("',', ");
             }
         }
     }
@@ -158,7 +159,7 @@ impl<'a> Parser<'a> {
             }
             settings.words.push(word);
             if !self.accept(",") && !self.at_integer() {
-                return Ok(());
+                return self.expect_end("an integer, ',', ");
             }
         }
     }

@@ -27,7 +27,7 @@ fn not_utf_8() {
 fn a_character_outside_the_notation() {
     refused(
         &block("r0 := r1 & r2"),
-        "2:12: expected ';' or the end of the line, found '&'",
+        "2:12: expected an operator, ';' or the end of the line, found '&'",
     );
     refused(
         &block("@"),

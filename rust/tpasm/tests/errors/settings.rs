@@ -41,6 +41,18 @@ fn places() {
 }
 
 #[test]
+fn two_in_one() {
+    refused(
+        "places 2 interval 8\n",
+        "1:10: expected ';' or the end of the line, found 'interval'",
+    );
+    refused(
+        "reg a = r0 b = r1\n",
+        "1:12: expected ',', ';' or the end of the line, found 'b'",
+    );
+}
+
+#[test]
 fn interval() {
     for number in ["1", "7", "65536", "-8"] {
         refused(
@@ -76,7 +88,7 @@ fn set() {
     refused("set r0 = r1\n", "1:10: expected an integer, found 'r1'");
     refused(
         "set r0 = 1 r1 = 2\n",
-        "1:12: expected ';' or the end of the line, found 'r1'",
+        "1:12: expected ',', ';' or the end of the line, found 'r1'",
     );
 }
 
@@ -87,6 +99,10 @@ fn words() {
         "1:6: expected an integer, found the end of the line",
     );
     refused("words 1, 2, x\n", "1:13: expected an integer, found 'x'");
+    refused(
+        "words 1.5\n",
+        "1:8: expected an integer, ',', ';' or the end of the line, found '.'",
+    );
     refused(
         "words 1 -\n",
         "1:10: expected digits, found the end of the line",
