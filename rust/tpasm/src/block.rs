@@ -2,10 +2,11 @@
 
 use crate::cursor::Parser;
 use crate::error::Error;
-use crate::names::looks_numbered;
 use crate::notation;
 use crate::token::{Kind, Token};
 use model::{Block, Program, MAX_BLOCKS, MAX_INSTRUCTIONS};
+
+const NEW_LABEL: &str = "a new name for a block";
 
 impl Parser<'_> {
     /// All blocks, up to the file's end.
@@ -25,7 +26,7 @@ impl Parser<'_> {
 
     fn block(&mut self, program: &mut Program) -> Result<(), Error> {
         let name = self.peek();
-        self.check_label(name, program)?;
+        self.check_label(name, program.blocks.len())?;
         self.next();
         self.expect(":", "':'")?;
         let first = program.instructions.len() as u16;
@@ -38,24 +39,20 @@ impl Parser<'_> {
     }
 
     /// A label's name means nothing else, and stands before one block.
-    fn check_label(&self, name: Token, program: &Program) -> Result<(), Error> {
-        let taken = self.registers.number(name.text).is_some()
-            || looks_numbered(name.text)
-            || notation::of_text(name.text).is_some();
-        if taken {
-            return Err(self.misused(name, "a new name for a block"));
+    fn check_label(&self, name: Token, block_count: usize) -> Result<(), Error> {
+        if self.is_taken(name.text) {
+            return Err(self.misused(name, NEW_LABEL));
         }
-        let found = match self.labels.find(name.text) {
-            Some(label) if label.position != name.position => {
-                format!("'{}' again, as in line {}", name.text, label.position.line)
-            }
-            _ if program.blocks.len() == MAX_BLOCKS => {
-                let expected = format!("at most {} blocks", MAX_BLOCKS);
-                return Err(Error::new(name.position, expected, "one more"));
-            }
-            _ => return Ok(()),
-        };
-        Err(Error::new(name.position, "a new name for a block", found))
+        let first = self.labels.find(name.text);
+        if let Some(label) = first.filter(|label| label.position != name.position) {
+            let found = format!("'{}' again, as in line {}", name.text, label.position.line);
+            return Err(Error::new(name.position, NEW_LABEL, found));
+        }
+        if block_count == MAX_BLOCKS {
+            let expected = format!("at most {} blocks", MAX_BLOCKS);
+            return Err(Error::new(name.position, expected, "one more"));
+        }
+        Ok(())
     }
 
     fn instructions(&mut self, name: Token, program: &mut Program) -> Result<(), Error> {

@@ -1,7 +1,8 @@
 //! The parser's place in the tokens, and the questions that all of its parts put.
 
 use crate::error::Error;
-use crate::names::{described, Labels, Registers};
+use crate::names::{described, looks_numbered, Labels, Registers};
+use crate::notation;
 use crate::token::{Kind, Token};
 
 pub struct Parser<'a> {
@@ -91,6 +92,13 @@ impl<'a> Parser<'a> {
 
     pub fn at_label(&self) -> bool {
         self.peek().kind == Kind::Name && self.peek_second().is(":")
+    }
+
+    /// A register's name, one of that look, or an instruction's word.
+    pub fn is_taken(&self, name: &str) -> bool {
+        self.registers.number(name).is_some()
+            || looks_numbered(name)
+            || notation::of_text(name).is_some()
     }
 
     /// A declared name or `r0` to `r15`.

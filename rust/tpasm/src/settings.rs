@@ -1,10 +1,9 @@
 //! The lines before the first block: names of registers, and the job's settings.
 
 use crate::cursor::Parser;
-use crate::error::{Error, Position};
-use crate::names::{looks_numbered, numbered};
-use crate::notation;
-use crate::token::Kind;
+use crate::error::Error;
+use crate::names::numbered;
+use crate::token::{Kind, Token};
 use model::{MAX_PLACES, MAX_WORDS, REGISTERS};
 
 /// What start accepts, in words.
@@ -46,25 +45,29 @@ impl<'a> Parser<'a> {
         let mut settings = Settings::default();
         loop {
             self.skip_separators();
-            let word = self.peek();
-            if self.at_label() || word.kind == Kind::FileEnd {
+            if self.at_label() || self.peek().kind == Kind::FileEnd {
                 return Ok(settings);
             }
-            let line = match word.text {
-                "reg" => Parser::reg_line,
-                "places" => Parser::places_line,
-                "interval" => Parser::interval_line,
-                "set" => Parser::set_line,
-                "words" => Parser::words_line,
-                _ => return Err(self.unexpected(SETTING)),
-            };
-            self.next();
-            line(self, word.position, &mut settings)?;
+            let word = self.next();
+            match word.text {
+                "reg" => self.reg_line()?,
+                "places" => {
+                    let allowed = Settings::allowed_places;
+                    self.number_line(word, PLACES, allowed, &mut settings.places)?;
+                }
+                "interval" => {
+                    let allowed = Settings::allowed_interval;
+                    self.number_line(word, INTERVALS, allowed, &mut settings.interval)?;
+                }
+                "set" => self.set_line(&mut settings.registers)?,
+                "words" => self.words_line(&mut settings.words)?,
+                _ => return Err(Error::new(word.position, SETTING, word.to_string())),
+            }
         }
     }
 
     /// `reg NAME = rN, ..`
-    fn reg_line(&mut self, _: Position, _: &mut Settings) -> Result<(), Error> {
+    fn reg_line(&mut self) -> Result<(), Error> {
         loop {
             let name = self.new_name()?;
             self.expect("=", "'='")?;
@@ -79,14 +82,8 @@ impl<'a> Parser<'a> {
     /// A name that means nothing yet.
     fn new_name(&mut self) -> Result<&'a str, Error> {
         let token = self.peek();
-        if token.kind != Kind::Name {
-            return Err(self.unexpected("a new name for a register"));
-        }
-        let taken = self.registers.number(token.text).is_some()
-            || looks_numbered(token.text)
-            || notation::of_text(token.text).is_some();
-        if taken {
-            return Err(self.misused(token, "a new name for a register"));
+        if token.kind != Kind::Name || self.is_taken(token.text) {
+            return Err(self.wrong("a new name for a register"));
         }
         Ok(self.next().text)
     }
@@ -106,39 +103,33 @@ impl<'a> Parser<'a> {
         Ok(number)
     }
 
-    /// `places N`
-    fn places_line(&mut self, at: Position, settings: &mut Settings) -> Result<(), Error> {
-        let places = self.number_of(PLACES, Settings::allowed_places)?;
-        given_once(&mut settings.places, places, at, "places")?;
-        self.expect_end("")
-    }
-
-    /// `interval N`
-    fn interval_line(&mut self, at: Position, settings: &mut Settings) -> Result<(), Error> {
-        let interval = self.number_of(INTERVALS, Settings::allowed_interval)?;
-        given_once(&mut settings.interval, interval, at, "interval")?;
-        self.expect_end("")
-    }
-
-    fn number_of<T>(
+    /// `places N` or `interval N`, once.
+    fn number_line<T>(
         &mut self,
+        word: Token,
         expected: &str,
         allowed: impl Fn(i64) -> Option<T>,
-    ) -> Result<T, Error> {
+        setting: &mut Option<T>,
+    ) -> Result<(), Error> {
         let position = self.peek().position;
         let number = self.integer(expected)?;
-        allowed(number).ok_or_else(|| Error::new(position, expected, format!("'{}'", number)))
+        let value = allowed(number)
+            .ok_or_else(|| Error::new(position, expected, format!("'{}'", number)))?;
+        if setting.replace(value).is_some() {
+            let expected = format!("one '{}' line", word.text);
+            return Err(Error::new(word.position, expected, "a second"));
+        }
+        self.expect_end("")
     }
 
     /// `set REGISTER = INTEGER, ..`
-    fn set_line(&mut self, _: Position, settings: &mut Settings) -> Result<(), Error> {
+    fn set_line(&mut self, registers: &mut [Option<i64>]) -> Result<(), Error> {
         loop {
             let token = self.peek();
             let register = self.register("a register")?;
             self.expect("=", "'='")?;
             let integer = self.integer("an integer")?;
-            let start = &mut settings.registers[usize::from(register)];
-            if start.replace(integer).is_some() {
+            if registers[usize::from(register)].replace(integer).is_some() {
                 let found = format!("r{} again, as '{}'", register, token.text);
                 return Err(Error::new(token.position, "each register set once", found));
             }
@@ -149,34 +140,18 @@ impl<'a> Parser<'a> {
     }
 
     /// `words INTEGER ..`; several such lines make one call record.
-    fn words_line(&mut self, _: Position, settings: &mut Settings) -> Result<(), Error> {
+    fn words_line(&mut self, words: &mut Vec<i64>) -> Result<(), Error> {
         loop {
             let position = self.peek().position;
             let word = self.integer("an integer")?;
-            if settings.words.len() == MAX_WORDS {
+            if words.len() == MAX_WORDS {
                 let expected = format!("at most {} words", MAX_WORDS);
                 return Err(Error::new(position, expected, "one more"));
             }
-            settings.words.push(word);
+            words.push(word);
             if !self.accept(",") && !self.at_integer() {
                 return self.expect_end("an integer, ',', ");
             }
         }
-    }
-}
-
-fn given_once<T>(
-    setting: &mut Option<T>,
-    value: T,
-    position: Position,
-    word: &str,
-) -> Result<(), Error> {
-    match setting.replace(value) {
-        None => Ok(()),
-        Some(_) => Err(Error::new(
-            position,
-            format!("one '{}' line", word),
-            "a second",
-        )),
     }
 }

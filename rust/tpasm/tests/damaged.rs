@@ -1,5 +1,5 @@
 //! Sources with tokens changed at random: each is refused at a place inside it, or gives an image
-//! that the proved reader accepts and that comes back.
+//! that the proved reader accepts and that comes back. And random bytes, which are no program.
 
 use checks::generate::valid_image;
 use checks::random::Random;
@@ -97,4 +97,14 @@ fn damaged_sources() {
     }
     println!("{} assembled, {} refused", assembled, refused);
     assert!(assembled > 10_000 && refused > 10_000);
+}
+
+#[test]
+fn random_bytes() {
+    for number in 0..SOURCES {
+        let random = &mut Random::new(!SEED, number);
+        let length = random.below(60);
+        let source: Vec<u8> = (0..length).map(|_| random.byte()).collect();
+        assert!(assemble(&source).is_err());
+    }
 }

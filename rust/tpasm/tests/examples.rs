@@ -1,5 +1,7 @@
 //! Each program of examples/: assembled, run, and compared with the output beside it.
 
+use checks::replay::{compare, ReplayCase};
+use engine::STATE_BYTES;
 use std::fs;
 use std::path::{Path, PathBuf};
 use std::process::Command;
@@ -93,6 +95,34 @@ fn every_example_prints_its_output() {
                 name,
                 example.out.display()
             );
+        }
+    }
+}
+
+/// The engine's replay and the model's machine are left in the same state, whose work, span and
+/// registers are the output's.
+#[test]
+fn the_proved_engine_comes_to_every_output() {
+    for example in all() {
+        let name = example.out.display();
+        let rounds = example.number("span");
+        let case = ReplayCase {
+            job: example.job(),
+            order: (0..rounds).flat_map(|_| 0..8).collect(),
+            state_len: STATE_BYTES,
+        };
+        let replayed = match compare(&case, 0) {
+            Ok(Ok(replayed)) => replayed,
+            Ok(Err(refusal)) => panic!("{}: refused {}", name, refusal),
+            Err(difference) => panic!("{}: {}", name, difference),
+        };
+        let machine = replayed.machine;
+        assert!(machine.end().is_some(), "{}", name);
+        assert_eq!(machine.work(), example.number("work"), "{}", name);
+        assert_eq!(machine.last_task().span, example.number("span"), "{}", name);
+        for (number, value) in machine.last_task().registers.iter().enumerate() {
+            let line = example.line(&format!("r{}", number));
+            assert_eq!(line, value.to_string(), "{}", name);
         }
     }
 }
