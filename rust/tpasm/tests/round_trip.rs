@@ -1,0 +1,87 @@
+//! Images to text and back, on seeded images; every image that is made is held to the proved reader.
+
+use checks::generate::{case, valid_image};
+use checks::layout::{even_blocks, every_form, program_f};
+use tpasm::{assemble, list, Refusal};
+
+const SEED: u64 = 0x7470_6173;
+const CASES: u64 = 20_000;
+
+/// The image of a source, which the proved reader accepts.
+fn assembled(source: &str) -> Vec<u8> {
+    let image = match assemble(source.as_bytes()) {
+        Ok(assembly) => assembly.image,
+        Err(error) => panic!("{}", error),
+    };
+    assert_eq!(engine::image_check(&image), Ok(()));
+    image
+}
+
+fn comes_back(image: &[u8]) {
+    let text = list(image).expect("the image is accepted");
+    assert_eq!(assembled(&text), image);
+    assert_eq!(assembled(&renamed(&text)), image);
+}
+
+/// The source with other names: `label-N` for bN, `reg-N` for rN; and with the pairs turned round.
+fn renamed(text: &str) -> String {
+    let names: Vec<String> = (0..16).map(|n| format!("reg-{} = r{}", n, n)).collect();
+    let mut source = format!("reg {}\n", names.join(", "));
+    for line in text.lines() {
+        let words: Vec<String> = pairs_reversed(line).split(' ').map(renamed_word).collect();
+        source += &words.join(" ");
+        source += "\n";
+    }
+    source
+}
+
+fn renamed_word(word: &str) -> String {
+    let prefix = match word.as_bytes().first() {
+        Some(b'b') => "label-",
+        Some(b'r') => "reg-",
+        _ => return word.to_string(),
+    };
+    format!("{}{}", prefix, &word[1..])
+}
+
+fn pairs_reversed(line: &str) -> String {
+    match line.split("; ").collect::<Vec<_>>()[..] {
+        [start, pairs, end] => {
+            let pairs: Vec<&str> = pairs.rsplit(", ").collect();
+            format!("{}; {}; {}", start, pairs.join(", "), end)
+        }
+        _ => line.to_string(),
+    }
+}
+
+#[test]
+fn images_tried_by_hand() {
+    comes_back(&program_f());
+    comes_back(&every_form());
+    for (blocks, instructions) in [(1, 1), (1, 1024), (128, 128), (128, 1024)] {
+        comes_back(&even_blocks(blocks, instructions));
+        comes_back(&valid_image(SEED, blocks, instructions));
+    }
+}
+
+#[test]
+fn seeded_images() {
+    let mut accepted = 0;
+    let mut refused = [0; 10];
+    for number in 0..CASES {
+        let image = case(SEED, number).image;
+        match engine::image_check(&image) {
+            Ok(()) => {
+                comes_back(&image);
+                accepted += 1;
+            }
+            Err(refusal) => {
+                assert_eq!(list(&image), Err(Refusal(refusal)));
+                refused[usize::from(refusal)] += 1;
+            }
+        }
+    }
+    println!("{} accepted; refused by number: {:?}", accepted, refused);
+    assert!(accepted > 5_000);
+    assert!(refused[1..].iter().all(|&count| count > 0));
+}
