@@ -21,20 +21,20 @@ module _ (cells : List ℕ) {s v : Value} {t n : Active} (e : n ≡ countedActiv
   pub counted-depth : n .depth ≤ 6
   counted-depth = rw e (r .depth-most)
 
-module _ (cells : List ℕ) (words : List ℤ) (interval : ℕ) (x : Instruction) (s v : Value) (t : Active) (l : List Fork) {n : Active} (e : n ≡ countedActive t)
-  where
-    pub sends : (m : ℕ) → x .opcode ≡ m → executedAs cells words interval s v n l (getD opcodes m unknown) ≡ executed cells words interval x s v t l
-    unfolding executed
-    sends m k = rw (e, k)
+module _ (cells : List ℕ) (words : List ℤ) (interval : ℕ) (x : Instruction) (s v : Value) (t : Active) (l : List Fork) {n : Active}
+    (e : n ≡ countedActive t) where
+  pub sends : (m : ℕ) → x .opcode ≡ m → executedAs cells words interval s v n l (getD opcodes m unknown) ≡ executed cells words interval x s v t l
+  unfolding executed
+  sends m k = rw (e, k)
 
-    -- any other number than 1 to 15
-    pub sends-nowhere : (1 ≤ x .opcode → 15 < x .opcode) → faults 8 ≡ executed cells words interval x s v t l
-    unfolding executed
-    sends-nowhere h = rw (other (x .opcode) h)
-      where
-        other : (m : ℕ) → (1 ≤ m → 15 < m) → getD opcodes m unknown ≡ unknown
-        other zero h = refl
-        other (suc m) h = no-opcode (suc m) (h (omega arith))
+  -- any other number than 1 to 15
+  pub sends-nowhere : (1 ≤ x .opcode → 15 < x .opcode) → faults 8 ≡ executed cells words interval x s v t l
+  unfolding executed
+  sends-nowhere h = rw (other (x .opcode) h)
+    where
+      other : (m : ℕ) → (1 ≤ m → 15 < m) → getD opcodes m unknown ≡ unknown
+      other zero h = refl
+      other (suc m) h = no-opcode (suc m) (h (omega arith))
 
 -- a number that is not the next one either is past it
 pub past : (n : ℕ) {m : ℕ} → n ≤ m → (m ≡ n → ⊥) → n + 1 ≤ m
