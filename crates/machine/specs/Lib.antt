@@ -6,4 +6,3 @@ pub mod Shape
 pub mod Picking
 pub mod Driving
 pub mod Settling
-pub mod Codes

@@ -1,0 +1,3 @@
+-- What the contracts of `shape` cite.
+pub mod Stretches
+pub mod Codes
