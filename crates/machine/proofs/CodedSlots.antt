@@ -14,10 +14,10 @@ use Rattle.agreement.specs.Slots.{sideEnded}
 use Rattle.agreement.specs.Shape.{hollow, tiles}
 use Rattle.agreement.specs.ShapeLaws.{tiles-slot, tiles-lone, tiles-split}
 use Rattle.task.specs.Formed.{every, isVacant, formed}
-use Rattle.shape.specs.Codes.{codeOf, stands, clear, tiled}
-use Rattle.shape.proofs.EveryLaws.{never}
-use Rattle.shape.proofs.TiledLaws.{tiled-whole, tiled-none, tiled-lower-fails, tiled-upper-fails, tiled-halves}
-use Rattle.shape.proofs.CodeLaws.{formed-height, code-vacant, code-formed, code-ended}
+use Rattle.codes.specs.Codes.{codeOf, stands, clear, tiled}
+use Rattle.codes.proofs.EveryLaws.{never}
+use Rattle.codes.proofs.TiledLaws.{tiled-whole, tiled-none, tiled-lower-fails, tiled-upper-fails, tiled-halves}
+use Rattle.codes.proofs.CodeLaws.{formed-height, code-vacant, code-formed, code-ended}
 use Rattle.machine.specs.declared.Machine.{Machine}
 use Rattle.machine.specs.Slots.{at, slotsOf}
 use Rattle.machine.specs.Shape.{testsOf}
