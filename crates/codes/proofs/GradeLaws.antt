@@ -39,6 +39,23 @@ worst-start g = (
   },
 )
 
+module _ (g : ℕ → ℕ) (i : ℕ) (grades : List ℕ) (so-far : WorstSlots g i grades) (inside : i < 1024) where
+  -- where it is 0, i changes no slot's worst
+  pub worst-same : g i ≡ 0 → WorstSlots g (i + 1) grades
+  worst-same z = (
+    so-far .0,
+    λ k h.
+        let w = so-far .1 k h in
+        record {
+          above = λ j p q r.
+              by-order j i
+              (λ (l : j < i). w .above j p q l)
+              (λ (e : j ≡ i). rw (e, z) (omega arith))
+              (λ l. absurd (omega arith));
+          least = λ n all. w .least n (λ j p q r. all j p q (omega arith));
+        },
+  )
+
 module _ (g : ℕ → ℕ) (i : ℕ) (grades : List ℕ) (so-far : WorstSlots g i grades) (inside : i < 1024) (c : ℕ)
     (over : getD grades (i / 16) 0 ≤ c)
     (over-new : g i ≤ c)

@@ -72,8 +72,14 @@ pub fn grade_slots(cells: &[u64], bank: [Register; 1024]) -> [u8; 64]
     while i < 1024 {
         let register = bank[i];
         let v = register.value;
+        let grade = grade_of(cells, v);
+        // Most registers are 0 and leave their slot's grade as it is.
+        if grade == 0 {
+            i = i + 1;
+            continue;
+        }
         let k = i / 16;
-        grades[k] = larger(grades[k], grade_of(cells, v));
+        grades[k] = larger(grades[k], grade);
         i = i + 1;
     }
     grades

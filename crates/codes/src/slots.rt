@@ -26,7 +26,8 @@ fn is_formed(cells: &[u64], rank: usize, h: usize, t: Task, grade: u8) -> bool
     if !tasks::status_fits(t, grade == 0) {
         return false;
     }
-    if !tasks::forks_fit(cells, t) {
+    let forks = t.forks;
+    if !tasks::forks_fit(cells, t.depth, forks) {
         return false;
     }
     grade <= 1
@@ -53,7 +54,8 @@ fn is_vacant(cells: &[u64], t: Task, grade: u8) -> bool
     if !tasks::is_at_rest(t) {
         return false;
     }
-    if !tasks::forks_fit(cells, t) {
+    let forks = t.forks;
+    if !tasks::forks_fit(cells, t.depth, forks) {
         return false;
     }
     grade == 0

@@ -7,9 +7,10 @@ use task::Task;
 ghost use mathlib.Core.Path.{_≡_};
 ghost use mathlib.Core.List.{List};
 ghost use Prim.Native.Nat.{ℕ};
+ghost use lib.Dec.{ltb};
 ghost use lib.ListN.{length, getD};
-ghost use Rattle.task.specs.Frames.{isRunning, noTask};
-ghost use Rattle.task.specs.Formed.{every, within, registersZero, forkFits, forksFit, atRest, isVacantStatus, statusFits};
+ghost use Rattle.task.specs.Frames.{zeroFork, isRunning, noTask};
+ghost use Rattle.task.specs.Formed.{every, within, registersZero, forkFits, atRest, isVacantStatus, statusFits};
 ghost use Rattle.codes.specs.Codes.{Stored, framed};
 
 // ---- Forks
@@ -28,15 +29,16 @@ fn fork_fits(cells: &[u64], is_open: bool, fork: Fork) -> bool
     fork.depth == 0
 }
 
-pub fn forks_fit(cells: &[u64], t: Task) -> bool
+// The entries of a task at this depth: each of its open forks, and 0 past them.
+pub fn forks_fit(cells: &[u64], depth: u32, forks: [Fork; 6]) -> bool
     requires { ⌜ Stored (now cells) ⌝ }
-    ensures { λ r. ⌜ (r ≡ forksFit (now (cells .entry)) t) × (length (t .forks) ≡ 6) ⌝ }
+    ensures { λ r. ⌜ (r ≡ every (λ i. forkFits (now (cells .entry)) (ltb i depth) (getD forks i zeroFork)) 6 0) × (length forks ≡ 6) ⌝ }
 {
-    let depth = t.depth as usize;
+    let used = depth as usize;
     let mut i: usize = 0;
     while i < 6 {
-        let fork = t.forks[i];
-        if !fork_fits(cells, i < depth, fork) {
+        let fork = forks[i];
+        if !fork_fits(cells, i < used, fork) {
             return false;
         }
         i = i + 1;

@@ -45,10 +45,10 @@ forks-fit-requires : tie.Need-forks-fit-requires
 forks-fit-requires c κs = search needs
 
 returns-5 : tie.Need-returns-5
-returns-5 c = λ registers g. sym (formed-but-forks (c .before .before .before .before .before .before .before .before .before .before .before .before .before .args .cells .now) (c .before .before .before .before .before .before .before .before .before .before .before .before .before .args .t) registers (c .before .before .before .before .before .before .before .before .before .before .before .before .before .args .grade) g (c .before .forks-fit .ensures .1) (c .before .before .before .before .before .before .before .before .before .before .before .before .before .args .rank) (c .before .before .before .before .before .before .before .before .before .before .before .before .before .args .h) (c .before .before .before .before .before .before .before .before .before .if1 .left ∙ c .before .before .before .before .before .before .before .before .before .before .before .power .ensures) (c .before .before .before .before .before .before .before .if2 .left) (c .before .before .before .before .if3 .left) (sym (c .before .before .before .status-fits .ensures registers (g .all-zero)) ∙ not-false (c .before .before .before .status-fits .result) (c .before .before .if4 .left)) ∙ ap (λ b. b && leb (c .before .before .before .before .before .before .before .before .before .before .before .before .before .args .grade) 1) (sym (c .before .forks-fit .ensures .0) ∙ not-true (c .before .forks-fit .result) (c .if5 .taken)))
+returns-5 c = λ registers g. sym (formed-but-forks (c .before .before .before .before .before .before .before .before .before .before .before .before .before .before .args .cells .now) (c .before .before .before .before .before .before .before .before .before .before .before .before .before .before .args .t) registers (c .before .before .before .before .before .before .before .before .before .before .before .before .before .before .args .grade) g (c .before .forks-fit .ensures .1) (c .before .before .before .before .before .before .before .before .before .before .before .before .before .before .args .rank) (c .before .before .before .before .before .before .before .before .before .before .before .before .before .before .args .h) (c .before .before .before .before .before .before .before .before .before .before .if1 .left ∙ c .before .before .before .before .before .before .before .before .before .before .before .before .power .ensures) (c .before .before .before .before .before .before .before .before .if2 .left) (c .before .before .before .before .before .if3 .left) (sym (c .before .before .before .before .status-fits .ensures registers (g .all-zero)) ∙ not-false (c .before .before .before .before .status-fits .result) (c .before .before .before .if4 .left)) ∙ ap (λ b. b && leb (c .before .before .before .before .before .before .before .before .before .before .before .before .before .before .args .grade) 1) (sym (c .before .forks-fit .ensures .0) ∙ not-true (c .before .forks-fit .result) (c .if5 .taken)))
 
 returns-6 : tie.Need-returns-6
-returns-6 c = λ registers g. sym (formed-but-forks (c .before .before .before .before .before .before .before .before .before .before .before .before .before .args .cells .now) (c .before .before .before .before .before .before .before .before .before .before .before .before .before .args .t) registers (c .before .before .before .before .before .before .before .before .before .before .before .before .before .args .grade) g (c .before .forks-fit .ensures .1) (c .before .before .before .before .before .before .before .before .before .before .before .before .before .args .rank) (c .before .before .before .before .before .before .before .before .before .before .before .before .before .args .h) (c .before .before .before .before .before .before .before .before .before .if1 .left ∙ c .before .before .before .before .before .before .before .before .before .before .before .power .ensures) (c .before .before .before .before .before .before .before .if2 .left) (c .before .before .before .before .if3 .left) (sym (c .before .before .before .status-fits .ensures registers (g .all-zero)) ∙ not-false (c .before .before .before .status-fits .result) (c .before .before .if4 .left)) ∙ ap (λ b. b && leb (c .before .before .before .before .before .before .before .before .before .before .before .before .before .args .grade) 1) (sym (c .before .forks-fit .ensures .0) ∙ not-false (c .before .forks-fit .result) (c .if5 .left)))
+returns-6 c = λ registers g. sym (formed-but-forks (c .before .before .before .before .before .before .before .before .before .before .before .before .before .before .args .cells .now) (c .before .before .before .before .before .before .before .before .before .before .before .before .before .before .args .t) registers (c .before .before .before .before .before .before .before .before .before .before .before .before .before .before .args .grade) g (c .before .forks-fit .ensures .1) (c .before .before .before .before .before .before .before .before .before .before .before .before .before .before .args .rank) (c .before .before .before .before .before .before .before .before .before .before .before .before .before .before .args .h) (c .before .before .before .before .before .before .before .before .before .before .if1 .left ∙ c .before .before .before .before .before .before .before .before .before .before .before .before .power .ensures) (c .before .before .before .before .before .before .before .before .if2 .left) (c .before .before .before .before .before .if3 .left) (sym (c .before .before .before .before .status-fits .ensures registers (g .all-zero)) ∙ not-false (c .before .before .before .before .status-fits .result) (c .before .before .before .if4 .left)) ∙ ap (λ b. b && leb (c .before .before .before .before .before .before .before .before .before .before .before .before .before .before .args .grade) 1) (sym (c .before .forks-fit .ensures .0) ∙ not-false (c .before .forks-fit .result) (c .if5 .left)))
 
 pub is-formed-spec : {M : Type 1} → statement M
 is-formed-spec =
