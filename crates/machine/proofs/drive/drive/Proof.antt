@@ -13,7 +13,7 @@ use Rattle.task.specs.Frames.{running}
 use Rattle.machine.specs.declared.Machine.{Machine}
 use Rattle.machine.specs.Picking.{issued}
 use Rattle.machine.specs.Slots.{Sized}
-use Rattle.machine.proofs.Sizes.{length-by}
+use Rattle.codes.proofs.Sizes.{length-by}
 use Rattle.machine.proofs.Models.{Allowed}
 use Rattle.machine.proofs.ShapeLaws.{Fits, shape-allowed, shape-fits}
 use Rattle.machine.proofs.SettleSafety.{fits-safe}
