@@ -3,29 +3,18 @@ use mathlib.Core.Path.{_≡_, refl, sym, ap, ap₂, _∙_}
 use mathlib.Core.List.{List, [], _∷_, _++_}
 use Prim.Native.Nat.{ℕ, _+_, _*_}
 use native.Mathlib.Omega.{arith}
-use mir.Syntax.{w64}
-use mir.Val.{ofZ, toZ, SFits}
-use mir.ValLaws.{toZ-ofZ}
-use lib.IntN.{ℤ}
 use lib.ListN.{length, getD, length-append}
 use lib.Seq.{sets}
 use Rattle.image.specs.Layout.{rows}
 use Rattle.image.proofs.Rows.{length-rows}
-use Rattle.task.specs.declared.Value.{Value}
-use Rattle.task.specs.declared.Value.the-variants.{Int, Label, Record}
 use Rattle.task.specs.declared.Task.{Task}
 use Rattle.task.specs.Frames.{zeroFork, zeroRegister, noTask}
 use Rattle.machine.specs.declared.Machine.{Machine}
-use Rattle.job.specs.State.{statusNumber, faultNumber, forkNumbers, taskNumbers, valueNumbers, slotNumbers, stateNumbers, inBytes, stateLength, stateBytes}
-use Rattle.job.proofs.Reading.{sets-whole}
-use Rattle.job.proofs.Laying.{length-inBytes, inBytes-rows, numbers-placed}
+use Rattle.report.specs.Numbers.{valueNumbers, inBytes}
+use Rattle.report.specs.State.{statusNumber, faultNumber, forkNumbers, taskNumbers, slotNumbers, stateNumbers, stateLength, stateBytes}
+use Rattle.report.proofs.Laying.{length-value, length-inBytes, inBytes-rows, numbers-placed, sets-whole}
 
 -- ---- lengths
-
-pub length-value : (v : Value) → length (valueNumbers v) ≡ 3
-length-value (Int z) = refl
-length-value (Label b) = refl
-length-value (Record c d) = refl
 
 pub length-forks : (t : Task) → length (rows (λ i. forkNumbers (getD (t .forks) i zeroFork)) 6) ≡ 12
 length-forks t = length-rows (λ i. forkNumbers (getD (t .forks) i zeroFork)) 2 (λ i. refl) 6
@@ -43,23 +32,12 @@ length-slot m k =
 pub slot-width : (m : Machine) (k : ℕ) → length (inBytes (slotNumbers m k)) ≡ 536
 slot-width m k = length-inBytes (slotNumbers m k) ∙ ap (λ (n : ℕ). 8 * n) (length-slot m k)
 
-pub value-width : (v : Value) → length (inBytes (valueNumbers v)) ≡ 24
-value-width v = length-inBytes (valueNumbers v) ∙ ap (λ (n : ℕ). 8 * n) (length-value v)
-
 -- the state has 34,328 bytes
 pub state-length : (m : Machine) → length (stateBytes m) ≡ stateLength
 unfolding stateNumbers
 state-length m = length-inBytes (stateNumbers m) ∙ omega (arith, length-rows (slotNumbers m) 67 (length-slot m) 64)
 
 -- ---- the parts put together
-
--- a signed value that goes to a call is the number of its bits
-pub int-placed : (v : Value) (z : ℤ) (l l₁ : List ℕ) (at u : ℕ) → v ≡ Int z → SFits w64 z → u ≡ ofZ w64 (toZ w64 (ofZ w64 z))
-    → l₁ ≡ sets l at (inBytes (0 ∷ u ∷ 0 ∷ [])) → l₁ ≡ sets l at (inBytes (valueNumbers v))
-int-placed v z l l₁ at u e f b p =
-    p
-    ∙ ap (λ (n : ℕ). sets l at (inBytes (0 ∷ n ∷ 0 ∷ []))) (b ∙ ap (ofZ w64) (toZ-ofZ w64 z f))
-    ∙ ap (λ (w : Value). sets l at (inBytes (valueNumbers w))) (sym e)
 
 pub task-placed : (t : Task) (l l₁ l₂ l₃ l₄ : List ℕ) (at s f : ℕ) → s ≡ statusNumber (t .status) → f ≡ faultNumber (t .status)
     → l₁ ≡ sets l at (inBytes (s ∷ f ∷ t .places ∷ []))

@@ -1,18 +1,19 @@
 // The state's bytes.
+use crate::numbers::write_register;
+use crate::numbers::write_three;
+use crate::numbers::write_two;
 use machine::Machine;
 use task::Fork;
-use task::Register;
 use task::Status;
 use task::Task;
-use task::Value;
 ghost use mathlib.Core.Path.{_≡_};
-ghost use mathlib.Core.List.{[], _∷_};
 ghost use Prim.Native.Nat.{_+_, _*_, _≤_};
 ghost use lib.ListN.{length, getD};
 ghost use lib.Seq.{sets};
 ghost use Rattle.image.specs.Layout.{rows};
 ghost use Rattle.task.specs.Frames.{zeroFork};
-ghost use Rattle.job.specs.State.{statusNumber, faultNumber, forkNumbers, taskNumbers, valueNumbers, slotNumbers, inBytes, stateLength, stateBytes};
+ghost use Rattle.report.specs.Numbers.{inBytes};
+ghost use Rattle.report.specs.State.{statusNumber, faultNumber, forkNumbers, taskNumbers, slotNumbers, stateLength, stateBytes};
 
 fn status_number(s: Status) -> u64
     ensures { λ r. ⌜ r ≡ statusNumber s ⌝ }
@@ -38,22 +39,6 @@ fn fault_number(s: Status) -> u64
     }
 }
 
-fn write_two(out: &mut [u8], at: usize, a: u64, b: u64)
-    requires { ⌜ at + 16 ≤ length (now out) ⌝ }
-    ensures { λ _. ⌜ now (out .exit) ≡ sets (now (out .entry)) at (inBytes (a ∷ b ∷ [])) ⌝ }
-{
-    int64::write_u64(out, at, a);
-    int64::write_u64(out, at + 8, b);
-}
-
-fn write_three(out: &mut [u8], at: usize, a: u64, b: u64, c: u64)
-    requires { ⌜ at + 24 ≤ length (now out) ⌝ }
-    ensures { λ _. ⌜ now (out .exit) ≡ sets (now (out .entry)) at (inBytes (a ∷ b ∷ c ∷ [])) ⌝ }
-{
-    int64::write_u64(out, at, a);
-    write_two(out, at + 8, b, c);
-}
-
 fn write_forks(out: &mut [u8], at: usize, forks: [Fork; 6])
     requires { ⌜ at + 96 ≤ length (now out) ⌝ }
     ensures { λ _. ⌜ now (out .exit) ≡ sets (now (out .entry)) at (rows (λ i. inBytes (forkNumbers (getD forks i zeroFork))) 6) ⌝ }
@@ -76,18 +61,6 @@ fn write_task(out: &mut [u8], at: usize, t: Task)
     write_two(out, at + 24, t.pc as u64, t.counter as u64);
     write_two(out, at + 40, t.span as u64, t.depth as u64);
     write_forks(out, at + 56, forks);
-}
-
-fn write_register(out: &mut [u8], at: usize, r: Register)
-    requires { ⌜ at + 24 ≤ length (now out) ⌝ }
-    ensures { λ _. ⌜ now (out .exit) ≡ sets (now (out .entry)) at (inBytes (valueNumbers (r .value))) ⌝ }
-{
-    let v = r.value;
-    match v {
-        Value::Int(x) => write_three(out, at, 0, int64::bits(x), 0),
-        Value::Label(b) => write_three(out, at, 1, b as u64, 0),
-        Value::Record(c, d) => write_three(out, at, 2, c as u64, d as u64),
-    }
 }
 
 // Both loops are here, and the state is not handed on, so that it is not copied for every slot.

@@ -1,19 +1,15 @@
 -- The state's bytes: the whole state as 4,291 numbers of 64 bits, little-endian.
 use mathlib.Core.List.{List, [], _∷_, _++_}
 use Prim.Native.Nat.{ℕ, _+_, _*_}
-use mir.Syntax.{w64}
-use mir.Val.{ofZ}
 use lib.ListN.{getD}
-use Rattle.int64.specs.Little.{bytesOf}
 use Rattle.image.specs.Layout.{rows}
-use Rattle.task.specs.declared.Value.{Value}
-use Rattle.task.specs.declared.Value.the-variants.{Int, Label, Record}
 use Rattle.task.specs.declared.Status.{Status}
 use Rattle.task.specs.declared.Status.the-variants.{Vacant, Running, Waiting, Halted, Faulted}
 use Rattle.task.specs.declared.Fork.{Fork}
 use Rattle.task.specs.declared.Task.{Task}
 use Rattle.task.specs.Frames.{zeroFork, zeroRegister, noTask}
 use Rattle.machine.specs.declared.Machine.{Machine}
+use Rattle.report.specs.Numbers.{valueNumbers, inBytes}
 
 abbrev pub statusNumber : Status → ℕ
 statusNumber Vacant = 0
@@ -39,12 +35,6 @@ taskNumbers t =
     statusNumber (t .status) ∷ faultNumber (t .status) ∷ t .places ∷ t .pc ∷ t .counter ∷ t .span ∷ t .depth
     ∷ rows (λ i. forkNumbers (getD (t .forks) i zeroFork)) 6
 
--- kind, first number (an integer's 64 bits, a label, a continuation), second number (a record's depth)
-abbrev pub valueNumbers : Value → List ℕ
-valueNumbers (Int z) = 0 ∷ ofZ w64 z ∷ 0 ∷ []
-valueNumbers (Label b) = 1 ∷ b ∷ 0 ∷ []
-valueNumbers (Record c d) = 2 ∷ c ∷ d ∷ []
-
 -- a slot's 67 numbers: the task record, then its 16 registers
 unfoldable pub slotNumbers : Machine → ℕ → List ℕ
 slotNumbers m k =
@@ -54,11 +44,6 @@ slotNumbers m k =
 -- P, interval, work, then the 64 slots
 unfoldable pub stateNumbers : Machine → List ℕ
 stateNumbers m = m .places ∷ m .interval ∷ m .work ∷ rows (slotNumbers m) 64
-
--- numbers of 64 bits, one after the other
-unfoldable pub inBytes : List ℕ → List ℕ
-inBytes [] = []
-inBytes (x ∷ xs) = bytesOf 8 x ++ inBytes xs
 
 abbrev pub stateLength : ℕ
 stateLength = 34328

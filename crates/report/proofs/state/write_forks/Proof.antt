@@ -6,12 +6,13 @@ use lib.Seq.{sets}
 use Rattle.image.specs.Layout.{rows}
 use Rattle.image.proofs.Rows.{row-placed}
 use Rattle.task.specs.Frames.{zeroFork}
-use Rattle.job.specs.State.{forkNumbers, inBytes}
-use Rattle.job.proofs.Laying.{length-inBytes}
+use Rattle.report.specs.Numbers.{inBytes}
+use Rattle.report.specs.State.{forkNumbers}
+use Rattle.report.proofs.Laying.{length-inBytes}
 use borrow.Author.Needs.{needs}
 use native.Mathlib.Omega.{arith}
-use Rattle.job.proofs.state.write_forks.Statement.{statement}
-use Rattle.job.proofs.state.write_forks.Tie as tie
+use Rattle.report.proofs.state.write_forks.Statement.{statement}
+use Rattle.report.proofs.state.write_forks.Tie as tie
 
 abbrev Inv-loop : tie.InvT-loop
 Inv-loop out₀ at forks i₀ out i = (i ≤ 6) × (length out ≡ length out₀) × (out ≡ sets out₀ at (rows (λ (i : ℕ). inBytes (forkNumbers (getD forks i zeroFork))) i))
