@@ -1,2 +1,6 @@
 pub mod Laying
 pub mod StateLaws
+pub mod ReportLaws
+pub mod Writing
+pub mod Decimals
+pub mod Lines
