@@ -4,3 +4,4 @@ pub mod ReportLaws
 pub mod Writing
 pub mod Decimals
 pub mod Lines
+pub mod Samples

@@ -8,7 +8,7 @@ use lib.IntN.{ℤ, pos, negsuc}
 use lib.ListN.{length}
 use lib.Seq.{sets}
 
--- a buffer with a text of at most `most` bytes laid at `at`, and the place after it
+-- `after` is the buffer with the text laid at `at`, and `next` the place after it, at most `most` bytes on
 pub record Written (most : ℕ) (before : List ℕ) (at : ℕ) (text after : List ℕ) (next : ℕ) : Type 0 where
   pub stored : after ≡ sets before at text
   pub ends : next ≡ at + length text

@@ -1,5 +1,4 @@
-// Words and decimals. Each function answers the place after what it has written.
-ghost use mathlib.Core.Path.{_≡_};
+// Words and decimals. Each function answers the place after what it has written. `text` alone calls them, with room for it.
 ghost use mathlib.Core.List.{[], _∷_};
 ghost use Prim.Native.Nat.{_+_, _≤_};
 ghost use lib.ListN.{length};
@@ -25,7 +24,7 @@ fn write_digit(out: &mut [u8], at: usize, n: u64) -> usize
     at + 1
 }
 
-// The digits before the last one come first: `fuel` falls with each.
+// The digits before the last come first. The fuel falls with each, so that this ends.
 fn write_digits(out: &mut [u8], at: usize, n: u64, fuel: usize) -> usize
     requires { ⌜ at + fuel + 1 ≤ length (now out) ⌝ }
     ensures { λ r. ⌜ Written (fuel + 1) (now (out .entry)) at (digits fuel n) (now (out .exit)) r ⌝ }
@@ -47,7 +46,7 @@ pub fn write_decimal(out: &mut [u8], at: usize, n: u64) -> usize
     write_digits(out, at, n, 19)
 }
 
-// A minus sign, and the magnitude that 64 bits without a sign hold.
+// By its bits: the least integer has a magnitude that no i64 holds.
 pub fn write_signed(out: &mut [u8], at: usize, z: i64) -> usize
     requires { ⌜ at + 21 ≤ length (now out) ⌝ }
     ensures { λ r. ⌜ Written 21 (now (out .entry)) at (signed z) (now (out .exit)) r ⌝ }
@@ -60,6 +59,7 @@ pub fn write_signed(out: &mut [u8], at: usize, z: i64) -> usize
     write_decimal(out, next, u64::MAX - u + 1)
 }
 
+// A word, a number and the end of the line.
 pub fn write_line(out: &mut [u8], at: usize, word: &[u8], n: u64) -> usize
     requires { ⌜ at + length (now word) + 21 ≤ length (now out) ⌝ }
     ensures { λ r. ⌜ Written (length (now (word .entry)) + 21) (now (out .entry)) at (line (now (word .entry)) n) (now (out .exit)) r ⌝ }
