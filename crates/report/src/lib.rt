@@ -15,7 +15,7 @@ ghost use mathlib.Core.Path.{_≡_};
 ghost use mathlib.Core.Bool.{true};
 ghost use Rattle.report.specs.Report.{reportBy, reportOf};
 
-// A spent job, one that has not ended, has span 0 and 16 integers 0 here.
+// Of a spent job, one that has not ended, the span is 0 and the registers are 16 integers 0.
 pub struct Report {
     pub end: End,
     pub picks: u64,
