@@ -26,7 +26,7 @@ digits (suc fuel) n = elim (ltb n 10) [
   | false ↦ digits fuel (n / 10) ++ (digit n ∷ [])
 ]
 
--- a number of 64 bits has at most 20 digits
+-- a number of 64 bits has at most 20 digits. `proofs/ReadBack.antt` proves that they read back as the number
 abbrev pub decimal : ℕ → List ℕ
 decimal n = digits 19 n
 
