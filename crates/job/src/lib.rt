@@ -1,6 +1,5 @@
 // The exports: what a program in C or another language calls. Numbers and byte slices only.
 pub mod input;
-pub mod state;
 
 use machine::Machine;
 ghost use mathlib.Core.Path.{_≡_};
@@ -9,8 +8,8 @@ ghost use Rattle.image.specs.Layout.{cellsIn};
 ghost use Rattle.image.specs.Doors.{imageNo, rewriteNo, unlessRefused};
 ghost use Rattle.machine.specs.Starting.{empty};
 ghost use Rattle.orders.specs.Demand.{WhateverTheOrder, startOn};
+ghost use Rattle.report.specs.State.{stateBytes};
 ghost use Rattle.job.specs.Job.{jobImage, wordCount, jobNo};
-ghost use Rattle.job.specs.State.{stateBytes};
 ghost use Rattle.job.specs.Replay.{jobIn, replayNo, replayOf};
 
 // The image check: 0, or the number of the first question, 1 to 9, that is answered with no.
@@ -63,6 +62,6 @@ pub extern "C" fn tpal_replay(job: &[u8], order: &[u8], state: &mut [u8]) -> u8
     let mut words = [0i64; 4096];
     let count = input::word_count(job);
     let machine = carry_out(job, &cells, &mut words[..count], order);
-    state::write_state(machine, state);
+    report::state::write_state(machine, state);
     0
 }
