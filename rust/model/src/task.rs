@@ -125,13 +125,13 @@ impl Task {
         let instruction = &surroundings.program.instructions[usize::from(self.pc)];
         match instruction.opcode {
             opcode::MOVE => self.set(instruction, self.operand(instruction)),
-            opcode::ADD => self.combine(instruction, i64::wrapping_add),
-            opcode::SUBTRACT => self.combine(instruction, i64::wrapping_sub),
-            opcode::MULTIPLY => self.combine(instruction, i64::wrapping_mul),
-            opcode::DIVIDE => self.divide(instruction, i64::wrapping_div),
-            opcode::REMAINDER => self.divide(instruction, i64::wrapping_rem),
-            opcode::LESS => self.combine(instruction, |a, b| truth(a < b)),
-            opcode::EQUAL => self.combine(instruction, |a, b| truth(a == b)),
+            opcode::ADD => self.combine(instruction, |a, b| Ok(a.wrapping_add(b))),
+            opcode::SUBTRACT => self.combine(instruction, |a, b| Ok(a.wrapping_sub(b))),
+            opcode::MULTIPLY => self.combine(instruction, |a, b| Ok(a.wrapping_mul(b))),
+            opcode::DIVIDE => self.combine(instruction, |a, b| Ok(a.wrapping_div(divisor(b)?))),
+            opcode::REMAINDER => self.combine(instruction, |a, b| Ok(a.wrapping_rem(divisor(b)?))),
+            opcode::LESS => self.combine(instruction, |a, b| Ok(truth(a < b))),
+            opcode::EQUAL => self.combine(instruction, |a, b| Ok(truth(a == b))),
             opcode::WORD => self.word(instruction, surroundings.words),
             opcode::IF_JUMP => {
                 if self.integer(instruction.s)? != 0 {
@@ -190,25 +190,11 @@ impl Task {
     fn combine(
         &mut self,
         instruction: &Instruction,
-        op: impl FnOnce(i64, i64) -> i64,
+        op: impl FnOnce(i64, i64) -> Result<i64, u8>,
     ) -> Result<Step, u8> {
         let a = self.integer(instruction.s)?;
         let b = self.integer_operand(instruction)?;
-        self.set(instruction, Value::Int(op(a, b)))
-    }
-
-    #[inline]
-    fn divide(
-        &mut self,
-        instruction: &Instruction,
-        op: impl FnOnce(i64, i64) -> i64,
-    ) -> Result<Step, u8> {
-        let a = self.integer(instruction.s)?;
-        let b = self.integer_operand(instruction)?;
-        if b == 0 {
-            return Err(fault::DIVISOR);
-        }
-        self.set(instruction, Value::Int(op(a, b)))
+        self.set(instruction, Value::Int(op(a, b)?))
     }
 
     fn word(&mut self, instruction: &Instruction, words: &[i64]) -> Result<Step, u8> {
@@ -303,6 +289,14 @@ fn label(value: Value) -> Result<u8, u8> {
     match value {
         Value::Label(label) => Ok(label),
         _ => Err(fault::TARGET),
+    }
+}
+
+#[inline]
+fn divisor(integer: i64) -> Result<i64, u8> {
+    match integer {
+        0 => Err(fault::DIVISOR),
+        _ => Ok(integer),
     }
 }
 
