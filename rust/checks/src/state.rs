@@ -47,17 +47,12 @@ fn slot_numbers(slot: &Slot) -> [u64; SLOT_NUMBERS] {
         Status::Faulted(number) => (4, number.into()),
     };
     let task = &slot.task;
-    // A task that issues no more instructions has neither of these two.
-    let (pc, counter) = match slot.status {
-        Status::Running => (task.pc.into(), task.counter.into()),
-        _ => (0, 0),
-    };
     numbers[..FORKS_AT].copy_from_slice(&[
         status,
         fault,
         task.places.into(),
-        pc,
-        counter,
+        task.pc.into(),
+        task.counter.into(),
         task.span.into(),
         task.depth() as u64,
     ]);

@@ -11,6 +11,7 @@ pub mod plain;
 pub mod question;
 #[cfg(test)]
 mod sample;
+mod shape;
 pub mod task;
 
 pub use image::{
