@@ -3,7 +3,7 @@
 use crate::compare::Answers;
 use crate::damage::{Field, BLOCK_FIELDS, HEADER_FIELDS, INSTRUCTION_FIELDS};
 use crate::generate::{Case, Shape, SHAPES};
-use crate::shares::{unmet, Tally};
+use crate::shares::Tally;
 use std::collections::BTreeMap;
 use std::fmt;
 
@@ -67,10 +67,6 @@ impl Default for Coverage {
 }
 
 impl Coverage {
-    pub fn cases(&self) -> u64 {
-        self.cases
-    }
-
     fn meet(&mut self, name: &str) {
         match self.met.get_mut(name) {
             Some(count) => *count += 1,
@@ -131,8 +127,26 @@ impl Coverage {
             self.annotations[row][usize::from(block.pair_count)] += 1;
         }
     }
+}
 
-    /// Every count with its name, what was not met included.
+impl Tally for Coverage {
+    fn add(&mut self, other: &Coverage) {
+        self.cases += other.cases;
+        for (name, count) in &other.met {
+            *self.met.entry(name.clone()).or_insert(0) += count;
+        }
+        for (mine, theirs) in self.operands.iter_mut().zip(&other.operands) {
+            mine.iter_mut().zip(theirs).for_each(|(m, t)| *m += t);
+        }
+        for (mine, theirs) in self.annotations.iter_mut().zip(&other.annotations) {
+            mine.iter_mut().zip(theirs).for_each(|(m, t)| *m += t);
+        }
+    }
+
+    fn cases(&self) -> u64 {
+        self.cases
+    }
+
     fn lines(&self) -> Vec<(String, u64)> {
         let mut lines: Vec<_> = self.met.clone().into_iter().collect();
         for opcode in 1..=15 {
@@ -153,26 +167,6 @@ impl Coverage {
             }));
         }
         lines
-    }
-
-    /// What ought to be met and was not.
-    pub fn missing(&self) -> Vec<String> {
-        unmet(self.lines())
-    }
-}
-
-impl Tally for Coverage {
-    fn add(&mut self, other: &Coverage) {
-        self.cases += other.cases;
-        for (name, count) in &other.met {
-            *self.met.entry(name.clone()).or_insert(0) += count;
-        }
-        for (mine, theirs) in self.operands.iter_mut().zip(&other.operands) {
-            mine.iter_mut().zip(theirs).for_each(|(m, t)| *m += t);
-        }
-        for (mine, theirs) in self.annotations.iter_mut().zip(&other.annotations) {
-            mine.iter_mut().zip(theirs).for_each(|(m, t)| *m += t);
-        }
     }
 }
 

@@ -3,6 +3,7 @@
 use checks::assemble::{op, word, JobInput, Operand};
 use checks::layout::{program_f, INSTRUCTION};
 use checks::replay::{compare, run, ReplayCase};
+use checks::shares::expect_all_met;
 use checks::state::number_at;
 use engine::STATE_BYTES;
 use model::opcode::DIVIDE;
@@ -12,15 +13,7 @@ const JOBS: u64 = 24_000;
 
 #[test]
 fn seeded_jobs() {
-    match run(SEED, 0..JOBS) {
-        Err(what) => panic!("{}", what),
-        Ok(coverage) => {
-            println!("{}", coverage);
-            assert_eq!(coverage.jobs(), JOBS);
-            let missing = coverage.missing();
-            assert!(missing.is_empty(), "not covered: {}", missing.join("; "));
-        }
-    }
+    expect_all_met(run(SEED, 0..JOBS), JOBS);
 }
 
 const HALTED: u64 = 3;
