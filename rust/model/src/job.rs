@@ -143,7 +143,12 @@ pub fn report(input: &[u8]) -> String {
 
 /// What the run program would print with this budget.
 pub fn text(input: &[u8], budget: u64) -> String {
-    match run(input, budget) {
+    text_of(&run(input, budget))
+}
+
+/// What the run program prints where a run comes to this.
+pub fn text_of(outcome: &Result<Report, u8>) -> String {
+    match outcome {
         Err(refusal) => format!("refused {}\n", refusal),
         Ok(report) => report.to_string(),
     }
