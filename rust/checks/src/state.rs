@@ -39,8 +39,7 @@ fn numbers(machine: &Machine) -> Vec<u64> {
 fn slot_numbers(slot: &Slot) -> [u64; SLOT_NUMBERS] {
     let mut numbers = [0; SLOT_NUMBERS];
     let (status, fault) = match slot.status {
-        // What the model's vacant slot holds means nothing.
-        Status::Vacant => return numbers,
+        Status::Vacant => (0, 0),
         Status::Running => (1, 0),
         Status::Waiting => (2, 0),
         Status::Halted => (3, 0),

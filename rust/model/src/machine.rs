@@ -3,7 +3,6 @@
 use crate::image::{Block, Program};
 use crate::task::{Record, Step, Surroundings, Task, REGISTERS, ZEROS};
 use crate::{question, shape};
-use std::mem;
 
 pub const MAX_PLACES: u64 = 64;
 pub const MAX_WORDS: usize = 4096;
@@ -12,7 +11,7 @@ pub const WORK_LIMIT: u32 = u32::MAX;
 
 #[derive(Clone, Copy, Debug, PartialEq, Eq)]
 pub enum Status {
-    /// No task. What the slot's task holds means nothing.
+    /// No task.
     Vacant,
     Running,
     /// Its side of the innermost fork ended with a join.
@@ -30,6 +29,11 @@ pub struct Slot {
 }
 
 impl Slot {
+    pub const VACANT: Slot = Slot {
+        status: Status::Vacant,
+        task: Task::NONE,
+    };
+
     /// Whether the task there has ended its side of its innermost fork.
     pub(crate) fn has_ended_side(&self) -> bool {
         matches!(self.status, Status::Waiting | Status::Faulted(_))
@@ -113,11 +117,7 @@ impl Machine {
         let registers: &[i64; REGISTERS] = registers.try_into().map_err(|_| question::REGISTERS)?;
         check_words(words)?;
 
-        let vacant = Slot {
-            status: Status::Vacant,
-            task: Task::new(&[0; REGISTERS], 0),
-        };
-        let mut slots = vec![vacant; places as usize];
+        let mut slots = vec![Slot::VACANT; places as usize];
         slots[0] = Slot {
             status: Status::Running,
             task: Task::new(registers, places as u8),
@@ -316,13 +316,12 @@ impl Machine {
     fn join(&mut self, program: &Program, parent_slot: usize, child_slot: usize) {
         let (before, after) = self.slots.split_at_mut(child_slot);
         let (parent, child) = (&mut before[parent_slot], &mut after[0]);
-        let child_status = mem::replace(&mut child.status, Status::Vacant);
-        let (task, child) = (&mut parent.task, &child.task);
+        let task = &mut parent.task;
 
         let record = task.close_fork();
-        task.places += child.places;
-        task.span = task.span.max(child.span);
-        let status = match (parent.status, child_status) {
+        task.places += child.task.places;
+        task.span = task.span.max(child.task.span);
+        let status = match (parent.status, child.status) {
             (Status::Faulted(number), _) | (_, Status::Faulted(number)) => {
                 task.registers = ZEROS;
                 Status::Faulted(number)
@@ -330,12 +329,13 @@ impl Machine {
             _ => {
                 let continuation = &program.blocks[usize::from(record.continuation)];
                 for (from, to) in continuation.register_pairs() {
-                    task.registers[to] = child.registers[from];
+                    task.registers[to] = child.task.registers[from];
                 }
                 task.pc = program.blocks[usize::from(continuation.label)].first;
                 Status::Running
             }
         };
+        *child = Slot::VACANT;
         self.set_status(parent_slot, status);
     }
 }

@@ -1,7 +1,5 @@
 //! The shape test of docs/machine.md, which question 20 puts to a state and the program handed in.
-//!
-//! What a vacant slot's task holds means nothing here, and of a task's fork entries only the open
-//! ones can be read; so docs/machine.md's zeros in them need no test.
+//! Slots from P on have no counterpart here.
 
 use crate::fault;
 use crate::image::{Block, Program};
@@ -13,11 +11,10 @@ pub fn meets(machine: &Machine, program: &Program) -> bool {
         && allows_interval(machine.interval.into())
         && machine.running == running(&machine.slots)
         && is_tiled(&machine.slots)
-        && tasks(&machine.slots).all(|slot| fits(machine, program, slot))
-}
-
-fn tasks(slots: &[Slot]) -> impl Iterator<Item = &Slot> {
-    slots.iter().filter(|slot| slot.status != Status::Vacant)
+        && machine
+            .slots
+            .iter()
+            .all(|slot| fits(machine, program, slot))
 }
 
 /// The slots with a running task, as the machine keeps them.
@@ -41,7 +38,7 @@ fn is_tiled(slots: &[Slot]) -> bool {
             Some(others) => others,
             None => return false,
         };
-        if tasks(others).next().is_some() {
+        if others.iter().any(|other| other.status != Status::Vacant) {
             return false;
         }
         // A child's side comes after the parent's.
@@ -59,10 +56,14 @@ fn both_ended(parent: &Slot, child: &Slot) -> bool {
     parent.has_ended_side() && child.has_ended_side() && parent.task.places == child.task.places
 }
 
-/// What is asked of each task by itself.
+/// What is asked of each slot by itself.
 fn fits(machine: &Machine, program: &Program, slot: &Slot) -> bool {
+    if slot.status == Status::Vacant {
+        return slot.task == Task::NONE;
+    }
     let task = &slot.task;
-    usize::from(task.places) << task.depth() == machine.places()
+    task.has_clear_forks()
+        && usize::from(task.places) << task.depth() == machine.places()
         && usize::from(task.pc) < program.instructions.len()
         && task.counter <= machine.work
         && task.span <= machine.work
@@ -79,8 +80,7 @@ fn has_status(task: &Task, status: Status) -> bool {
         return false;
     }
     match status {
-        Status::Vacant => false,
-        Status::Running => true,
+        Status::Vacant | Status::Running => true,
         Status::Waiting => task.depth() > 0,
         Status::Halted => task.depth() == 0,
         Status::Faulted(number) => {

@@ -89,8 +89,7 @@ fn places_interval_and_running_tasks() {
     assert_damaged(forked(), |machine| machine.running = 0b111);
     // 128 slots with one task of as many places.
     let mut machine = start(&f(), 64);
-    let vacant = machine.slots[1].clone();
-    machine.slots.resize(128, vacant);
+    machine.slots.resize(128, Slot::VACANT);
     machine.slots[0].task.places = 128;
     assert!(!meets(&machine, &f()));
 }
@@ -103,7 +102,7 @@ fn tasks_tile_the_slots() {
     assert_damaged(forked(), |machine| machine.slots[2].task.places = 0);
     assert_damaged(forked(), |machine| machine.slots.swap(2, 3));
     assert_damaged(forked(), |machine| {
-        machine.slots[2].status = Status::Vacant;
+        machine.slots[2] = Slot::VACANT;
         machine.running = 0b1;
     });
     assert_damaged(forked(), |machine| {
@@ -111,9 +110,26 @@ fn tasks_tile_the_slots() {
         machine.running = 0b111;
     });
     assert_damaged(start(&f(), 4), |machine| {
-        machine.slots[0].status = Status::Vacant;
+        machine.slots[0] = Slot::VACANT;
         machine.running = 0;
     });
+}
+
+#[test]
+fn vacant_slots_and_closed_forks_hold_nothing() {
+    assert_damaged(forked(), |machine| machine.slots[3].task.span = 1);
+    assert_damaged(forked(), |machine| machine.slots[1].task.places = 1);
+    assert_damaged(forked(), |machine| {
+        machine.slots[1].task.registers[15] = Value::Label(0);
+    });
+    assert_damaged(forked(), |machine| {
+        machine.slots[1].task.forks[0] = record(2);
+    });
+    assert_damaged(forked(), |machine| {
+        machine.slots[0].task.forks[5] = record(2);
+    });
+    assert_damaged(forked(), |machine| machine.slots[0].task.depth = 7);
+    assert_damaged(forked(), |machine| machine.slots[0].task.depth = 255);
 }
 
 #[test]
