@@ -3,9 +3,12 @@
 //!
 //! A case is named by a seed and a number, and made from these two alone, so that one that failed
 //! can be run again by itself: `cargo run --release --bin soak -- 1 SEED NUMBER` for an image,
-//! `--bin soak_orders` for a job on the model, `--bin soak_replay` for one on both.
+//! `--bin soak_orders` for a job on the model, `--bin soak_replay` for one with an order and
+//! `--bin soak_jobs` for one with a budget on both.
 
 pub mod assemble;
+pub mod budgets;
+pub mod budgets_coverage;
 pub mod compare;
 pub mod coverage;
 pub mod damage;
