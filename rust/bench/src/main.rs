@@ -3,12 +3,20 @@
 //! Prints `ratio NAME VALUE`, the model's time divided by the engine's: above 1.0 the engine is
 //! faster. Both get the same bytes and run in turns in the same process, the model built for
 //! release. What the two come to is compared.
+//!
+//! A run is timed from the job's bytes to the report. Last comes how the time of a pick inside a run
+//! grows, with the number of picks and with P.
 
+mod jobs;
 mod timing;
 
 use checks::assemble::JobInput;
-use checks::state;
-use timing::{black_box, calls_in_turns, in_turns, print, timed};
+use checks::{report, state};
+use model::job::Report;
+use timing::{black_box, calls_in_turns, in_turns, print, timed, Times};
+
+/// Larger than any run here.
+const BUDGET: u64 = 1_000_000_000;
 
 fn compare_images() {
     const ROUNDS: usize = 401;
@@ -80,7 +88,97 @@ fn compare_picks() {
     assert!(engines == state::bytes(&beside));
 }
 
+/// Times whole runs of a job that ends, from its bytes to its report.
+fn time_runs(rounds: usize, job: &[u8]) -> (Times, Report) {
+    let expected = model::job::run(job, BUDGET).expect("the job is accepted");
+    assert!(expected.end.is_some(), "the job ends");
+    let mut engines = [0; engine::REPORT_BYTES];
+    let times = in_turns(
+        rounds,
+        || timed(|| assert!(black_box(model::job::run(black_box(job), BUDGET)).is_ok())),
+        || {
+            timed(|| {
+                assert!(engine::job_run(black_box(job), BUDGET, black_box(&mut engines)).is_ok())
+            })
+        },
+    );
+    assert!(engines[..] == report::bytes(&expected)[..]);
+    (times, expected)
+}
+
+fn compare_runs(name: &str, what: &str, job: &[u8]) {
+    const ROUNDS: usize = 21;
+    let (times, report) = time_runs(ROUNDS, job);
+    let picks = report.picks as f64;
+    print(name, what, &times);
+    println!(
+        "{:12} {} instructions: model {:.1}, engine {:.1} million a second",
+        name,
+        report.picks,
+        picks / times.model / 1e6,
+        picks / times.engine / 1e6
+    );
+}
+
+fn compare_jobs() {
+    const ROUNDS: usize = 201;
+    const CALLS: u32 = 20;
+    let job = jobs::middling();
+    let mut text = [0; engine::TEXT_BYTES];
+    let mut length = 0;
+    let times = calls_in_turns(
+        ROUNDS,
+        CALLS,
+        || assert!(black_box(model::job::text(black_box(&job), BUDGET)).starts_with("end halt")),
+        || length = engine::job_text(black_box(&job), BUDGET, black_box(&mut text)),
+    );
+    let what = format!("a job of {} bytes to its text, 256 picks", job.len());
+    print("job", &what, &times);
+    assert!(text[..length as usize] == *model::job::text(&job, BUDGET).as_bytes());
+}
+
+/// A line of nanoseconds for each pick.
+fn print_growth(what: &str, rounds: usize, job: &[u8]) {
+    let (times, report) = time_runs(rounds, job);
+    let nanoseconds = |time: f64| time / report.picks as f64 * 1e9;
+    println!(
+        "{:22} {:>9} picks: model {:6.2} ns, engine {:6.2} ns a pick",
+        what,
+        report.picks,
+        nanoseconds(times.model),
+        nanoseconds(times.engine)
+    );
+}
+
+fn print_growths() {
+    const ROUNDS: usize = 7;
+    for picks in [100_000, 1_000_000, 10_000_000] {
+        print_growth("serial, P 1", ROUNDS, &jobs::serial(picks));
+    }
+    for picks in [100_000, 1_000_000, 10_000_000] {
+        print_growth("forks, P 64", ROUNDS, &jobs::forks(picks));
+    }
+    for places in [1, 2, 4, 8, 16, 32, 64] {
+        let what = format!("figure 2, P {}", places);
+        print_growth(&what, ROUNDS, &jobs::figure2(1_000_000, places));
+    }
+}
+
 fn main() {
     compare_images();
     compare_picks();
+    let picks = 1_000_000;
+    compare_runs("run-serial", "one task's loop, P 1", &jobs::serial(picks));
+    compare_runs(
+        "run-figure2",
+        "002's Figure 2, P 64, interval 64",
+        &jobs::figure2(picks, 64),
+    );
+    compare_runs(
+        "run-forks",
+        "forks at every chance, P 64",
+        &jobs::forks(picks),
+    );
+    compare_jobs();
+    print_growths();
 }
