@@ -1,18 +1,17 @@
 //! What a run of jobs with budgets has covered, and what it ought to.
 
 use crate::budgets::BudgetCase;
+use crate::counts::Counts;
 use crate::shares::Tally;
 use engine::{REPORT_BYTES, TEXT_BYTES};
 use model::job::{Report, BUDGET};
 use model::{fault, question, End, Value};
-use std::collections::BTreeMap;
 use std::fmt;
 
-/// How often each thing was met, by its name; every thing that ought to be met has an entry.
 pub struct BudgetsCoverage {
     jobs: u64,
     picks: u64,
-    met: BTreeMap<String, u64>,
+    met: Counts,
 }
 
 const BUDGETS: [u64; 4] = [0, 1, BUDGET, u64::MAX];
@@ -95,40 +94,31 @@ impl Default for BudgetsCoverage {
         BudgetsCoverage {
             jobs: 0,
             picks: 0,
-            met: names.into_iter().map(|name| (name, 0)).collect(),
+            met: Counts::of(names),
         }
     }
 }
 
 impl BudgetsCoverage {
-    fn meet(&mut self, name: &str) {
-        match self.met.get_mut(name) {
-            Some(count) => *count += 1,
-            None => {
-                self.met.insert(name.to_string(), 1);
-            }
-        }
-    }
-
     pub fn count(&mut self, case: &BudgetCase, answered: &Result<Report, u8>) {
         self.jobs += 1;
         let number = answered.as_ref().err().copied().unwrap_or(0);
-        self.meet(&answer(number));
+        self.met.meet(&answer(number));
         let outcome = match answered {
             Err(_) => "refused",
             Ok(Report { end: None, .. }) => "spent",
             Ok(_) => "ended",
         };
         if BUDGETS.contains(&case.budget) {
-            self.meet(&with_budget(case.budget, outcome));
+            self.met.meet(&with_budget(case.budget, outcome));
         }
         if case.report_len != REPORT_BYTES {
-            self.meet(match answered {
+            self.met.meet(match answered {
                 Ok(_) => WRONG_REPORT,
                 Err(_) => WRONG_REPORT_AND_JOB,
             });
         }
-        self.meet(match answered {
+        self.met.meet(match answered {
             _ if case.text_len != TEXT_BYTES => WRONG_TEXT,
             Err(_) => TEXT_OF_REFUSAL,
             Ok(_) => TEXT,
@@ -140,8 +130,8 @@ impl BudgetsCoverage {
 
     fn count_report(&mut self, case: &BudgetCase, report: &Report) {
         self.picks += report.picks;
-        self.meet(&end(report));
-        self.meet(match report.end {
+        self.met.meet(&end(report));
+        self.met.meet(match report.end {
             None if case.budget == 0 => SPENT_AT_ONCE,
             None if ends_with_one_more(case) => SPENT_LAST,
             None => SPENT,
@@ -152,7 +142,7 @@ impl BudgetsCoverage {
             return;
         }
         for value in report.registers {
-            self.meet(&final_register(match value {
+            self.met.meet(&final_register(match value {
                 Value::Int(_) => KINDS[0],
                 Value::Label(_) => KINDS[1],
                 Value::Record(_) => KINDS[2],
@@ -165,9 +155,7 @@ impl Tally for BudgetsCoverage {
     fn add(&mut self, other: &BudgetsCoverage) {
         self.jobs += other.jobs;
         self.picks += other.picks;
-        for (name, count) in &other.met {
-            *self.met.entry(name.clone()).or_insert(0) += count;
-        }
+        self.met.add(&other.met);
     }
 
     fn cases(&self) -> u64 {
@@ -175,15 +163,13 @@ impl Tally for BudgetsCoverage {
     }
 
     fn lines(&self) -> Vec<(String, u64)> {
-        self.met.clone().into_iter().collect()
+        self.met.lines()
     }
 }
 
 impl fmt::Display for BudgetsCoverage {
     fn fmt(&self, f: &mut fmt::Formatter) -> fmt::Result {
-        for (name, count) in self.lines() {
-            writeln!(f, "{:>12}  {}", count, name)?;
-        }
+        self.write_lines(f)?;
         writeln!(f, "{:>12}  picks", self.picks)?;
         write!(f, "{:>12}  jobs", self.jobs)
     }

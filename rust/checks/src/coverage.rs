@@ -1,16 +1,15 @@
 //! What a run of cases has covered, and what it ought to.
 
 use crate::compare::Answers;
+use crate::counts::Counts;
 use crate::damage::{Field, BLOCK_FIELDS, HEADER_FIELDS, INSTRUCTION_FIELDS};
 use crate::generate::{Case, Shape, SHAPES};
 use crate::shares::Tally;
-use std::collections::BTreeMap;
 use std::fmt;
 
-/// How often each thing was met, by its name; every thing that ought to be met has an entry.
 pub struct Coverage {
     cases: u64,
-    met: BTreeMap<String, u64>,
+    met: Counts,
     /// Counted apart, because every instruction of every accepted image is.
     operands: [[u64; 4]; 16],
     annotations: [[u64; 5]; 4],
@@ -59,7 +58,7 @@ impl Default for Coverage {
         }
         Coverage {
             cases: 0,
-            met: names.into_iter().map(|name| (name, 0)).collect(),
+            met: Counts::of(names),
             operands: [[0; 4]; 16],
             annotations: [[0; 5]; 4],
         }
@@ -67,38 +66,29 @@ impl Default for Coverage {
 }
 
 impl Coverage {
-    fn meet(&mut self, name: &str) {
-        match self.met.get_mut(name) {
-            Some(count) => *count += 1,
-            None => {
-                self.met.insert(name.to_string(), 1);
-            }
-        }
-    }
-
     pub fn count(&mut self, case: &Case, answers: &Answers) {
         self.cases += 1;
-        self.meet(&shape_name(case.shape));
+        self.met.meet(&shape_name(case.shape));
         if let Some(field) = case.damaged {
-            self.meet(&damaged_name(field));
+            self.met.meet(&damaged_name(field));
         }
         let check = answers.read.as_ref().err().copied().unwrap_or(0);
         let rewrite = answers.rewrite.err().unwrap_or(0);
-        self.meet(&format!("check answers {:2}", check));
-        self.meet(&format!("rewrite answers {:2}", rewrite));
+        self.met.meet(&format!("check answers {:2}", check));
+        self.met.meet(&format!("rewrite answers {:2}", rewrite));
         if case.image.is_empty() {
-            self.meet("image empty");
+            self.met.meet("image empty");
         }
         if case.out_len == 0 {
-            self.meet("out empty");
+            self.met.meet("out empty");
         } else if case.out_len < case.image.len() {
-            self.meet("out shorter");
+            self.met.meet("out shorter");
         } else if case.out_len > case.image.len() {
-            self.meet("out longer");
+            self.met.meet("out longer");
         }
         if let Ok(program) = &answers.read {
             if case.damaged.is_some() {
-                self.meet("accepted after damage");
+                self.met.meet("accepted after damage");
             }
             self.count_program(program);
         }
@@ -107,13 +97,13 @@ impl Coverage {
     fn count_program(&mut self, program: &model::Program) {
         let counts = (program.blocks.len(), program.instructions.len());
         if counts.0 == 1 || counts.0 == 128 {
-            self.meet(&format!("accepted B = {}", counts.0));
+            self.met.meet(&format!("accepted B = {}", counts.0));
         }
         if counts.1 == 1 || counts.1 == 1024 {
-            self.meet(&format!("accepted I = {}", counts.1));
+            self.met.meet(&format!("accepted I = {}", counts.1));
         }
         if counts == (128, 1024) {
-            self.meet("accepted B = 128, I = 1024");
+            self.met.meet("accepted B = 128, I = 1024");
         }
         for instruction in &program.instructions {
             self.operands[usize::from(instruction.opcode)][usize::from(instruction.kind)] += 1;
@@ -132,9 +122,7 @@ impl Coverage {
 impl Tally for Coverage {
     fn add(&mut self, other: &Coverage) {
         self.cases += other.cases;
-        for (name, count) in &other.met {
-            *self.met.entry(name.clone()).or_insert(0) += count;
-        }
+        self.met.add(&other.met);
         for (mine, theirs) in self.operands.iter_mut().zip(&other.operands) {
             mine.iter_mut().zip(theirs).for_each(|(m, t)| *m += t);
         }
@@ -148,7 +136,7 @@ impl Tally for Coverage {
     }
 
     fn lines(&self) -> Vec<(String, u64)> {
-        let mut lines: Vec<_> = self.met.clone().into_iter().collect();
+        let mut lines = self.met.lines();
         for opcode in 1..=15 {
             let kinds = if opcode == 14 { 0..=0 } else { 1..=3 };
             lines.extend(kinds.map(|kind: usize| {
@@ -172,9 +160,7 @@ impl Tally for Coverage {
 
 impl fmt::Display for Coverage {
     fn fmt(&self, f: &mut fmt::Formatter) -> fmt::Result {
-        for (name, count) in self.lines() {
-            writeln!(f, "{:>12}  {}", count, name)?;
-        }
+        self.write_lines(f)?;
         write!(f, "{:>12}  images", self.cases)
     }
 }

@@ -222,9 +222,7 @@ impl Tally for JobCoverage {
 
 impl fmt::Display for JobCoverage {
     fn fmt(&self, f: &mut fmt::Formatter) -> fmt::Result {
-        for (name, count) in self.lines() {
-            writeln!(f, "{:>12}  {}", count, name)?;
-        }
+        self.write_lines(f)?;
         writeln!(f, "{:>12}  picks", self.picks)?;
         write!(f, "{:>12}  jobs", self.jobs)
     }

@@ -10,6 +10,7 @@ pub mod assemble;
 pub mod budgets;
 pub mod budgets_coverage;
 pub mod compare;
+mod counts;
 pub mod coverage;
 pub mod damage;
 mod draft;

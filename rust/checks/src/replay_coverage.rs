@@ -135,9 +135,7 @@ impl Tally for ReplayCoverage {
 
 impl fmt::Display for ReplayCoverage {
     fn fmt(&self, f: &mut fmt::Formatter) -> fmt::Result {
-        for (name, count) in self.lines() {
-            writeln!(f, "{:>12}  {}", count, name)?;
-        }
+        self.write_lines(f)?;
         writeln!(f, "{:>12}  picks carried out", self.carried_out)?;
         writeln!(f, "{:>12}  picks in the longest order", self.longest)?;
         write!(f, "{:>12}  jobs", self.jobs)

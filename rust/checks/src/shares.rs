@@ -1,6 +1,6 @@
 //! Many cases, on as many threads as the machine has processors.
 
-use std::fmt::Display;
+use std::fmt::{self, Display};
 use std::ops::Range;
 use std::sync::atomic::{AtomicU64, Ordering};
 use std::sync::Mutex;
@@ -15,6 +15,12 @@ pub trait Tally: Default + Display + Send {
 
     /// How often each thing was met that ought to be, with its name.
     fn lines(&self) -> Vec<(String, u64)>;
+
+    fn write_lines(&self, f: &mut fmt::Formatter) -> fmt::Result {
+        self.lines()
+            .into_iter()
+            .try_for_each(|(name, count)| writeln!(f, "{:>12}  {}", count, name))
+    }
 
     /// What ought to be met and was not.
     fn missing(&self) -> Vec<String> {
