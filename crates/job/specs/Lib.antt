@@ -1,3 +1,4 @@
 -- What the contracts of `job` cite.
 pub mod Job
 pub mod Replay
+pub mod Run
