@@ -7,13 +7,13 @@ use native.Mathlib.Omega.{arith}
 use lib.ListN.{getD}
 use borrow.Author.Tests.{lt-ltb, le-ltb}
 use Rattle.task.specs.Frames.{zeroRegister}
+use Rattle.codes.specs.Stretches.{reads}
+use Rattle.codes.specs.Codes.{GradedSlots, codeOf, CodedTasks, tree}
 use Rattle.codes.proofs.TiledLaws.{power-small}
 use Rattle.machine.specs.declared.Machine.{Machine}
-use Rattle.codes.specs.Stretches.{reads}
 use Rattle.machine.specs.Slots.{at}
 use Rattle.machine.specs.Starting.{rank, intervalAllowed}
 use Rattle.machine.specs.Shape.{countsFit, shape}
-use Rattle.codes.specs.Codes.{GradedSlots, codeOf, CodedTasks, tree}
 use Rattle.machine.proofs.CodedSlots.{codes-clear, codes-tiled}
 
 module _ (cells : List ℕ) (m : Machine) (D : ℕ) (ranked : D ≡ rank (m .places)) where
