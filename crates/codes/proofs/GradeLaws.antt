@@ -39,64 +39,50 @@ worst-start g = (
   },
 )
 
-module _ (g : ℕ → ℕ) (i : ℕ) (grades : List ℕ) (so-far : WorstSlots g i grades) (inside : i < 1024) where
-  -- where it is 0, i changes no slot's worst
-  pub worst-same : g i ≡ 0 → WorstSlots g (i + 1) grades
-  worst-same z = (
-    so-far .0,
-    λ k h.
-        let w = so-far .1 k h in
-        record {
-          above = λ j p q r.
-              by-order j i
-              (λ (l : j < i). w .above j p q l)
-              (λ (e : j ≡ i). rw (e, z) (omega arith))
-              (λ l. absurd (omega arith));
-          least = λ n all. w .least n (λ j p q r. all j p q (omega arith));
-        },
-  )
-
-module _ (g : ℕ → ℕ) (i : ℕ) (grades : List ℕ) (so-far : WorstSlots g i grades) (inside : i < 1024) (c : ℕ)
-    (over : getD grades (i / 16) 0 ≤ c)
-    (over-new : g i ≤ c)
-    (no-more : (n : ℕ) → getD grades (i / 16) 0 ≤ n → g i ≤ n → c ≤ n) where
-  its-slot : Worst g (i + 1) (i / 16) c
-  its-slot =
-      let w = so-far .1 (i / 16) (omega arith) in
-      record {
-        above = λ j p q r.
-            by-order j i
-            (λ (l : j < i). let a = w .above j p q l in omega arith)
-            (λ (e : j ≡ i). rw e over-new)
-            (λ l. absurd (omega arith));
-        least = λ n all.
-            no-more n (w .least n (λ j p q r. all j p q (omega arith))) (all i (omega arith) (omega arith) (omega arith));
-      }
-
-  other-slot : (k : ℕ) → (k ≡ i / 16 → ⊥) → k < 64 → Worst g (i + 1) k (getD grades k 0)
-  other-slot k n h =
+module _ (g : ℕ → ℕ) (i : ℕ) (grades : List ℕ) (so-far : WorstSlots g i grades) where
+  -- a slot that is not i's, or has one as bad as i already
+  unmoved : (k : ℕ) → k < 64 → (16 * k ≤ i → i < 16 * k + 16 → g i ≤ getD grades k 0) → Worst g (i + 1) k (getD grades k 0)
+  unmoved k h no-worse =
       let w = so-far .1 k h in
       record {
         above = λ j p q r.
             by-order j i
             (λ (l : j < i). w .above j p q l)
-            (λ (e : j ≡ i). absurd (n (omega arith)))
+            (λ (e : j ≡ i). rw e (no-worse (omega arith) (omega arith)))
             (λ l. absurd (omega arith));
         least = λ n all. w .least n (λ j p q r. all j p q (omega arith));
       }
 
-  pub worst-more : WorstSlots g (i + 1) (set grades (i / 16) c)
-  worst-more = (
-    length-set grades (i / 16) c ∙ so-far .0,
-    λ k h.
-        let elsewhere : (k ≡ i / 16 → ⊥) → Worst g (i + 1) k (getD (set grades (i / 16) c) k 0) =
-        λ n. rw (getD-set-other grades (i / 16) k c 0 n) (other-slot k n h)
-        in
-        by-order k (i / 16)
-        (λ l. elsewhere (λ e. omega arith))
-        (λ (e : k ≡ i / 16). rw (e, getD-set-same grades (i / 16) c 0 (omega (arith, so-far .0))) its-slot)
-        (λ l. elsewhere (λ e. omega arith)),
-  )
+  pub worst-same : g i ≡ 0 → WorstSlots g (i + 1) grades
+  worst-same z = (so-far .0, λ k h. unmoved k h (λ p q. omega (arith, z)))
+
+  module _ (inside : i < 1024) (c : ℕ) (over : getD grades (i / 16) 0 ≤ c) (over-new : g i ≤ c)
+      (no-more : (n : ℕ) → getD grades (i / 16) 0 ≤ n → g i ≤ n → c ≤ n) where
+    its-slot : Worst g (i + 1) (i / 16) c
+    its-slot =
+        let w = so-far .1 (i / 16) (omega arith) in
+        record {
+          above = λ j p q r.
+              by-order j i
+              (λ (l : j < i). let a = w .above j p q l in omega arith)
+              (λ (e : j ≡ i). rw e over-new)
+              (λ l. absurd (omega arith));
+          least = λ n all.
+              no-more n (w .least n (λ j p q r. all j p q (omega arith))) (all i (omega arith) (omega arith) (omega arith));
+        }
+
+    pub worst-more : WorstSlots g (i + 1) (set grades (i / 16) c)
+    worst-more = (
+      length-set grades (i / 16) c ∙ so-far .0,
+      λ k h.
+          let elsewhere : (k ≡ i / 16 → ⊥) → Worst g (i + 1) k (getD (set grades (i / 16) c) k 0) =
+          λ n. rw (getD-set-other grades (i / 16) k c 0 n) (unmoved k h (λ p q. absurd (n (omega arith))))
+          in
+          by-order k (i / 16)
+          (λ l. elsewhere (λ e. omega arith))
+          (λ (e : k ≡ i / 16). rw (e, getD-set-same grades (i / 16) c 0 (omega (arith, so-far .0))) its-slot)
+          (λ l. elsewhere (λ e. omega arith)),
+    )
 
 -- ---- what the grade tells
 

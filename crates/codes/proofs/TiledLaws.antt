@@ -1,13 +1,14 @@
 -- The test over codes, one level at a time.
-use Prim.Native.Nat.{ℕ, zero, suc, _+_, _-_, _^_}
+use Prim.Native.Nat.{ℕ, zero, suc, _+_, _-_, _^_, _≤_}
 use mathlib.Core.Path.{_≡_, refl, sym, ap, _∙_}
 use mathlib.Core.Bool.{true, false, not}
 use mathlib.Core.List.{List}
 use native.Mathlib.Omega.{arith}
 use lib.Dec.{eqb}
+use lib.Pow.{pow-mono}
 use lib.ListN.{getD}
 use borrow.Author.Tests.{eq-eqb, ne-eqb}
-use Rattle.codes.specs.Codes.{stands, clear, goesOn, tiled}
+use Rattle.codes.specs.Codes.{stands, clear, goesOn, tiled, tree}
 
 pub tiled-whole : (codes : List ℕ) (h b : ℕ) → stands (getD codes b 0) h ≡ true → tiled codes h b ≡ clear codes (2 ^ h - 1) (b + 1)
 unfolding tiled
@@ -72,3 +73,16 @@ module _ (codes : List ℕ) (h b c : ℕ) (read : c ≡ getD codes b 0) where
         child-decides-way d r k =
             let a : h + 8 ≡ g + 9 = omega arith in
             sym (halves ∙ rw (eq-eqb (getD codes b 0) (g + 9) (omega arith), ← q, ← r, ← a))
+
+-- ---- the whole test
+
+-- at most 64 places
+pub power-small : (h : ℕ) → h ≤ 6 → 2 ^ h ≤ 64
+power-small h p = pow-mono {i = h} {j = 6} p
+
+module _ (codes : List ℕ) (D : ℕ) where
+  pub untiled-way : tiled codes D 0 ≡ false → false ≡ tree codes D
+  untiled-way t = rw t
+
+  pub tiled-way : tiled codes D 0 ≡ true → (p : ℕ) → p ≡ 2 ^ D → clear codes (64 - p) p ≡ tree codes D
+  tiled-way t p e = rw (t, e)

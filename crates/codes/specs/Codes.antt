@@ -86,3 +86,7 @@ tiled codes (suc h) b = elim (stands (getD codes b 0) (suc h)) [
     | false ↦ false
   ]
 ]
+
+-- all slots of a job of 2 ^ D places are tiled, and all others vacant
+abbrev pub tree : List ℕ → ℕ → Bool
+tree codes D = tiled codes D 0 && clear codes (64 - 2 ^ D) (2 ^ D)

@@ -1,7 +1,7 @@
 // Whether the slots' codes are a tree's. The recursion over halves looks at them alone, so that no level copies the state.
 ghost use mathlib.Core.Path.{_≡_};
 ghost use Prim.Native.Nat.{_+_, _-_, _^_, _≤_};
-ghost use Rattle.codes.specs.Codes.{stands, clear, tiled};
+ghost use Rattle.codes.specs.Codes.{stands, clear, tiled, tree};
 
 // 2 ^ h, the places of a task of height h.
 pub fn power(h: usize) -> u64
@@ -47,7 +47,7 @@ fn stands_at(c: usize, h: usize) -> bool
 }
 
 // Whether the slots from..to are vacant.
-pub fn is_clear(codes: &[u8; 64], from: usize, to: usize) -> bool
+fn is_clear(codes: &[u8; 64], from: usize, to: usize) -> bool
     requires { ⌜ (from ≤ to) × (to ≤ 64) ⌝ }
     ensures { λ r. ⌜ r ≡ clear (now (codes .entry)) (to - from) from ⌝ }
 {
@@ -62,7 +62,7 @@ pub fn is_clear(codes: &[u8; 64], from: usize, to: usize) -> bool
 }
 
 // Whether the 2 ^ h slots from base on are one task's, or two halves of which not both have ended.
-pub fn is_tiled(codes: &[u8; 64], h: usize, base: usize) -> bool
+fn is_tiled(codes: &[u8; 64], h: usize, base: usize) -> bool
     requires { ⌜ (h ≤ 6) × (base + 2 ^ h ≤ 64) ⌝ }
     ensures { λ r. ⌜ r ≡ tiled (now (codes .entry)) h base ⌝ }
 {
@@ -84,4 +84,15 @@ pub fn is_tiled(codes: &[u8; 64], h: usize, base: usize) -> bool
         return true;
     }
     wide(codes[upper]) != h + 8
+}
+
+// Whether the slots are those of a job of 2 ^ rank places: its tasks tile them, and all others are vacant.
+pub fn is_tree(codes: &[u8; 64], rank: usize) -> bool
+    requires { ⌜ rank ≤ 6 ⌝ }
+    ensures { λ r. ⌜ r ≡ tree (now (codes .entry)) rank ⌝ }
+{
+    if !is_tiled(codes, rank, 0) {
+        return false;
+    }
+    is_clear(codes, power(rank) as usize, 64)
 }

@@ -9,9 +9,9 @@ use lib.ListN.{length, getD, set}
 use lib.Seq.{sets}
 use Rattle.task.specs.declared.Register.{Register}
 use Rattle.task.specs.Frames.{zeroRegister, zeros}
-use Rattle.machine.specs.declared.Machine.{Machine}
 use Rattle.codes.specs.Stretches.{reads}
 use Rattle.codes.proofs.StretchLaws.{length-reads, reads-snoc}
+use Rattle.machine.specs.declared.Machine.{Machine}
 
 module _ {A : Type 0} (d : A) where
   sets-snoc : (vs l : List A) (b : ℕ) (v : A) → set (sets l b vs) (b + length vs) v ≡ sets l b (vs ++ (v ∷ []))

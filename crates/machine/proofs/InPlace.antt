@@ -11,10 +11,10 @@ use Rattle.task.specs.declared.Task.{Task}
 use Rattle.task.specs.declared.Frame.{Frame}
 use Rattle.task.specs.Frames.{zeroRegister, noTask}
 use Rattle.task.specs.Step.{register, withTask}
-use Rattle.machine.specs.declared.Machine.{Machine}
 use Rattle.codes.specs.Stretches.{reads}
-use Rattle.machine.specs.Slots.{at, put, Sized}
 use Rattle.codes.proofs.StretchLaws.{length-reads, getD-reads, reads-all}
+use Rattle.machine.specs.declared.Machine.{Machine}
+use Rattle.machine.specs.Slots.{at, put, Sized}
 
 -- ---- a stretch of a list, stored where it stands
 

@@ -11,9 +11,9 @@ use Rattle.task.specs.declared.Task.{Task}
 use Rattle.task.specs.declared.Frame.{Frame}
 use Rattle.task.specs.Frames.{zeroRegister, noTask, isRunning, running}
 use Rattle.task.proofs.Facts.{set-keeps}
-use Rattle.machine.specs.declared.Machine.{Machine}
 use Rattle.codes.specs.Stretches.{reads}
 use Rattle.codes.proofs.StretchLaws.{length-reads, getD-reads, reads-sets, reads-same, reads-all}
+use Rattle.machine.specs.declared.Machine.{Machine}
 use Rattle.machine.specs.Slots.{at, put, Sized, ticked}
 
 -- a frame has its 16 registers

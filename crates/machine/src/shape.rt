@@ -27,10 +27,7 @@ pub fn meets_shape(cells: &[u64], m: Machine) -> bool
     let grades = registers::grade_slots(cells, bank);
     let tasks = m.tasks;
     let codes = slots::code_slots(cells, rank, tasks, grades);
-    if !tiling::is_tiled(&codes, rank, 0) {
-        return false;
-    }
-    if !tiling::is_clear(&codes, tiling::power(rank) as usize, 64) {
+    if !tiling::is_tree(&codes, rank) {
         return false;
     }
     tasks::counts_fit(m.work, tasks)

@@ -31,7 +31,7 @@ loop-less : tie.Need-loop-less Inv-loop μ-loop
 loop-less c = omega arith
 
 loop-again : tie.Need-loop-again Inv-loop μ-loop
-loop-again c = (omega arith, worst-same (gradeAt (c .before .before .before .before .before .before .args .cells .now) (c .before .before .before .before .before .before .args .t2)) (c .before .before .before .before .loop .i) (c .before .before .before .before .loop .grades) (c .before .before .before .before .loop .inv .1) (c .before .before .before .loop-test .taken) (omega (arith, c .before .grade-of .ensures, c .if1 .taken)))
+loop-again c = (omega arith, worst-same (gradeAt (c .before .before .before .before .before .before .args .cells .now) (c .before .before .before .before .before .before .args .t2)) (c .before .before .before .before .loop .i) (c .before .before .before .before .loop .grades) (c .before .before .before .before .loop .inv .1) (omega (arith, c .before .grade-of .ensures, c .if1 .taken)))
 
 array-read-larger : tie.Need-array-read-larger Inv-loop μ-loop
 array-read-larger c = omega (arith, c .before .before .before .loop-test .taken)
