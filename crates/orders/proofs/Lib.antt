@@ -3,4 +3,5 @@ pub mod Plays
 pub mod Demand
 pub mod Complete
 pub mod Shapes
+pub mod Runs
 pub mod Replaying
