@@ -4,4 +4,5 @@ pub mod Demand
 pub mod Complete
 pub mod Shapes
 pub mod Runs
+pub mod Budgets
 pub mod Replaying

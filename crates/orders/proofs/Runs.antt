@@ -197,7 +197,7 @@ run-is-order j m sized e =
 
 -- ---- a run after an order
 
-played-on : (j : Job) (ks ls : List ℕ) (m : Machine) → played j m (ks ++ ls) ≡ played j (played j m ks) ls
+pub played-on : (j : Job) (ks ls : List ℕ) (m : Machine) → played j m (ks ++ ls) ≡ played j (played j m ks) ls
 unfolding played
 played-on j [] ls m = refl
 played-on j (k ∷ ks) ls m = played-on j ks ls (picked (j .cells) (j .words) m k)
