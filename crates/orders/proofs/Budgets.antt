@@ -3,48 +3,24 @@
 use Prim.Native.Nat.{ℕ, zero, suc, _+_, _-_, _<_, _≤_}
 use mathlib.Core.Path.{_≡_, refl, sym, ap, _∙_, subst⁻¹}
 use mathlib.Core.Logic.{_⊎_, inl, inr}
-use mathlib.Core.Bool.{Bool, true, false, cond}
+use mathlib.Core.Bool.{true, false}
 use mathlib.Core.List.{List, [], _++_}
 use native.Mathlib.Omega.{arith}
-use lib.Dec.{ltb}
 use lib.IntN.{ℤ}
-use borrow.Author.Tests.{le-ltb}
 use Rattle.agreement.specs.Facts.{clash, by-test, by-below}
 use Rattle.agreement.specs.Plain.{Ran, out, ran}
 use Rattle.task.specs.declared.Frame.{Frame}
-use Rattle.task.specs.Frames.{running}
 use Rattle.machine.specs.declared.Machine.{Machine}
-use Rattle.machine.specs.Slots.{at}
 use Rattle.machine.specs.Ending.{jobEnded}
 use Rattle.machine.specs.Picking.{workLimit}
-use Rattle.machine.specs.Running.{Run, firstRunning, nextPick, stops, pickedAt, runs, runFrom}
-use Rattle.machine.proofs.Passing.{none-found, rests}
+use Rattle.machine.specs.Running.{Run, nextPick, stops, pickedAt, runs}
+use Rattle.machine.proofs.Passing.{next-when-over, picks-next, rests}
 use Rattle.orders.specs.Demand.{Job, Accepted, startOn, played, carriedOut, evaluation, Ends, Agrees}
 use Rattle.orders.specs.Runs.{IsOrder, RunsAdd, run, PassOver, AddsUp, BudgetsAdd, EndsAlike, SameEnd}
 use Rattle.orders.proofs.Demand.{demand-3}
 use Rattle.orders.proofs.Complete.{complete-orders-agree}
 use Rattle.orders.proofs.Shapes.{every-order-meets}
-use Rattle.orders.proofs.Runs.{picks-next, played-on, order-passes, run-is-order}
-
--- ---- where the search for the next pick begins anew
-
-module _ (m : Machine) where
-  pub next-from-first : nextPick m 0 ≡ firstRunning m (m .places) 0
-  unfolding nextPick
-  next-from-first = rw (whole (m .places)) (either (ltb (firstRunning m (m .places) 0) (m .places)) (firstRunning m (m .places) 0))
-    where
-      whole : (n : ℕ) → n - 0 ≡ n
-      whole n = omega arith
-
-      either : (t : Bool) (n : ℕ) → cond t n n ≡ n
-      either true n = refl
-      either false n = refl
-
-  pub next-when-over : (k : ℕ) → ((i : ℕ) → k ≤ i → i < m .places → running (at m i) ≡ false) → nextPick m k ≡ nextPick m 0
-  unfolding nextPick
-  next-when-over k over =
-      let none = none-found m (m .places - k) k (λ i p q. over i p (omega arith)) in
-      rw (none, le-ltb (k + (m .places - k)) (m .places) (omega arith)) (sym next-from-first)
+use Rattle.orders.proofs.Runs.{played-on, order-passes, run-is-order}
 
 -- ---- from the slot reached on
 
