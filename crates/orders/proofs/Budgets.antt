@@ -1,6 +1,6 @@
 -- A budget that is spent in two runs. From the slot reached on, the second goes on with the first. From slot 0 on it does so where the first
 -- stopped at a pass's end or can pick no more. And from a fresh start both ways come to the same end.
-use Prim.Native.Nat.{ℕ, zero, suc, _+_, _-_, _<_, _≤_}
+use Prim.Native.Nat.{ℕ, zero, suc, _+_, _<_, _≤_}
 use mathlib.Core.Path.{_≡_, refl, sym, ap, _∙_, subst⁻¹}
 use mathlib.Core.Logic.{_⊎_, inl, inr}
 use mathlib.Core.Bool.{true, false}

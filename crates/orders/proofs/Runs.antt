@@ -1,5 +1,5 @@
 -- A budgeted run is an order of picks that are all carried out, in every state that meets the shape test; so demand 3 speaks of every run.
-use Prim.Native.Nat.{ℕ, zero, suc, _+_, _-_, _<_, _≤_}
+use Prim.Native.Nat.{ℕ, zero, suc, _+_, _<_, _≤_}
 use mathlib.Core.Path.{_≡_, refl, sym, ap, _∙_, subst⁻¹}
 use mathlib.Core.Logic.{_⊎_, inl, inr}
 use mathlib.Core.Bool.{Bool, true, false, not, _||_}
@@ -187,6 +187,7 @@ every-run j a m ks b =
       not-refused = ap (λ (x : Outcome). x .no) said;
       order = o .order;
       leads-here = ap (λ (x : Outcome). x .machine) said ∙ o .leads-here ∙ sym (played-on j ks (o .order) (startOn j m));
+      all-carried-out = o .all-carried-out;
       picks-counted = ap (λ (x : Outcome). x .picks) said ∙ o .picks-counted;
       ended-said = ap (λ (x : Outcome). x .ended) said ∙ sym (ap (λ (x : Outcome). jobEnded (x .machine)) said);
       whatever-the-order = demand-3 j a m (ks ++ o .order);
