@@ -5,4 +5,5 @@ pub mod Complete
 pub mod Shapes
 pub mod Runs
 pub mod Budgets
+pub mod SameEnd
 pub mod Replaying

@@ -23,7 +23,7 @@ use Rattle.machine.proofs.Picked.{state-passes}
 use Rattle.orders.specs.Demand.{Job, Accepted, startOn, played, carriedOut}
 use Rattle.orders.specs.Shapes.{Meets, ShapeEnsures}
 use Rattle.orders.specs.Runs.{Untouched, IsOrder, RunIsOrder, EveryRun}
-use Rattle.orders.proofs.Plays.{job-accepted}
+use Rattle.orders.proofs.Plays.{job-accepted, played-on}
 use Rattle.orders.proofs.Demand.{demand-3}
 use Rattle.orders.proofs.Shapes.{every-shape, every-order-meets}
 
@@ -158,11 +158,6 @@ run-is-order j m sized e =
     is-order j (p .program) lent m (record { sized = sized; shaped = p .shaped })
 
 -- ---- a run after an order
-
-pub played-on : (j : Job) (ks ls : List ℕ) (m : Machine) → played j m (ks ++ ls) ≡ played j (played j m ks) ls
-unfolding played
-played-on j [] ls m = refl
-played-on j (k ∷ ks) ls m = played-on j ks ls (picked (j .cells) (j .words) m k)
 
 -- questions 1 to 20 let every state of an order pass
 pub order-passes : (j : Job) → Accepted j → (m : Machine) (ks : List ℕ) → stateNo (j .cells) (j .words) (played j (startOn j m) ks) ≡ 0

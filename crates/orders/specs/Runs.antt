@@ -1,6 +1,6 @@
--- The budgeted run is an order of picks, so demand 3 speaks of every run; and a budget may be spent in two runs. `proofs/Runs.antt` and
--- `proofs/Budgets.antt` prove it. What a run is, machine's Running says: `outcome` is what `Machine::run` hands back, and `runFrom` the run
--- inside it. A `Run` has the state, the picks carried out and the slot that it reaches next.
+-- The budgeted run is an order of picks, so demand 3 speaks of every run; and a budget may be spent in two runs. `proofs/Runs.antt`,
+-- `Budgets.antt` and `SameEnd.antt` prove it. What a run is, machine's Running says: `outcome` is what `Machine::run` hands back, and `runFrom`
+-- the run inside it. A `Run` has the state, the picks carried out and the slot that it reaches next.
 use Prim.Native.Nat.{ℕ, _+_, _<_, _≤_}
 use mathlib.Core.Path.{_≡_}
 use mathlib.Core.Logic.{_⊎_}
