@@ -3,15 +3,16 @@
  *
  * Buffers. A buffer is lent for the call alone, as a pointer and a length in bytes, and needs no
  * alignment. A pointer may not be null: for an empty buffer pass any other pointer with length 0.
- * `out` and `state` may overlap no other buffer, and nobody may write to a lent buffer during the
- * call.
+ * A buffer that is written (`out`, `state`, `report`, `text`) may overlap no other, and nobody may
+ * write to a lent buffer during the call.
  *
  * Threads. The engine has no global state, takes no memory from the heap and makes no system
  * calls. Each function may be called from any thread, by several at once. A call on an image takes
- * less than 64 KB of the caller's stack, a replay less than 512 KB.
+ * less than 64 KB of the caller's stack, one on a job less than 512 KB.
  *
  * Answers. 0 is accepted; any other answer is the number of the first question that was answered
- * with no. A refused call leaves `out` and `state` as they were.
+ * with no. A refused call leaves the buffer that it would write as it was. Only tpal_job_text
+ * answers otherwise.
  */
 #ifndef TPAL_H
 #define TPAL_H
@@ -52,6 +53,31 @@ uint8_t tpal_image_check(const uint8_t *image, size_t image_len);
  * holds the image's bytes again. Answers 0; or 1 to 9; or 15 when out_len is not image_len. */
 uint8_t tpal_image_rewrite(const uint8_t *image, size_t image_len, uint8_t *out, size_t out_len);
 
+/* A job's bytes, little-endian: image length (16 bits), image, P (8 bits), interval (16 bits), 16
+ * registers (64 bits), word count (16 bits), words (64 bits).
+ * The longest that passes question 10, with an image of 65,535 bytes and 65,535 words; no such job
+ * is accepted. A caller that reads a job from elsewhere and has more bytes need not read on: the
+ * answer is 10. */
+#define TPAL_JOB_MAX 589950
+/* The longest that is accepted: the largest image and 4,096 words. */
+#define TPAL_JOB_ACCEPTED_MAX 46479
+
+/* Faults inside a task, in the order in which their questions are put to an instruction. */
+#define TPAL_FAULT_INTEGERS 31    /* both operands of opcodes 2 to 8, index, if-jump register integers? */
+#define TPAL_FAULT_DIVISOR 32     /* divisor not 0? */
+#define TPAL_FAULT_INDEX 33       /* index inside the call record? */
+#define TPAL_FAULT_RECORD 36      /* fork or join operand a record that fits? */
+#define TPAL_FAULT_TARGET 34      /* jump or fork target a label? (if-jump looks only when it jumps) */
+#define TPAL_FAULT_JOIN_TARGET 35 /* jralloc operand a label of a join target? */
+#define TPAL_FAULT_PLACES 37      /* two places to fork? */
+#define TPAL_FAULT_OPEN_FORK 38   /* no open fork at halt? */
+
+/* What a register holds, in a state and in a report: three numbers, of which the second is the
+ * integer, the label or the record's continuation, and the third the record's depth, else 0. */
+#define TPAL_KIND_INTEGER 0
+#define TPAL_KIND_LABEL 1
+#define TPAL_KIND_RECORD 2
+
 /* Length of a state: 4,291 numbers of 64 bits, little-endian.
  * 0: P. 1: interval. 2: work. Then 67 numbers for each slot 0 to 63, by their place in the slot:
  *   0         status: 0 vacant, 1 running, 2 waiting, 3 halted, 4 faulted
@@ -60,17 +86,46 @@ uint8_t tpal_image_rewrite(const uint8_t *image, size_t image_len, uint8_t *out,
  *   3 and 4   program counter and counter, 0 where not running
  *   5 and 6   span and depth
  *   7 to 18   six open forks, the outermost first: continuation, depth; unused ones are 0
- *   19 to 66  16 registers of three numbers: kind (0 integer, 1 label, 2 record); the integer, the
- *             label or the record's continuation; the record's depth, else 0
+ *   19 to 66  16 registers of three numbers: kind, then as above
  * A vacant slot is all 0, and so are a faulted task's registers. */
 #define TPAL_STATE_BYTES 34328
 
-/* Starts a job, whose bytes are laid out as the run program takes them, and carries out one pick
- * for each byte of `order`, a slot's number; a pick that is refused is passed over. Then writes the
- * whole state to `state`. Answers 0; or 10; or 1 to 9; or 11, 12 or 14; or 15 when state_len is not
- * TPAL_STATE_BYTES. */
+/* Starts a job and carries out one pick for each byte of `order`, a slot's number; a pick that is
+ * refused is passed over. Then writes the whole state to `state`. Answers 0; or 10; or 1 to 9; or
+ * 11, 12 or 14; or 15 when state_len is not TPAL_STATE_BYTES. */
 uint8_t tpal_replay(const uint8_t *job, size_t job_len, const uint8_t *order, size_t order_len,
                     uint8_t *state, size_t state_len);
+
+/* Length of a report: 53 numbers of 64 bits, little-endian.
+ *   0        end, see below
+ *   1        fault number, 0 where the job has not ended with a fault
+ *   2        picks carried out
+ *   3 and 4  work and span
+ *   5 to 52  16 registers of three numbers: kind, then as above
+ * Of a job that is spent, the span and the registers' numbers are 0. After a fault the registers are
+ * integers 0. */
+#define TPAL_REPORT_BYTES 424
+#define TPAL_END_SPENT 0 /* the budget's picks are carried out, or the work stands at 4,294,967,295 */
+#define TPAL_END_HALT 1
+#define TPAL_END_FAULT 2
+
+/* Starts a job and runs it: passes over the slots again and again and picks each that has a running
+ * task when reached, until the job has ended or `budget` picks are carried out. A job that ends on
+ * the last of them has ended. Then writes the report to `report`. Answers 0; or 10; or 1 to 9; or
+ * 11, 12 or 14; or 15 when report_len is not TPAL_REPORT_BYTES. The budget bounds the time of the
+ * call: not every job ends. */
+uint8_t tpal_job_run(const uint8_t *job, size_t job_len, uint64_t budget, uint8_t *report,
+                     size_t report_len);
+
+/* Length of a buffer for a text; every text is shorter. */
+#define TPAL_TEXT_BYTES 1024
+
+/* Runs a job as tpal_job_run does and writes what the run program would print for it with this
+ * budget to the start of `text`, `refused n` included: ASCII, lines that end with a line feed, no
+ * zero byte after them. Answers the text's length; the bytes after it are left as they were. When
+ * text_len is not TPAL_TEXT_BYTES it answers 0 and leaves `text` as it was. */
+uint64_t tpal_job_text(const uint8_t *job, size_t job_len, uint64_t budget, uint8_t *text,
+                       size_t text_len);
 
 #ifdef __cplusplus
 }

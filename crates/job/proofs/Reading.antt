@@ -1,6 +1,6 @@
--- Integers read one after the other, and a list that is overwritten whole.
+-- Integers read one after the other.
 use mathlib.Core.Path.{_≡_, refl, sym, ap, _∙_}
-use mathlib.Core.List.{List, [], _∷_, _++_, append-nil}
+use mathlib.Core.List.{List, [], _∷_, _++_}
 use Prim.Native.Nat.{ℕ, zero, suc, _+_, _*_, _^_, _<_}
 use native.Mathlib.Omega.{arith}
 use native.Mathlib.Numerals.{add-one}
@@ -9,18 +9,11 @@ use mir.Val.{ofZ, toZ}
 use mir.ValLaws.{toZ-ofZ}
 use lib.IntN.{ℤ}
 use lib.Signed.{mag}
-use lib.ListN.{length, set, drop-of-length-le}
-use lib.Seq.{sets, sets-eq}
+use lib.ListN.{length, set}
+use lib.Seq.{sets}
 use Rattle.int64.specs.Little.{little}
 use Rattle.int64.proofs.Stores.{sets-append}
 use Rattle.job.specs.Job.{numbers}
-
--- a list that is overwritten whole
-pub sets-whole : {A : Type 0} (l xs : List A) → length xs ≡ length l → sets l 0 xs ≡ xs
-sets-whole {A} l xs e =
-    sets-eq xs l 0 (omega arith)
-    ∙ ap (λ (r : List A). xs ++ r) (drop-of-length-le l {i = 0 + length xs} (omega arith))
-    ∙ append-nil xs
 
 pub length-numbers : (bytes : List ℕ) (at n : ℕ) → length (numbers bytes at n) ≡ n
 unfolding numbers

@@ -1,4 +1,4 @@
 -- What the contracts of `job` cite.
 pub mod Job
-pub mod State
 pub mod Replay
+pub mod Run

@@ -7,8 +7,8 @@ use Rattle.image.specs.Questions.{ask, orElse}
 use Rattle.machine.specs.declared.Machine.{Machine}
 use Rattle.machine.specs.Starting.{empty}
 use Rattle.orders.specs.Demand.{Job, startOn, played}
+use Rattle.report.specs.State.{stateLength}
 use Rattle.job.specs.Job.{jobImage, jobPlaces, jobInterval, jobRegisters, jobWords, jobNo}
-use Rattle.job.specs.State.{stateLength}
 
 -- what start is given
 abbrev pub jobIn : List ℕ → Job

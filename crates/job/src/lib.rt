@@ -1,17 +1,19 @@
 // The exports: what a program in C or another language calls. Numbers and byte slices only.
 pub mod input;
-pub mod state;
 
 use machine::Machine;
+use report::Report;
 ghost use mathlib.Core.Path.{_≡_};
 ghost use lib.ListN.{length};
 ghost use Rattle.image.specs.Layout.{cellsIn};
 ghost use Rattle.image.specs.Doors.{imageNo, rewriteNo, unlessRefused};
 ghost use Rattle.machine.specs.Starting.{empty};
 ghost use Rattle.orders.specs.Demand.{WhateverTheOrder, startOn};
+ghost use Rattle.report.specs.State.{stateBytes};
 ghost use Rattle.job.specs.Job.{jobImage, wordCount, jobNo};
-ghost use Rattle.job.specs.State.{stateBytes};
+ghost use Rattle.report.specs.Report.{reportBytes};
 ghost use Rattle.job.specs.Replay.{jobIn, replayNo, replayOf};
+ghost use Rattle.job.specs.Run.{reportIn, runNo, textLength, textStored};
 
 // The image check: 0, or the number of the first question, 1 to 9, that is answered with no.
 #[no_mangle]
@@ -63,6 +65,66 @@ pub extern "C" fn tpal_replay(job: &[u8], order: &[u8], state: &mut [u8]) -> u8
     let mut words = [0i64; 4096];
     let count = input::word_count(job);
     let machine = carry_out(job, &cells, &mut words[..count], order);
-    state::write_state(machine, state);
+    report::state::write_state(machine, state);
     0
+}
+
+// An accepted job's run, whose words go to the lent slice.
+fn run_job(job: &[u8], cells: &[u64], words: &mut [i64], budget: u64) -> Report
+    requires { ⌜ (jobNo (now job) ≡ 0) × (now cells ≡ cellsIn (jobImage (now job))) × (length (now words) ≡ wordCount (now job)) ⌝ }
+    ensures { λ r. ⌜ r ≡ reportIn (now (job .entry)) budget ⌝ }
+{
+    let mut registers = [0i64; 16];
+    input::read_registers(job, &mut registers);
+    input::read_words(job, words);
+    let places = input::places_of(job);
+    let interval = input::interval_of(job);
+    let answer = Machine::blank().start(cells, places, interval, &registers, words);
+    let fresh = answer.machine;
+    let outcome = fresh.run(cells, words, budget);
+    let machine = outcome.machine;
+    report::report_of(machine, outcome.picks)
+}
+
+// Runs a job, given by its bytes, with this budget, and writes its report into `out`, which has 424 bytes (15). A refusal leaves `out` as
+// it was.
+#[no_mangle]
+pub extern "C" fn tpal_job_run(job: &[u8], budget: u64, out: &mut [u8]) -> u8
+    ensures { λ r. ⌜ r ≡ runNo (now (job .entry)) (length (now (out .entry))) ⌝ }
+    ensures { λ r. ⌜ now (out .exit) ≡ unlessRefused r (reportBytes (reportIn (now (job .entry)) budget)) (now (out .entry)) ⌝ }
+{
+    let mut cells = [0u64; 5890];
+    let no = input::ask_job(job, &mut cells);
+    if no != 0 {
+        return no;
+    }
+    if out.len() != 424 {
+        return 15;
+    }
+    let mut words = [0i64; 4096];
+    let count = input::word_count(job);
+    let r = run_job(job, &cells, &mut words[..count], budget);
+    report::bytes::write_report(r, out);
+    0
+}
+
+// What the run program prints for a job: the report's text, or its refusal. It goes to the front of `out`, which has 1,024 bytes, and the
+// answer is its length; a buffer of another length stays as it was, and the answer is 0.
+#[no_mangle]
+pub extern "C" fn tpal_job_text(job: &[u8], budget: u64, out: &mut [u8]) -> u64
+    ensures { λ r. ⌜ r ≡ textLength (now (job .entry)) budget (length (now (out .entry))) ⌝ }
+    ensures { λ r. ⌜ now (out .exit) ≡ textStored (now (job .entry)) budget (now (out .entry)) ⌝ }
+{
+    if out.len() != 1024 {
+        return 0;
+    }
+    let mut cells = [0u64; 5890];
+    let no = input::ask_job(job, &mut cells);
+    if no != 0 {
+        return report::text::write_refused(no, out) as u64;
+    }
+    let mut words = [0i64; 4096];
+    let count = input::word_count(job);
+    let r = run_job(job, &cells, &mut words[..count], budget);
+    report::text::write_text(r, out) as u64
 }

@@ -10,8 +10,8 @@ use lib.Seq.{sets}
 use Rattle.task.specs.declared.Register.{Register}
 use Rattle.task.specs.Frames.{zeroRegister, zeros}
 use Rattle.machine.specs.declared.Machine.{Machine}
-use Rattle.machine.specs.Slots.{reads}
-use Rattle.machine.proofs.SlotLaws.{length-reads}
+use Rattle.codes.specs.Stretches.{reads}
+use Rattle.codes.proofs.StretchLaws.{length-reads, reads-snoc}
 
 module _ {A : Type 0} (d : A) where
   sets-snoc : (vs l : List A) (b : ℕ) (v : A) → set (sets l b vs) (b + length vs) v ≡ sets l b (vs ++ (v ∷ []))
@@ -19,13 +19,6 @@ module _ {A : Type 0} (d : A) where
   sets-snoc (w ∷ vs) l b v =
       let e : b + suc (length vs) ≡ suc b + length vs = omega arith in
       rw e (sets-snoc vs (set l b w) (suc b) v)
-
-  reads-snoc : (l : List A) (b n : ℕ) → reads d l b (suc n) ≡ reads d l b n ++ (getD l (b + n) d ∷ [])
-  unfolding reads
-  reads-snoc l b zero = rw add-zero
-  reads-snoc l b (suc n) =
-      let e : b + suc n ≡ suc b + n = omega arith in
-      rw e (ap (λ x. getD l b d ∷ x) (reads-snoc l (suc b) n))
 
   pub copied-none : (l from : List A) (b a : ℕ) → l ≡ sets l b (reads d from a 0)
   unfolding reads
@@ -36,7 +29,7 @@ module _ {A : Type 0} (d : A) where
       → set (sets l b (reads d from a i)) at (getD from source d) ≡ sets l b (reads d from a (i + 1))
   copied-next l from b a i at source p q =
       let n : length (reads d from a i) ≡ i = length-reads d from a i in
-      let z : reads d from a (suc i) ≡ reads d from a i ++ (getD from (a + i) d ∷ []) = reads-snoc from a i in
+      let z : reads d from a (suc i) ≡ reads d from a i ++ (getD from (a + i) d ∷ []) = reads-snoc d from a i in
       rw (p, q)
       (ap (λ x. set (sets l b (reads d from a i)) (b + x) (getD from (a + i) d)) (sym n)
       ∙ sets-snoc (reads d from a i) l b (getD from (a + i) d)

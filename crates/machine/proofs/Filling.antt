@@ -12,16 +12,8 @@ use Rattle.int64.proofs.Stores.{sets-append}
 use Rattle.task.specs.declared.Value.the-variants.{Int}
 use Rattle.task.specs.declared.Register.{Register}
 use Rattle.task.specs.Frames.{zeroRegister, integers}
-use Rattle.machine.specs.Slots.{reads}
-use Rattle.machine.proofs.SlotLaws.{length-reads}
-
--- one element more
-pub reads-snoc : {A : Type 0} (d : A) (l : List A) (b n : ℕ) → reads d l b (suc n) ≡ reads d l b n ++ (getD l (b + n) d ∷ [])
-unfolding reads
-reads-snoc d l b zero = rw add-zero
-reads-snoc d l b (suc n) =
-    let e : b + suc n ≡ suc b + n = omega arith in
-    rw e (ap (λ x. getD l b d ∷ x) (reads-snoc d l (suc b) n))
+use Rattle.codes.specs.Stretches.{reads}
+use Rattle.codes.proofs.StretchLaws.{length-reads, reads-snoc}
 
 pub filled-none : (bank : List Register) (zs : List ℤ) → bank ≡ sets bank 0 (reads zeroRegister (integers zs) 0 0)
 unfolding reads

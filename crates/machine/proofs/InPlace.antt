@@ -12,8 +12,9 @@ use Rattle.task.specs.declared.Frame.{Frame}
 use Rattle.task.specs.Frames.{zeroRegister, noTask}
 use Rattle.task.specs.Step.{register, withTask}
 use Rattle.machine.specs.declared.Machine.{Machine}
-use Rattle.machine.specs.Slots.{reads, at, put, Sized}
-use Rattle.machine.proofs.SlotLaws.{length-reads, getD-reads, reads-all}
+use Rattle.codes.specs.Stretches.{reads}
+use Rattle.machine.specs.Slots.{at, put, Sized}
+use Rattle.codes.proofs.StretchLaws.{length-reads, getD-reads, reads-all}
 
 -- ---- a stretch of a list, stored where it stands
 

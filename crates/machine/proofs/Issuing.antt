@@ -13,32 +13,35 @@ use Rattle.image.specs.declared.Instruction.{Instruction}
 use Rattle.image.specs.Layout.{instructionOf}
 use Rattle.task.specs.declared.Value.{Value}
 use Rattle.task.specs.declared.Register.{Register}
+use Rattle.task.specs.declared.Status.the-variants.{Waiting, Halted, Faulted}
+use Rattle.task.specs.declared.Fork.{Fork}
 use Rattle.task.specs.declared.Task.{Task}
 use Rattle.task.specs.declared.Frame.{Frame}
 use Rattle.task.specs.declared.Kind.{Kind}
-use Rattle.task.specs.declared.Kind.the-variants.{Stores, Goes, Ends, Faults, Forks}
+use Rattle.task.specs.declared.Kind.the-variants.{Stores, Goes, Waits, Halts, Faults, Forks}
 use Rattle.task.specs.declared.Executed.{Executed}
-use Rattle.task.specs.Frames.{running, isRunning, zeros}
-use Rattle.task.specs.Step.{register, operand, movedTo, step}
-use Rattle.task.specs.Execute.{executed, applied, appliedBy}
+use Rattle.task.specs.Frames.{running, zeros}
+use Rattle.task.specs.Values.{recordOf}
+use Rattle.task.specs.Step.{register, operand, counted, movedTo, ended, withTask, side, step}
+use Rattle.task.specs.Execute.{activeOf, executed, after, parentSide, childSide, applied, appliedBy}
 use Rattle.task.proofs.Executing.{step-executed}
-use Rattle.task.proofs.RunsOn.{stores-runs-on, goes-runs-on}
 use Rattle.machine.specs.declared.Machine.{Machine}
 use Rattle.machine.specs.Slots.{at, put, ticked, slotsOf}
 use Rattle.machine.specs.Settling.{JoinSafe}
 use Rattle.machine.specs.Picking.{issued}
 use Rattle.machine.proofs.InPlace.{withTaskAt, storedAt, put-task, put-stored}
-use Rattle.machine.proofs.Models.{Allowed}
+use Rattle.machine.proofs.RankLaws.{rank-small}
+use Rattle.machine.proofs.Models.{Allowed, laws-hold}
 use Rattle.machine.proofs.ShapeLaws.{Fits}
 use Rattle.machine.proofs.SettleSafety.{stepped-safe}
-use Rattle.machine.proofs.Carrying.{goes-on-alone}
+use Rattle.machine.proofs.Carrying.{stand, goes-on-alone}
 
 -- what was read, and what came of it
 pub record Fetched (cells : List ℕ) (words : List ℤ) (m : Machine) (k : ℕ) (x : Instruction) (s v : Value) (e : Executed) : Type 0 where
   pub instruction : x ≡ instructionOf cells (at m k .task .pc)
   pub left-value : s ≡ register (at m k) (x .s)
   pub right-value : v ≡ operand (at m k) x
-  pub outcome : e ≡ executed cells words (m .interval) x s v (at m k .task)
+  pub outcome : e ≡ executed cells words (m .interval) x s v (activeOf (at m k .task)) (at m k .task .forks)
 
 module _ {cells : List ℕ} {words : List ℤ} {m : Machine} {k : ℕ} {x : Instruction} {s v : Value} {e : Executed}
     (allowed : Allowed cells (m .interval) (m .places)) (fits : Fits cells (m .interval) (m .places) m) (below : k < m .places) (runs : running (at m k) ≡ true)
@@ -46,65 +49,76 @@ module _ {cells : List ℕ} {words : List ℤ} {m : Machine} {k : ℕ} {x : Inst
   abbrev f : Frame
   f = at m k
 
+  abbrev did : Instruction → Value → Value → Executed
+  did y a b = executed cells words (m .interval) y a b (activeOf (f .task)) (f .task .forks)
+
   -- the outcome, of what the definition reads
-  at-source : executed cells words (m .interval) x s v (f .task) ≡ executed cells words (m .interval) (instructionOf cells (f .task .pc)) (register f (instructionOf cells (f .task .pc) .s)) (operand f (instructionOf cells (f .task .pc))) (f .task)
+  at-source : did x s v ≡ did (instructionOf cells (f .task .pc)) (register f (instructionOf cells (f .task .pc) .s)) (operand f (instructionOf cells (f .task .pc)))
   at-source =
-      ap₂ (λ (a b : Value). executed cells words (m .interval) x a b (f .task)) (got .left-value) (got .right-value)
-      ∙ ap (λ (y : Instruction). executed cells words (m .interval) y (register f (y .s)) (operand f y) (f .task)) (got .instruction)
+      ap₂ (λ (a b : Value). did x a b) (got .left-value) (got .right-value)
+      ∙ ap (λ (y : Instruction). did y (register f (y .s)) (operand f y)) (got .instruction)
 
   steps : step cells words (m .interval) f ≡ applied f x e
   steps =
       step-executed cells words (m .interval) f ∙ ap (λ (o : Executed). applied f (instructionOf cells (f .task .pc)) o) (sym at-source)
       ∙ ap₂ (λ (y : Instruction) (o : Executed). applied f y o) (sym (got .instruction)) (sym (got .outcome))
 
-  steps-by : (kind : Kind) → e .kind ≡ kind → step cells words (m .interval) f ≡ appliedBy kind (f .registers) (x .r) (e .value) (e .task)
-  steps-by kind h = steps ∙ ap (λ (o : Kind). appliedBy o (f .registers) (x .r) (e .value) (e .task)) h
+  steps-by : (kind : Kind) → e .kind ≡ kind → step cells words (m .interval) f ≡ appliedBy kind f (x .r) e
+  steps-by kind h = steps ∙ ap (λ (o : Kind). appliedBy o f (x .r) e) h
 
-  runs-on : e .task .status ≡ f .task .status → isRunning (e .task .status) ≡ true
-  runs-on h = ap isRunning h ∙ runs
+  -- ---- the task runs on
 
-  status-kept : (kind : Kind) → (executed cells words (m .interval) x s v (f .task) .kind ≡ kind → executed cells words (m .interval) x s v (f .task) .task .status ≡ f .task .status)
-      → e .kind ≡ kind → e .task .status ≡ f .task .status
-  status-kept kind law h =
-      ap (λ (o : Executed). o .task .status) (got .outcome) ∙ law (sym (ap (λ (o : Executed). o .kind) (got .outcome)) ∙ h)
-
-  pub stores-issued : e .kind ≡ Stores → x .r < 16 → ticked (storedAt m k (e .task) (x .r) (record { value = e .value })) ≡ issued cells words m k
+  pub stores-issued : e .kind ≡ Stores → x .r < 16 → ticked (storedAt m k (after e (f .task)) (x .r) (record { value = e .value })) ≡ issued cells words m k
   stores-issued h small =
-      let g : Frame = record { task = e .task; registers = set (f .registers) (x .r) (record { value = e .value }) } in
-      let r = runs-on (status-kept Stores (stores-runs-on cells words (m .interval) x s v (f .task)) h) in
-      ap ticked (sym (goes-on-alone allowed words m k fits below runs g (steps-by Stores h) r ∙ put-stored m k (e .task) (x .r) (record { value = e .value }) small))
+      let g : Frame = record { task = after e (f .task); registers = set (f .registers) (x .r) (record { value = e .value }) } in
+      ap ticked (sym (goes-on-alone allowed words m k fits below runs g (steps-by Stores h) runs ∙ put-stored m k (after e (f .task)) (x .r) (record { value = e .value }) small))
 
-  pub goes-issued : e .kind ≡ Goes → ticked (withTaskAt m k (e .task)) ≡ issued cells words m k
+  pub goes-issued : e .kind ≡ Goes → ticked (withTaskAt m k (after e (f .task))) ≡ issued cells words m k
   goes-issued h =
-      let g : Frame = record { task = e .task; registers = f .registers } in
-      let r = runs-on (status-kept Goes (goes-runs-on cells words (m .interval) x s v (f .task)) h) in
-      ap ticked (sym (goes-on-alone allowed words m k fits below runs g (steps-by Goes h) r ∙ put-task m k (e .task)))
+      ap ticked (sym (goes-on-alone allowed words m k fits below runs (withTask (after e (f .task)) f) (steps-by Goes h) runs ∙ put-task m k (after e (f .task))))
 
-  pub ends-issued : e .kind ≡ Ends
-      → ticked (settle (slotsOf cells) (e .task .depth) (put m k (record { task = e .task; registers = f .registers })) k) ≡ issued cells words m k
-  ends-issued h = ap ticked (sym (carry-one (slotsOf cells) (step cells words (m .interval)) m k (record { task = e .task; registers = f .registers }) (steps-by Ends h)))
+  -- ---- its side has ended
 
-  pub faults-issued : e .kind ≡ Faults
-      → ticked (settle (slotsOf cells) (e .task .depth) (put m k (record { task = e .task; registers = zeros })) k) ≡ issued cells words m k
-  faults-issued h = ap ticked (sym (carry-one (slotsOf cells) (step cells words (m .interval)) m k (record { task = e .task; registers = zeros }) (steps-by Faults h)))
+  pub waits-steps : {t : Task} → e .kind ≡ Waits → t ≡ ended Waiting (counted (f .task)) → step cells words (m .interval) f ≡ one (record { task = t; registers = f .registers })
+  waits-steps h p = steps-by Waits h ∙ ap (λ (t : Task). one (withTask t f)) (sym p)
 
-  pub forks-issued : (pc : ℕ) → e .kind ≡ Forks pc
-      → ticked (put (put m k (record { task = e .task; registers = f .registers })) (k + e .task .places) (record { task = movedTo pc 0 (e .task); registers = f .registers }))
-      ≡ issued cells words m k
-  forks-issued pc h =
-      ap ticked (sym (carry-two (slotsOf cells) (step cells words (m .interval)) m k (record { task = e .task; registers = f .registers }) (record { task = movedTo pc 0 (e .task); registers = f .registers }) (steps-by (Forks pc) h)))
+  pub halts-steps : {t : Task} → e .kind ≡ Halts → t ≡ ended Halted (counted (f .task)) → step cells words (m .interval) f ≡ one (record { task = t; registers = f .registers })
+  halts-steps h p = steps-by Halts h ∙ ap (λ (t : Task). one (withTask t f)) (sym p)
 
-  -- what a join that falls due then needs
-  pub ends-safe : e .kind ≡ Ends → k < 64 → JoinSafe cells (e .task)
-  ends-safe h b = stepped-safe allowed m fits words k (record { task = e .task; registers = f .registers }) b runs (steps-by Ends h)
+  pub faults-steps : (n : ℕ) {t : Task} → e .kind ≡ Faults n → t ≡ ended (Faulted n) (counted (f .task))
+      → step cells words (m .interval) f ≡ one (record { task = t; registers = zeros })
+  faults-steps n h p = steps-by (Faults n) h ∙ ap (λ (t : Task). one (record { task = t; registers = zeros })) (sym p)
 
-  pub faults-safe : e .kind ≡ Faults → k < 64 → JoinSafe cells (e .task)
-  faults-safe h b = stepped-safe allowed m fits words k (record { task = e .task; registers = zeros }) b runs (steps-by Faults h)
+  module _ (g : Frame) (h : step cells words (m .interval) f ≡ one g) where
+    -- what a join that falls due then needs
+    pub ended-safe : k < 64 → JoinSafe cells (g .task)
+    ended-safe b = stepped-safe allowed m fits words k g b runs h
+
+    pub ended-issued : {r : Machine} → r ≡ settle (slotsOf cells) (g .task .depth) (put m k g) k → ticked r ≡ issued cells words m k
+    ended-issued p = ap ticked (p ∙ sym (carry-one (slotsOf cells) (step cells words (m .interval)) m k g h))
+
+  -- ---- it has forked
+
+  pub forks-issued : (pc : ℕ) {r : Machine} {u : Fork} {t : Task} → e .kind ≡ Forks pc → u ≡ recordOf (e .value) → t ≡ side u (e .pc) (e .counter) (counted (f .task))
+      → r ≡ put (put m k (record { task = t; registers = f .registers })) (k + t .places) (record { task = movedTo pc 0 t; registers = f .registers })
+      → ticked r ≡ issued cells words m k
+  forks-issued pc h under p q =
+      let p′ : _ ≡ parentSide e (f .task) = p ∙ ap (λ (o : Fork). side o (e .pc) (e .counter) (counted (f .task))) under in
+      ap ticked (q ∙ ap (λ (n : Task). put (put m k (withTask n f)) (k + n .places) (withTask (movedTo pc 0 n) f)) p′
+      ∙ sym (carry-two (slotsOf cells) (step cells words (m .interval)) m k (withTask (parentSide e (f .task)) f) (withTask (childSide pc e (f .task)) f) (steps-by (Forks pc) h)))
+
+  -- there is room for an open fork more
+  pub forks-room : (pc : ℕ) → e .kind ≡ Forks pc → f .task .depth < 6
+  forks-room pc h =
+      let laws = laws-hold allowed words in
+      let s = stand allowed words m k fits below runs in
+      let t = laws .step-two (s .height) f _ _ (s .formed) runs (steps-by (Forks pc) h) in
+      omega (arith, t .1, s .formed .has-depth, rank-small (m .places) (allowed .places-allowed))
 
 -- the joins leave the work and the places
-module _ (cells : List ℕ) (d : ℕ) (m : Machine) (k : ℕ) (g : Frame) where
-  pub ended-work : settle (slotsOf cells) d (put m k g) k .work ≡ m .work
-  ended-work = settle-keeps (slotsOf cells) (λ (n : Machine). n .work) (λ n i h. refl) d (put m k g) k
+module _ (cells : List ℕ) {r : Machine} (m : Machine) (k : ℕ) (g : Frame) (p : r ≡ settle (slotsOf cells) (g .task .depth) (put m k g) k) where
+  pub ended-work : r .work ≡ m .work
+  ended-work = ap (λ (n : Machine). n .work) p ∙ settle-keeps (slotsOf cells) (λ (n : Machine). n .work) (λ n i h. refl) (g .task .depth) (put m k g) k
 
-  pub ended-places : settle (slotsOf cells) d (put m k g) k .places ≡ m .places
-  ended-places = settle-keeps (slotsOf cells) (λ (n : Machine). n .places) (λ n i h. refl) d (put m k g) k
+  pub ended-places : r .places ≡ m .places
+  ended-places = ap (λ (n : Machine). n .places) p ∙ settle-keeps (slotsOf cells) (λ (n : Machine). n .places) (λ n i h. refl) (g .task .depth) (put m k g) k

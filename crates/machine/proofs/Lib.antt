@@ -13,16 +13,11 @@ pub mod Carrying
 pub mod InPlace
 pub mod Issuing
 pub mod Readiness
-pub mod Sizes
 pub mod Copying
 pub mod SettleLaws
 pub mod ShapeSlots
 pub mod SettleSafety
 pub mod Owning
-pub mod EveryLaws
-pub mod GradeLaws
-pub mod SlotWise
-pub mod TiledLaws
-pub mod CodeLaws
+pub mod CodedSlots
 pub mod MeetsShape
 pub mod Picked

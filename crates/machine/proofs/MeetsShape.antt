@@ -9,11 +9,12 @@ use lib.Pow.{pow-mono}
 use borrow.Author.Tests.{lt-ltb, le-ltb}
 use Rattle.task.specs.Frames.{zeroRegister}
 use Rattle.machine.specs.declared.Machine.{Machine}
-use Rattle.machine.specs.Slots.{reads, at}
+use Rattle.codes.specs.Stretches.{reads}
+use Rattle.machine.specs.Slots.{at}
 use Rattle.machine.specs.Starting.{rank, intervalAllowed}
 use Rattle.machine.specs.Shape.{countsFit, shape}
-use Rattle.machine.specs.Codes.{GradedSlots, codeOf, CodedTasks, clear, tiled}
-use Rattle.machine.proofs.CodeLaws.{codes-clear, codes-tiled}
+use Rattle.codes.specs.Codes.{GradedSlots, codeOf, CodedTasks, clear, tiled}
+use Rattle.machine.proofs.CodedSlots.{codes-clear, codes-tiled}
 
 -- at most 64 places
 pub power-small : (h : ℕ) → h ≤ 6 → 2 ^ h ≤ 64

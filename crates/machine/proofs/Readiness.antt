@@ -12,7 +12,7 @@ use Rattle.image.proofs.Accepted.{Accepted, accepted, InstructionAccepted}
 use Rattle.task.specs.declared.Value.{Value}
 use Rattle.task.specs.Frames.{running, zeroRegister}
 use Rattle.task.specs.Step.{register, operand}
-use Rattle.task.specs.Execute.{Ready, selected}
+use Rattle.task.specs.Execute.{Ready, activeOf, selected}
 use Rattle.task.proofs.Executing.{selected-is}
 use Rattle.task.proofs.Formation.{Formed}
 use Rattle.task.proofs.StepKeeps.{operand-fits}
@@ -68,14 +68,13 @@ module _ {cells : List ℕ} {interval places : ℕ} (allowed : Allowed cells int
             left-of : (r : ℕ) → r < 16 → getD (m .bank) (16 * k + r) zeroRegister .value ≡ register (at m k) r
             left-of r q = sym (value-at m k r q)
 
-    pub ready : (s v : Value) → s ≡ register (at m k) (x .s) → v ≡ operand (at m k) x → m .work < workLimit → Ready cells s v (at m k .task)
+    pub ready : (s v : Value) → s ≡ register (at m k) (x .s) → v ≡ operand (at m k) x → m .work < workLimit → Ready cells s v (activeOf (at m k .task))
     ready s v p q w = record {
       accepted-program = allowed .program;
       pc-below = pc-inside;
       s-fits = rw p (its .values-fit (x .s));
       v-fits = rw q (operand-fits cells (at m k) x (its .values-fit) label-below);
       counter-below = omega (arith, fits .counts k .counter-most);
-      span-below = omega (arith, fits .counts k .span-most);
       depth-most = omega (arith, its .has-depth, rank-small places (allowed .places-allowed));
       fork-room = λ h. omega (arith, its .has-depth, its .has-places, rank-small places (allowed .places-allowed), two-or-more _ (rw (its .has-places) at h));
     }

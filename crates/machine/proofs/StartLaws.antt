@@ -22,7 +22,8 @@ use Rattle.task.proofs.Formation.{Formed}
 use Rattle.task.proofs.Start.{length-integers, start-formed}
 use Rattle.task.proofs.Counts.{Within, vacant-within, start-within}
 use Rattle.machine.specs.declared.Machine.{Machine}
-use Rattle.machine.specs.Slots.{reads, at, Sized, slotsOf}
+use Rattle.codes.specs.Stretches.{reads}
+use Rattle.machine.specs.Slots.{at, Sized, slotsOf}
 use Rattle.machine.specs.Starting.{rank, placesAllowed, intervalAllowed, startNo, startNoBy, empty, fresh, started}
 use Rattle.machine.specs.Shape.{testsOf}
 use Rattle.machine.proofs.SlotLaws.{put-sized, put-same, put-other, put-tasks}

@@ -7,4 +7,3 @@ pub mod Picking
 pub mod Running
 pub mod Driving
 pub mod Settling
-pub mod Codes

@@ -1,19 +1,15 @@
 -- The state's slots: slot k has the task record k, and the 16 registers of the bank from 16·k on.
 use mathlib.Core.Path.{_≡_}
-use mathlib.Core.List.{List, [], _∷_}
-use Prim.Native.Nat.{ℕ, zero, suc, _+_, _*_}
+use mathlib.Core.List.{List}
+use Prim.Native.Nat.{ℕ, _+_, _*_}
 use lib.ListN.{length, getD, set}
 use lib.Seq.{sets}
 use Rattle.agreement.specs.Slots.{Slots}
 use Rattle.task.specs.declared.Frame.{Frame}
 use Rattle.task.specs.Frames.{zeroRegister, vacant, noTask, running}
 use Rattle.task.specs.Step.{join}
+use Rattle.codes.specs.Stretches.{reads}
 use Rattle.machine.specs.declared.Machine.{Machine}
-
--- n elements from b on: n of them whatever the list's length, d past its end
-unfoldable pub reads : {A : Type 0} → A → List A → ℕ → ℕ → List A
-reads d l b zero = []
-reads d l b (suc n) = getD l b d ∷ reads d l (suc b) n
 
 -- the frame at slot k
 abbrev pub at : Machine → ℕ → Frame

@@ -3,6 +3,8 @@
 use crate::Driven;
 use crate::Machine;
 use crate::slots;
+use task::Active;
+use task::Fork;
 use task::Frame;
 use task::Kind;
 use task::Register;
@@ -17,7 +19,8 @@ ghost use Rattle.agreement.specs.Slots.{settle};
 ghost use Rattle.image.specs.Layout.{programCells};
 ghost use Rattle.image.specs.Questions.{programNo};
 ghost use Rattle.task.specs.Frames.{isRunning, zeros};
-ghost use Rattle.task.specs.Step.{movedTo};
+ghost use Rattle.task.specs.Values.{recordOf};
+ghost use Rattle.task.specs.Step.{counted, movedTo, ended, side};
 ghost use Rattle.machine.specs.Slots.{at, put, slotsOf};
 ghost use Rattle.machine.specs.Settling.{JoinSafe, SettleSafe};
 ghost use Rattle.machine.specs.Shape.{shape};
@@ -57,6 +60,59 @@ pub fn is_running(status: Status) -> bool
         Status::Halted => false,
         Status::Faulted(_) => false,
     }
+}
+
+// The record that a fork is opened under.
+fn record_of(v: Value) -> Fork
+    ensures { λ r. ⌜ r ≡ recordOf v ⌝ }
+{
+    match v {
+        Value::Int(_) => Fork {
+            continuation: 0,
+            depth: 0,
+        },
+        Value::Label(_) => Fork {
+            continuation: 0,
+            depth: 0,
+        },
+        Value::Record(continuation, depth) => Fork {
+            continuation,
+            depth,
+        },
+    }
+}
+
+// The task that an instruction has ended: it waits, has halted or has faulted. The caller has found the work below its limit.
+fn ended_task(status: Status, t: Task) -> Task
+    requires { ⌜ t .span < 4294967295 ⌝ }
+    ensures { λ r. ⌜ r ≡ ended status (counted t) ⌝ }
+{
+    let forks = t.forks;
+    Task {
+        status,
+        places: t.places,
+        pc: 0,
+        counter: 0,
+        span: t.span + 1,
+        depth: t.depth,
+        forks,
+    }
+}
+
+// The parent's side of a fork opened under this record.
+fn parent_task(under: Fork, pc: u16, counter: u32, t: Task) -> Task
+    requires { ⌜ (t .span < 4294967295) × (t .depth < 6) ⌝ }
+    ensures { λ r. ⌜ r ≡ side under pc counter (counted t) ⌝ }
+{
+    let mut n = t;
+    let at = t.depth as usize;
+    n.places = t.places / 2;
+    n.pc = pc;
+    n.counter = counter;
+    n.span = t.span + 1;
+    n.depth = t.depth + 1;
+    n.forks[at] = under;
+    n
 }
 
 // The task at slot k waits or has halted: its side has ended.
@@ -112,10 +168,18 @@ pub fn drive(cells: &[u64], words: &[i64], machine: Machine, slot: usize, budget
     let mut idle: u64 = 0;
     let mut left = budget;
     while goes_on(left, m.work, idle, m.places) {
-        let t = m.tasks[k];
-        let status = t.status;
+        let record = m.tasks[k];
+        let status = record.status;
         if is_running(status) {
-            let x = image::layout::instruction_of(cells, t.pc as usize);
+            let active = Active {
+                places: m.tasks[k].places,
+                pc: m.tasks[k].pc,
+                counter: m.tasks[k].counter,
+                depth: m.tasks[k].depth,
+            };
+            let span = m.tasks[k].span;
+            let forks = record.forks;
+            let x = image::layout::instruction_of(cells, active.pc as usize);
             let base = 16 * k;
             let at_s = base + (x.s as usize);
             let left_register = m.bank[at_s];
@@ -124,14 +188,30 @@ pub fn drive(cells: &[u64], words: &[i64], machine: Machine, slot: usize, budget
             let right_register = m.bank[at_v];
             let held = right_register.value;
             let v = task::execution::operand(x, held);
-            let e = task::execution::execute(cells, words, m.interval as u64, x, s, v, t);
+            let e = task::execution::execute(
+                cells,
+                words,
+                m.interval as u64,
+                x,
+                s,
+                v,
+                active,
+                forks,
+            );
             let kind = e.kind;
-            let next = e.task;
             match kind {
                 Kind::Stores => {
                     let at_r = base + (x.r as usize);
                     let value = e.value;
-                    m.tasks[k] = next;
+                    m.tasks[k] = Task {
+                        status,
+                        places: active.places,
+                        pc: e.pc,
+                        counter: e.counter,
+                        span: span + 1,
+                        depth: active.depth,
+                        forks,
+                    };
                     m.bank[at_r] = Register { value };
                     m.work = m.work + 1;
                     idle = 0;
@@ -139,28 +219,49 @@ pub fn drive(cells: &[u64], words: &[i64], machine: Machine, slot: usize, budget
                     k = next_slot(m.places, k);
                 }
                 Kind::Goes => {
-                    m.tasks[k] = next;
+                    m.tasks[k] = Task {
+                        status,
+                        places: active.places,
+                        pc: e.pc,
+                        counter: e.counter,
+                        span: span + 1,
+                        depth: active.depth,
+                        forks,
+                    };
                     m.work = m.work + 1;
                     idle = 0;
                     left = left - 1;
                     k = next_slot(m.places, k);
                 }
-                Kind::Ends => {
-                    m = end_side(cells, m, k, next);
+                Kind::Waits => {
+                    let t = m.tasks[k];
+                    m = end_side(cells, m, k, ended_task(Status::Waiting, t));
                     m.work = m.work + 1;
                     idle = 0;
                     left = left - 1;
                     k = next_slot(m.places, k);
                 }
-                Kind::Faults => {
-                    m = fault_side(cells, m, k, next);
+                Kind::Halts => {
+                    let t = m.tasks[k];
+                    m = end_side(cells, m, k, ended_task(Status::Halted, t));
+                    m.work = m.work + 1;
+                    idle = 0;
+                    left = left - 1;
+                    k = next_slot(m.places, k);
+                }
+                Kind::Faults(n) => {
+                    let t = m.tasks[k];
+                    m = fault_side(cells, m, k, ended_task(Status::Faulted(n), t));
                     m.work = m.work + 1;
                     idle = 0;
                     left = left - 1;
                     k = next_slot(m.places, k);
                 }
                 Kind::Forks(pc) => {
-                    m = split(m, k, next, pc);
+                    let t = m.tasks[k];
+                    let value = e.value;
+                    let under = record_of(value);
+                    m = split(m, k, parent_task(under, e.pc, e.counter, t), pc);
                     m.work = m.work + 1;
                     idle = 0;
                     left = left - 1;

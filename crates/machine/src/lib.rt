@@ -1,5 +1,4 @@
 // The state of a job.
-mod codes;
 pub mod drive;
 pub mod pick;
 pub mod run;

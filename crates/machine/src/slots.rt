@@ -16,7 +16,7 @@ ghost use Rattle.task.specs.Frames.{vacant};
 ghost use Rattle.machine.specs.Slots.{at, put, ticked, slotsOf};
 ghost use Rattle.machine.specs.Settling.{JoinSafe, SettleSafe};
 
-// This crate alone calls it, with a slot below the state's 64.
+// Our own crates alone call it, with a slot below the state's 64.
 pub fn frame_at(m: Machine, k: usize) -> Frame
     requires { ⌜ k < 64 ⌝ }
     ensures { λ r. ⌜ r ≡ at m k ⌝ }

@@ -11,11 +11,11 @@ ghost use Prim.Native.Nat.{_<_, _≤_};
 ghost use lib.ListN.{length};
 ghost use lib.Seq.{sets};
 ghost use Rattle.task.specs.Frames.{zeroRegister, integers};
-ghost use Rattle.machine.specs.Slots.{reads};
+ghost use Rattle.codes.specs.Stretches.{reads};
 ghost use Rattle.machine.specs.Starting.{rank, placesAllowed, intervalAllowed, startNoBy, startNo, empty, fresh, started};
 
 // The power of two that P is, or 7 where P is not allowed.
-pub fn rank_of(places: u64) -> u64
+pub fn rank_of(places: u64) -> usize
     ensures { λ r. ⌜ r ≡ rank places ⌝ }
 {
     if places == 1 {

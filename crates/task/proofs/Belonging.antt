@@ -1,21 +1,20 @@
 -- Each way through a function of fork and join, with plain variables for what the code has there.
-use mathlib.Core.Path.{_≡_, refl, sym, _∙_}
+use mathlib.Core.Path.{_≡_, refl}
 use mathlib.Core.Bool.{Bool, true, false}
 use mathlib.Core.List.{List}
 use Prim.Native.Nat.{ℕ, suc, _+_, _-_, _<_, _≤_}
 use native.Mathlib.Omega.{arith}
-use lib.Dec.{eqb}
 use lib.ListN.{getD}
 use borrow.Author.Tests.{eq-eqb, ne-eqb, le-leb, lt-leb}
 use Rattle.image.specs.Layout.{blockOf}
 use Rattle.task.specs.declared.Value.{Value}
 use Rattle.task.specs.declared.Value.the-variants.{Label, Record}
-use Rattle.task.specs.declared.Status.the-variants.{Waiting}
+use Rattle.task.specs.declared.Kind.the-variants.{Waits}
 use Rattle.task.specs.declared.Fork.{Fork}
-use Rattle.task.specs.declared.Task.{Task}
+use Rattle.task.specs.declared.Active.{Active}
 use Rattle.task.specs.Frames.{zeroFork}
-use Rattle.task.specs.Step.{entered, belong, fits}
-use Rattle.task.specs.Execute.{required, goes, ends, faults, forks, forked, met}
+use Rattle.task.specs.Step.{belong, fits}
+use Rattle.task.specs.Execute.{required, ends, faults, enters, splits, forked, met}
 use Rattle.task.proofs.Variants.{NotLabel, NotRecord, not-label, not-record}
 
 -- ---- the loop over the open forks, from i to d
@@ -46,48 +45,48 @@ module _ (l : List Fork) (k : Fork) (d i : ℕ) where
 
 -- ---- fork
 
-module _ (cells : List ℕ) (s v : Value) (t : Task) where
-  pub fork-other : NotRecord s → faults 36 t ≡ forked cells s v t
+module _ (cells : List ℕ) (s v : Value) (t : Active) (l : List Fork) where
+  pub fork-other : NotRecord s → faults 36 ≡ forked cells s v t l
   unfolding required
-  fork-other k = not-record (λ (w : Value). faults 36 t ≡ forked cells w v t) (λ z. refl) (λ b. refl) s k
+  fork-other k = not-record (λ (w : Value). faults 36 ≡ forked cells w v t l) (λ z. refl) (λ b. refl) s k
 
-  module _ {c d : ℕ} {z : Bool} (p : s ≡ Record c d) (e : z ≡ fits (record { continuation = c; depth = d }) t) where
-    pub fork-unfit : z ≡ false → faults 36 t ≡ forked cells s v t
+  module _ {c d : ℕ} {z : Bool} (p : s ≡ Record c d) (e : z ≡ fits (record { continuation = c; depth = d }) (t .depth) l) where
+    pub fork-unfit : z ≡ false → faults 36 ≡ forked cells s v t l
     unfolding required
     fork-unfit k = rw (p, ← e, k)
 
     module _ (k : z ≡ true) where
-      pub fork-no-target : NotLabel v → faults 34 t ≡ forked cells s v t
+      pub fork-no-target : NotLabel v → faults 34 ≡ forked cells s v t l
       unfolding required
       fork-no-target n =
-          rw p (not-label (λ (w : Value). faults 34 t ≡ forked cells (Record c d) w t) (λ z. rw (← e, k)) (λ b d. rw (← e, k)) v n)
+          rw p (not-label (λ (w : Value). faults 34 ≡ forked cells (Record c d) w t l) (λ z. rw (← e, k)) (λ b d. rw (← e, k)) v n)
 
       module _ {b : ℕ} (q : v ≡ Label b) where
-        pub fork-no-places : t .places < 2 → faults 37 t ≡ forked cells s v t
+        pub fork-no-places : t .places < 2 → faults 37 ≡ forked cells s v t l
         unfolding required
         fork-no-places h = rw (p, ← e, k, q, lt-leb 2 (t .places) h)
 
         pub opens : {pc : ℕ} → 2 ≤ t .places → pc ≡ blockOf cells b .first
-            → forks (record { continuation = c; depth = d }) pc t ≡ forked cells s v t
+            → splits (Record c d) pc t ≡ forked cells s v t l
         unfolding required
         opens h f = rw (f, p, ← e, k, q, le-leb 2 (t .places) h)
 
 -- ---- join
 
-module _ (cells : List ℕ) (interval : ℕ) (v : Value) (t : Task) where
-  pub meet-other : NotRecord v → faults 36 t ≡ met cells interval v t
+module _ (cells : List ℕ) (interval : ℕ) (v : Value) (t : Active) (l : List Fork) where
+  pub meet-other : NotRecord v → faults 36 ≡ met cells interval v t l
   unfolding required
-  meet-other k = not-record (λ (w : Value). faults 36 t ≡ met cells interval w t) (λ z. refl) (λ b. refl) v k
+  meet-other k = not-record (λ (w : Value). faults 36 ≡ met cells interval w t l) (λ z. refl) (λ b. refl) v k
 
-  module _ {c d : ℕ} {z : Bool} (p : v ≡ Record c d) (e : z ≡ fits (record { continuation = c; depth = d }) t) where
-    pub meet-unfit : z ≡ false → faults 36 t ≡ met cells interval v t
+  module _ {c d : ℕ} {z : Bool} (p : v ≡ Record c d) (e : z ≡ fits (record { continuation = c; depth = d }) (t .depth) l) where
+    pub meet-unfit : z ≡ false → faults 36 ≡ met cells interval v t l
     unfolding required
     meet-unfit k = rw (p, ← e, k)
 
-    pub meets : {n : Task} → z ≡ true → d ≡ t .depth → n ≡ entered cells interval c t → goes n ≡ met cells interval v t
+    pub meets : z ≡ true → d ≡ t .depth → enters cells interval c t ≡ met cells interval v t l
     unfolding required
-    meets k h f = rw (f, p, ← e, k, eq-eqb d (t .depth) h)
+    meets k h = rw (p, ← e, k, eq-eqb d (t .depth) h)
 
-    pub waits-on : z ≡ true → (d ≡ t .depth → ⊥) → ends Waiting t ≡ met cells interval v t
+    pub waits-on : z ≡ true → (d ≡ t .depth → ⊥) → ends Waits ≡ met cells interval v t l
     unfolding required
     waits-on k h = rw (p, ← e, k, ne-eqb d (t .depth) h)

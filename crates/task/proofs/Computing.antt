@@ -3,9 +3,9 @@
 use mathlib.Core.Path.{_≡_, refl, sym, ap, _∙_}
 use mathlib.Core.Bool.{Bool, true, false, _&&_}
 use mathlib.Core.List.{List}
-use Prim.Native.Nat.{ℕ, suc, _<_, _≤_, _^_}
+use Prim.Native.Nat.{_<_, _≤_, _^_}
 use native.Mathlib.Omega.{arith}
-use lib.Dec.{T, ltb}
+use lib.Dec.{T}
 use lib.IntN.{ℤ, pos, negsuc, natAbs}
 use lib.ListN.{length, getD}
 use lib.Signed.{mag, ltZ, nonNeg}
@@ -14,14 +14,14 @@ use mir.Val.{SFits, Fits, toZ, ofZ}
 use mir.ValLaws.{toZ-ofZ, ofZ-fits}
 use borrow.Author.Tests.{lt-ltb, le-ltb}
 use Rattle.int64.specs.Equal.{eqZ}
-use Rattle.int64.proofs.Equality.{eqZ-eq, eq-eqZ}
+use Rattle.int64.proofs.Equality.{eq-eqZ}
 use Rattle.int64.proofs.Sign.{natural}
 use Rattle.image.proofs.Booleans.{clash}
 use Rattle.task.specs.declared.Value.{Value}
-use Rattle.task.specs.declared.Value.the-variants.{Int, Label, Record}
-use Rattle.task.specs.declared.Task.{Task}
+use Rattle.task.specs.declared.Value.the-variants.{Int}
+use Rattle.task.specs.declared.Active.{Active}
 use Rattle.task.specs.declared.Executed.{Executed}
-use Rattle.task.specs.Values.{isInt, truth}
+use Rattle.task.specs.Values.{isInt}
 use Rattle.task.specs.Execute.{required, stores, faults, computed, divided, fetched}
 use Rattle.task.proofs.Variants.{NotInt, not-int}
 
@@ -29,24 +29,24 @@ use Rattle.task.proofs.Variants.{NotInt, not-int}
 pub given : {r z : ℤ} → mag r < 2 ^ 63 → r ≡ z → Int (toZ w64 (ofZ w64 r)) ≡ Int z
 given {r} h e = ap Int (toZ-ofZ w64 r (record { sfits = h }) ∙ e)
 
-module _ (t : Task) (s v : Value) where
+module _ (s v : Value) where
   -- the left operand is no integer, or the right one
-  pub left-other : (after : Executed) → NotInt s → faults 31 t ≡ required t (isInt s && isInt v) 31 after
+  pub left-other : (after : Executed) → NotInt s → faults 31 ≡ required (isInt s && isInt v) 31 after
   unfolding required
-  left-other after k = not-int (λ (w : Value). faults 31 t ≡ required t (isInt w && isInt v) 31 after) (λ b. refl) (λ b d. refl) s k
+  left-other after k = not-int (λ (w : Value). faults 31 ≡ required (isInt w && isInt v) 31 after) (λ b. refl) (λ b d. refl) s k
 
-  pub right-other : (after : Executed) {a : ℤ} → s ≡ Int a → NotInt v → faults 31 t ≡ required t (isInt s && isInt v) 31 after
+  pub right-other : (after : Executed) {a : ℤ} → s ≡ Int a → NotInt v → faults 31 ≡ required (isInt s && isInt v) 31 after
   unfolding required
   right-other after p k =
-      rw p (not-int (λ (w : Value). faults 31 t ≡ required t (isInt w) 31 after) (λ b. refl) (λ b d. refl) v k)
+      rw p (not-int (λ (w : Value). faults 31 ≡ required (isInt w) 31 after) (λ b. refl) (λ b d. refl) v k)
 
-  module _ {a b : ℤ} (p : s ≡ Int a) (q : v ≡ Int b) (f : SFits w64 a) (g : SFits w64 b) where
+  module _ {a b : ℤ} (t : Active) (p : s ≡ Int a) (q : v ≡ Int b) (f : SFits w64 a) (g : SFits w64 b) where
     pub computes : (op : ℤ → ℤ → Value) {w : Value} → w ≡ op (toZ w64 (ofZ w64 a)) (toZ w64 (ofZ w64 b)) → stores w t ≡ computed op s v t
     unfolding required
     computes op e = rw (p, q, e, toZ-ofZ w64 a f, toZ-ofZ w64 b g)
 
     -- a divisor of 0
-    pub no-divisor : (op : ℤ → ℤ → Value) {z : Bool} → z ≡ eqZ (toZ w64 (ofZ w64 b)) (pos 0) → z ≡ true → faults 32 t ≡ divided op s v t
+    pub no-divisor : (op : ℤ → ℤ → Value) {z : Bool} → z ≡ eqZ (toZ w64 (ofZ w64 b)) (pos 0) → z ≡ true → faults 32 ≡ divided op s v t
     unfolding required
     no-divisor op e k = rw (p, q, required, ← toZ-ofZ w64 b g, ← e, k)
 
@@ -77,17 +77,17 @@ pub index-fits : (a : ℤ) → SFits w64 a → ltZ (toZ w64 (ofZ w64 a)) (pos 0)
     → T (nonNeg (toZ w64 (ofZ w64 a))) × Fits w64 (natAbs (toZ w64 (ofZ w64 a)))
 index-fits a f e = rw (natural a f e) (tt, ofZ-fits w64 a f)
 
-module _ (words : List ℤ) (v : Value) (t : Task) where
-  pub no-index : NotInt v → faults 31 t ≡ fetched words v t
+module _ (words : List ℤ) (v : Value) (t : Active) where
+  pub no-index : NotInt v → faults 31 ≡ fetched words v t
   unfolding required
-  no-index k = not-int (λ (w : Value). faults 31 t ≡ fetched words w t) (λ b. refl) (λ b d. refl) v k
+  no-index k = not-int (λ (w : Value). faults 31 ≡ fetched words w t) (λ b. refl) (λ b d. refl) v k
 
   module _ {a : ℤ} (p : v ≡ Int a) (f : SFits w64 a) where
-    pub index-negative : ltZ (toZ w64 (ofZ w64 a)) (pos 0) ≡ true → faults 33 t ≡ fetched words v t
+    pub index-negative : ltZ (toZ w64 (ofZ w64 a)) (pos 0) ≡ true → faults 33 ≡ fetched words v t
     unfolding required
     index-negative e = rw (p, required, is-negative a (rw (toZ-ofZ w64 a f) at e))
 
-    pub index-past : ltZ (toZ w64 (ofZ w64 a)) (pos 0) ≡ false → length words ≤ natAbs (toZ w64 (ofZ w64 a)) → faults 33 t ≡ fetched words v t
+    pub index-past : ltZ (toZ w64 (ofZ w64 a)) (pos 0) ≡ false → length words ≤ natAbs (toZ w64 (ofZ w64 a)) → faults 33 ≡ fetched words v t
     unfolding required
     index-past e h =
         rw (p, required, not-negative a (rw (toZ-ofZ w64 a f) at e), le-ltb (natAbs a) (length words) (rw (toZ-ofZ w64 a f) at h))

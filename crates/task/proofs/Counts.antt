@@ -70,11 +70,11 @@ module _ (cells : List ℕ) (W : ℕ) where
     within-entered b false = kept _ refl refl
 
     within-jumped : (interval : ℕ) (t : Bool) (v : Value) → AllWithin (jumpedIf t cells interval v f)
-    within-jumped interval true v = within-asked _ _ _ (within-entered (labelOf v) (promotes cells interval (labelOf v) (f .task)))
+    within-jumped interval true v = within-asked _ _ _ (within-entered (labelOf v) (promotes cells interval (labelOf v) (f .task .counter) (f .task .places)))
     within-jumped interval false v = kept _ refl refl
 
     within-met : (interval : ℕ) (t : Bool) (k : Fork) → Within W (metBy t cells interval k (f .task))
-    within-met interval true k = within-entered (k .continuation) (promotes cells interval (k .continuation) (f .task))
+    within-met interval true k = within-entered (k .continuation) (promotes cells interval (k .continuation) (f .task .counter) (f .task .places))
     within-met interval false k = cleared _ x refl refl
 
     module _ (words : List ℤ) (interval r : ℕ) (s v : Value) where

@@ -8,30 +8,29 @@ use lib.ListN.{getD}
 use Rattle.image.specs.declared.Instruction.{Instruction}
 use Rattle.image.proofs.Accepted.{accepted}
 use Rattle.task.specs.declared.Value.{Value}
-use Rattle.task.specs.declared.Task.{Task}
-use Rattle.task.specs.Step.{counted, unknown, opcodes}
-use Rattle.task.specs.Execute.{Ready, faults, executedAs, executed}
+use Rattle.task.specs.declared.Fork.{Fork}
+use Rattle.task.specs.declared.Active.{Active}
+use Rattle.task.specs.Step.{unknown, opcodes}
+use Rattle.task.specs.Execute.{Ready, countedActive, faults, executedAs, executed}
 use Rattle.task.proofs.Opcodes.{no-opcode}
 
-module _ (cells : List ℕ) {s v : Value} {t n : Task} (e : n ≡ counted t) (r : Ready cells s v t) where
+module _ (cells : List ℕ) {s v : Value} {t n : Active} (e : n ≡ countedActive t) (r : Ready cells s v t) where
   pub counted-pc : n .pc < 1024
   counted-pc = rw e (omega (arith, r .pc-below, accepted cells (r .accepted-program) .few-instructions))
 
   pub counted-depth : n .depth ≤ 6
   counted-depth = rw e (r .depth-most)
 
-  pub counted-room : 2 ≤ n .places → n .depth < 6
-  counted-room = rw e (r .fork-room)
-
-module _ (cells : List ℕ) (words : List ℤ) (interval : ℕ) (x : Instruction) (s v : Value) (t : Task) {n : Task} (e : n ≡ counted t) where
-  pub sends : (m : ℕ) → x .opcode ≡ m → executedAs cells words interval s v n (getD opcodes m unknown) ≡ executed cells words interval x s v t
+module _ (cells : List ℕ) (words : List ℤ) (interval : ℕ) (x : Instruction) (s v : Value) (t : Active) (l : List Fork) {n : Active}
+    (e : n ≡ countedActive t) where
+  pub sends : (m : ℕ) → x .opcode ≡ m → executedAs cells words interval s v n l (getD opcodes m unknown) ≡ executed cells words interval x s v t l
   unfolding executed
   sends m k = rw (e, k)
 
   -- any other number than 1 to 15
-  pub sends-nowhere : (1 ≤ x .opcode → 15 < x .opcode) → faults 8 n ≡ executed cells words interval x s v t
+  pub sends-nowhere : (1 ≤ x .opcode → 15 < x .opcode) → faults 8 ≡ executed cells words interval x s v t l
   unfolding executed
-  sends-nowhere h = rw (e, other (x .opcode) h)
+  sends-nowhere h = rw (other (x .opcode) h)
     where
       other : (m : ℕ) → (1 ≤ m → 15 < m) → getD opcodes m unknown ≡ unknown
       other zero h = refl

@@ -1,9 +1,8 @@
 -- Each way through a function of opcodes 10, 11 and 13 and of block entry, with plain variables for what the code has there.
-use mathlib.Core.Path.{_≡_, refl, sym, ap, _∙_}
+use mathlib.Core.Path.{_≡_, refl, sym, _∙_}
 use mathlib.Core.Bool.{Bool, true, false}
 use mathlib.Core.List.{List}
-use Prim.Native.Nat.{ℕ, _<_}
-use lib.Dec.{eqb}
+use Prim.Native.Nat.{ℕ, _+_, _<_}
 use lib.IntN.{ℤ, pos}
 use mir.Syntax.{w64}
 use mir.Val.{SFits, toZ, ofZ}
@@ -13,10 +12,10 @@ use Rattle.int64.specs.Equal.{eqZ}
 use Rattle.image.specs.Layout.{blockCount, blockOf}
 use Rattle.task.specs.declared.Value.{Value}
 use Rattle.task.specs.declared.Value.the-variants.{Int, Label, Record}
-use Rattle.task.specs.declared.Task.{Task}
-use Rattle.task.specs.Step.{movedTo, onward, promotes, entered}
+use Rattle.task.specs.declared.Active.{Active}
+use Rattle.task.specs.Step.{promotes}
 use Rattle.task.specs.Formed.{valueFits}
-use Rattle.task.specs.Execute.{required, stores, goes, faults, jumped, branched, allocated}
+use Rattle.task.specs.Execute.{required, stores, goes, faults, enters, jumped, branched, allocated}
 use Rattle.task.proofs.Formation.{target-below}
 use Rattle.task.proofs.Variants.{NotInt, NotLabel, not-int, not-label}
 
@@ -30,28 +29,28 @@ continuation-fits cells {b} p h = target-below cells b (rw p at h)
 
 -- ---- block entry
 
-module _ (cells : List ℕ) (interval b : ℕ) (t : Task) {z : Bool} {pc : ℕ} (h : z ≡ promotes cells interval b t) where
-  pub enters-handler : z ≡ true → pc ≡ blockOf cells (blockOf cells b .label) .first → movedTo pc 0 t ≡ entered cells interval b t
+module _ (cells : List ℕ) (interval b : ℕ) (t : Active) {z : Bool} {pc : ℕ} (h : z ≡ promotes cells interval b (t .counter) (t .places)) where
+  pub enters-handler : z ≡ true → pc ≡ blockOf cells (blockOf cells b .label) .first → goes pc 0 ≡ enters cells interval b t
   enters-handler k e = rw (e, ← h, k)
 
-  pub enters-block : z ≡ false → pc ≡ blockOf cells b .first → movedTo pc (t .counter) t ≡ entered cells interval b t
+  pub enters-block : z ≡ false → pc ≡ blockOf cells b .first → goes pc (t .counter) ≡ enters cells interval b t
   enters-block k e = rw (e, ← h, k)
 
 -- ---- jump and if-jump
 
-module _ (cells : List ℕ) (interval : ℕ) (v : Value) (t : Task) where
-  pub no-target : NotLabel v → faults 34 t ≡ jumped cells interval v t
+module _ (cells : List ℕ) (interval : ℕ) (v : Value) (t : Active) where
+  pub no-target : NotLabel v → faults 34 ≡ jumped cells interval v t
   unfolding required
-  no-target k = not-label (λ (w : Value). faults 34 t ≡ jumped cells interval w t) (λ z. refl) (λ b d. refl) v k
+  no-target k = not-label (λ (w : Value). faults 34 ≡ jumped cells interval w t) (λ z. refl) (λ b d. refl) v k
 
-  pub jumps : {b : ℕ} {n : Task} → v ≡ Label b → n ≡ entered cells interval b t → goes n ≡ jumped cells interval v t
+  pub jumps : {b : ℕ} → v ≡ Label b → enters cells interval b t ≡ jumped cells interval v t
   unfolding required
-  jumps p e = rw (p, e)
+  jumps p = rw p
 
   module _ (s : Value) where
-    pub tests-other : NotInt s → faults 31 t ≡ branched cells interval s v t
+    pub tests-other : NotInt s → faults 31 ≡ branched cells interval s v t
     unfolding required
-    tests-other k = not-int (λ (w : Value). faults 31 t ≡ branched cells interval w v t) (λ b. refl) (λ b d. refl) s k
+    tests-other k = not-int (λ (w : Value). faults 31 ≡ branched cells interval w v t) (λ b. refl) (λ b d. refl) s k
 
     module _ {a : ℤ} {z : Bool} (p : s ≡ Int a) (f : SFits w64 a) (e : z ≡ eqZ (toZ w64 (ofZ w64 a)) (pos 0)) where
       is-zero : {y : Bool} → z ≡ y → eqZ a (pos 0) ≡ y
@@ -61,18 +60,18 @@ module _ (cells : List ℕ) (interval : ℕ) (v : Value) (t : Task) where
       unfolding required
       branches k = rw (p, is-zero k)
 
-      pub falls-through : z ≡ false → goes (onward t) ≡ branched cells interval s v t
+      pub falls-through : z ≡ false → goes (t .pc + 1) (t .counter) ≡ branched cells interval s v t
       unfolding required
       falls-through k = rw (p, is-zero k)
 
 -- ---- jralloc
 
-module _ (cells : List ℕ) (v : Value) (t : Task) where
-  pub no-label : NotLabel v → faults 35 t ≡ allocated cells v t
+module _ (cells : List ℕ) (v : Value) (t : Active) where
+  pub no-label : NotLabel v → faults 35 ≡ allocated cells v t
   unfolding required
-  no-label k = not-label (λ (w : Value). faults 35 t ≡ allocated cells w t) (λ z. refl) (λ b d. refl) v k
+  no-label k = not-label (λ (w : Value). faults 35 ≡ allocated cells w t) (λ z. refl) (λ b d. refl) v k
 
-  pub no-join-target : {b : ℕ} → v ≡ Label b → (blockOf cells b .annotation ≡ 2 → ⊥) → faults 35 t ≡ allocated cells v t
+  pub no-join-target : {b : ℕ} → v ≡ Label b → (blockOf cells b .annotation ≡ 2 → ⊥) → faults 35 ≡ allocated cells v t
   unfolding required
   no-join-target {b} p k = rw (p, ne-eqb (blockOf cells b .annotation) 2 k)
 

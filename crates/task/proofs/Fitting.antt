@@ -12,14 +12,13 @@ use lib.ListN.{getD}
 use borrow.Author.Tests.{eqb-true, eq-eqb, leb-true, le-leb}
 use Rattle.image.proofs.Booleans.{clash, both-true}
 use Rattle.task.specs.declared.Fork.{Fork}
-use Rattle.task.specs.declared.Task.{Task}
 use Rattle.task.specs.Frames.{zeroFork}
 use Rattle.task.specs.Step.{belong, fits}
 use Rattle.task.proofs.Facts.{both-from}
 
-pub record Fits (k : Fork) (t : Task) : Type 0 where
-  pub shallow : k .depth ≤ t .depth
-  pub belongs : (i : ℕ) → k .depth ≤ i → i < t .depth → getD (t .forks) i zeroFork ≡ k
+pub record Fits (k : Fork) (depth : ℕ) (forks : List Fork) : Type 0 where
+  pub shallow : k .depth ≤ depth
+  pub belongs : (i : ℕ) → k .depth ≤ i → i < depth → getD forks i zeroFork ≡ k
 
 fork-is : (a k : Fork) → eqb (a .continuation) (k .continuation) && eqb (a .depth) (k .depth) ≡ true → a ≡ k
 fork-is a k e =
@@ -55,20 +54,20 @@ module _ (forks : List Fork) (k : Fork) where
       rw (is-fork (getD forks i zeroFork) k (h i (omega arith) (omega arith)), belong)
       (belong-from n (i + 1) (λ m p q. h m (omega arith) (omega arith)))
 
-module _ (k : Fork) (t : Task) where
-  pub fits-is : fits k t ≡ true → Fits k t
+module _ (k : Fork) (depth : ℕ) (forks : List Fork) where
+  pub fits-is : fits k depth forks ≡ true → Fits k depth forks
   unfolding fits
   fits-is e =
-      let p = both-true (leb (k .depth) (t .depth)) (belong (t .forks) k (t .depth - k .depth) (k .depth)) e in
-      let low = leb-true (k .depth) (t .depth) (p .0) in
-      record { shallow = low; belongs = λ i a b. belong-at (t .forks) k (t .depth - k .depth) (k .depth) (p .1) i a (omega arith) }
+      let p = both-true (leb (k .depth) depth) (belong forks k (depth - k .depth) (k .depth)) e in
+      let low = leb-true (k .depth) depth (p .0) in
+      record { shallow = low; belongs = λ i a b. belong-at forks k (depth - k .depth) (k .depth) (p .1) i a (omega arith) }
 
-  pub is-fits : Fits k t → fits k t ≡ true
+  pub is-fits : Fits k depth forks → fits k depth forks ≡ true
   unfolding fits
   is-fits x =
-      both-from (le-leb (k .depth) (t .depth) (x .shallow))
-      (belong-from (t .forks) k (t .depth - k .depth) (k .depth) (λ i a b. x .belongs i a (omega (arith, x .shallow))))
+      both-from (le-leb (k .depth) depth (x .shallow))
+      (belong-from forks k (depth - k .depth) (k .depth) (λ i a b. x .belongs i a (omega (arith, x .shallow))))
 
   -- a task that waits by a record has its innermost fork under that record: so the fork tells `join` the continuation
-  pub innermost-under : fits k t ≡ true → k .depth < t .depth → getD (t .forks) (t .depth - 1) zeroFork ≡ k
-  innermost-under e deep = fits-is e .belongs (t .depth - 1) (omega arith) (omega arith)
+  pub innermost-under : fits k depth forks ≡ true → k .depth < depth → getD forks (depth - 1) zeroFork ≡ k
+  innermost-under e deep = fits-is e .belongs (depth - 1) (omega arith) (omega arith)

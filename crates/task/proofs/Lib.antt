@@ -19,4 +19,3 @@ pub mod Entering
 pub mod Belonging
 pub mod Dispatch
 pub mod Copying
-pub mod RunsOn

@@ -63,12 +63,12 @@ module _ (cells : List ℕ) (p c : Frame) where
 
 module _ (cells : List ℕ) (interval b : ℕ) (t : Task) where
   -- the counter becomes 0 and control goes to the handler
-  pub promotion-clears : promotes cells interval b t ≡ true
+  pub promotion-clears : promotes cells interval b (t .counter) (t .places) ≡ true
       → (entered cells interval b t .counter ≡ 0) × (entered cells interval b t .pc ≡ blockOf cells (blockOf cells b .label) .first)
   promotion-clears e = (ap (λ o. enteredBy o cells b t .counter) e, ap (λ o. enteredBy o cells b t .pc) e)
 
   -- otherwise the counter stays and control enters the block
-  pub entry-keeps : promotes cells interval b t ≡ false
+  pub entry-keeps : promotes cells interval b (t .counter) (t .places) ≡ false
       → (entered cells interval b t .counter ≡ t .counter) × (entered cells interval b t .pc ≡ blockOf cells b .first)
   entry-keeps e = (ap (λ o. enteredBy o cells b t .counter) e, ap (λ o. enteredBy o cells b t .pc) e)
 

@@ -138,7 +138,7 @@ module _ (cells : List ℕ) (ok : Accepted cells) (D : ℕ) (room : D ≤ 6) whe
 
   entered-formed : {h : ℕ} {f : Frame} (interval b : ℕ) → Live h f → b < blockCount cells
       → Is h (withTask (entered cells interval b (f .task)) f)
-  entered-formed {h} {f} interval b x below = go (promotes cells interval b (f .task))
+  entered-formed {h} {f} interval b x below = go (promotes cells interval b (f .task .counter) (f .task .places))
     where
       go : (t : Bool) → Is h (withTask (enteredBy t cells b (f .task)) f)
       go true = moved-formed _ 0 x (block-below _ (ok .block b below .label-below))
@@ -147,7 +147,7 @@ module _ (cells : List ℕ) (ok : Accepted cells) (D : ℕ) (room : D ≤ 6) whe
   -- ---- one side of a fork
 
   side-formed : (j : ℕ) (f : Frame) (k : Fork) (pc counter : ℕ) → Live (suc j) f → isTarget cells (k .continuation) ≡ true
-      → pc < instructionCount cells → Is j (side k pc counter f)
+      → pc < instructionCount cells → Is j (withTask (side k pc counter (f .task)) f)
   side-formed j f k pc counter x target below =
       let deep : f .task .depth + suc j ≡ D = x .is .has-depth in
       record {
@@ -191,12 +191,12 @@ module _ (cells : List ℕ) (ok : Accepted cells) (D : ℕ) (room : D ≤ 6) whe
     rw (x .runs),
   )
 
-  met-formed : {h : ℕ} {f : Frame} (interval : ℕ) (k : Fork) → Live h f → isTarget cells (k .continuation) ≡ true → fits k (f .task) ≡ true
+  met-formed : {h : ℕ} {f : Frame} (interval : ℕ) (k : Fork) → Live h f → isTarget cells (k .continuation) ≡ true → fits k (f .task .depth) (f .task .forks) ≡ true
       → Is h (withTask (metBy (eqb (k .depth) (f .task .depth)) cells interval k (f .task)) f)
   met-formed {h} {f} interval k x target fit = go (eqb (k .depth) (f .task .depth)) refl
     where
       shallow : k .depth ≤ f .task .depth
-      shallow = fits-is k (f .task) fit .shallow
+      shallow = fits-is k (f .task .depth) (f .task .forks) fit .shallow
 
       go : (t : Bool) → eqb (k .depth) (f .task .depth) ≡ t → Is h (withTask (metBy t cells interval k (f .task)) f)
       go true t = entered-formed interval (k .continuation) x (target-below cells (k .continuation) target)
@@ -230,14 +230,14 @@ module _ (cells : List ℕ) (ok : Accepted cells) (D : ℕ) (room : D ≤ 6) whe
         stored-formed r _ x (target-from cells (labelOf v) (label-below cells v fv (p .0)) (p .1)) next
     carried-leaves {h} {f} x fork next =
         asked-leaves _ _ _ x (omega arith) λ e.
-        let p = both-true (isRecord s) (fits (recordOf s) (f .task)) e in
+        let p = both-true (isRecord s) (fits (recordOf s) (f .task .depth) (f .task .forks)) e in
         asked-leaves _ _ _ x (omega arith) λ label. asked-leaves _ _ _ x (omega arith) λ wide.
         forked-leaves h f (recordOf s) (labelOf v) x (record-target cells s fs (p .0)) (label-below cells v fv label) next wide
     carried-leaves x jump next = jumped-leaves interval true v x fv (λ t. clash refl t)
     carried-leaves x halt next = asked-leaves _ _ _ x (omega arith) λ e. ended-formed Halted (x .is) (both-from e refl)
     carried-leaves {h} {f} x meet next =
         asked-leaves _ _ _ x (omega arith) λ e.
-        let p = both-true (isRecord v) (fits (recordOf v) (f .task)) e in
+        let p = both-true (isRecord v) (fits (recordOf v) (f .task .depth) (f .task .forks)) e in
         met-formed interval (recordOf v) x (record-target cells v fv (p .0)) (p .1)
     carried-leaves x unknown next = absurd next
 

@@ -1,10 +1,10 @@
--- One instruction carried out on small values: on the task record and the values of its operands, not on the registers.
--- `proofs/Executing.antt` proves that this is `step`.
+-- One instruction carried out on small values: on the numbers that it looks at of the task, the open forks, and the values of its operands.
+-- `proofs/Executing.antt` proves that this, applied to the frame, is `step`.
 use mathlib.Core.Path.{_≡_}
 use mathlib.Core.Bool.{Bool, true, false, not, _&&_}
 use mathlib.Core.List.{List}
 use mathlib.Core.Option.{Option, none, some}
-use Prim.Native.Nat.{ℕ, _+_, _-_, _/_, _<_, _≤_}
+use Prim.Native.Nat.{ℕ, _+_, _-_, _<_, _≤_}
 use lib.Dec.{eqb, ltb, leb}
 use lib.IntN.{ℤ, pos, natAbs, _+ℤ_, _-ℤ_, _*ℤ_}
 use lib.Signed.{quotZ, remZ, ltZ, nonNeg}
@@ -19,69 +19,65 @@ use Rattle.image.specs.Questions.{programNo}
 use Rattle.agreement.specs.Plain.{Stepped, one, two}
 use Rattle.task.specs.declared.Value.{Value}
 use Rattle.task.specs.declared.Value.the-variants.{Int, Label, Record}
-use Rattle.task.specs.declared.Register.{Register}
 use Rattle.task.specs.declared.Status.{Status}
 use Rattle.task.specs.declared.Status.the-variants.{Running, Waiting, Halted, Faulted}
 use Rattle.task.specs.declared.Fork.{Fork}
 use Rattle.task.specs.declared.Task.{Task}
 use Rattle.task.specs.declared.Frame.{Frame}
+use Rattle.task.specs.declared.Active.{Active}
 use Rattle.task.specs.declared.Kind.{Kind}
-use Rattle.task.specs.declared.Kind.the-variants.{Stores, Goes, Ends, Faults, Forks}
+use Rattle.task.specs.declared.Kind.the-variants.{Stores, Goes, Waits, Halts, Faults, Forks}
 use Rattle.task.specs.declared.Executed.{Executed}
 use Rattle.task.specs.Frames.{zeros, zeroFork}
 use Rattle.task.specs.Values.{isInt, isLabel, isRecord, integerOf, labelOf, recordOf, truth}
-use Rattle.task.specs.Step.{counted, movedTo, onward, ended, entered, fits, Op, move, plus, minus, times, divide, modulo, less, equal, word, ifJump, jralloc, fork, jump, halt, meet, unknown, opcodes}
+use Rattle.task.specs.Step.{counted, movedTo, ended, withTask, promotes, fits, side, Op, move, plus, minus, times, divide, modulo, less, equal, word, ifJump, jralloc, fork, jump, halt, meet, unknown, opcodes}
 use Rattle.task.specs.Formed.{valueFits}
+
+-- what an instruction looks at of a task, besides its open forks
+abbrev pub activeOf : Task → Active
+activeOf t = record { places = t .places; pc = t .pc; counter = t .counter; depth = t .depth }
 
 -- ---- What an instruction leaves
 
+-- it adds 1 to the counter; the span, which it does not look at, is left to the caller
+abbrev pub countedActive : Active → Active
+countedActive a = record { places = a .places; pc = a .pc; counter = a .counter + 1; depth = a .depth }
+
 -- r := v, and on to the next instruction
-abbrev pub stores : Value → Task → Executed
-stores v t = record { task = onward t; value = v; kind = Stores }
+abbrev pub stores : Value → Active → Executed
+stores v a = record { kind = Stores; value = v; pc = a .pc + 1; counter = a .counter }
 
--- the task goes on, its registers as they are
-abbrev pub goes : Task → Executed
-goes t = record { task = t; value = Int (pos 0); kind = Goes }
+-- the task goes on at pc, its registers as they are
+abbrev pub goes : ℕ → ℕ → Executed
+goes pc counter = record { kind = Goes; value = Int (pos 0); pc = pc; counter = counter }
 
--- the task waits or has halted
-abbrev pub ends : Status → Task → Executed
-ends s t = record { task = ended s t; value = Int (pos 0); kind = Ends }
+-- the task waits, has halted or has faulted
+abbrev pub ends : Kind → Executed
+ends kind = record { kind = kind; value = Int (pos 0); pc = 0; counter = 0 }
 
-abbrev pub faults : ℕ → Task → Executed
-faults n t = record { task = ended (Faulted n) t; value = Int (pos 0); kind = Faults }
+abbrev pub faults : ℕ → Executed
+faults n = ends (Faults n)
 
--- the parent's side of a fork under the record k; the child starts at pc
-abbrev pub forks : Fork → ℕ → Task → Executed
-forks k pc t = record {
-  task = record {
-    status = t .status;
-    places = t .places / 2;
-    pc = t .pc + 1;
-    counter = t .counter;
-    span = t .span;
-    depth = t .depth + 1;
-    forks = set (t .forks) (t .depth) k;
-  };
-  value = Int (pos 0);
-  kind = Forks pc;
-}
+-- the parent's side of a fork under the record v goes on; the child starts at pc
+abbrev pub splits : Value → ℕ → Active → Executed
+splits v pc a = record { kind = Forks pc; value = v; pc = a .pc + 1; counter = a .counter }
 
 -- a question inside a task: the fault n where the test fails, else what comes after it
-unfoldable pub required : Task → Bool → ℕ → Executed → Executed
-required t true n after = after
-required t false n after = faults n t
+unfoldable pub required : Bool → ℕ → Executed → Executed
+required true n e = e
+required false n e = faults n
 
 -- ---- The instructions, on a task that has counted them
 
 -- both operands integers? (31)
-abbrev pub computed : (ℤ → ℤ → Value) → Value → Value → Task → Executed
-computed op s v t = required t (isInt s && isInt v) 31 (stores (op (integerOf s) (integerOf v)) t)
+abbrev pub computed : (ℤ → ℤ → Value) → Value → Value → Active → Executed
+computed op s v a = required (isInt s && isInt v) 31 (stores (op (integerOf s) (integerOf v)) a)
 
 -- divisor not 0? (32)
-abbrev pub divided : (ℤ → ℤ → Value) → Value → Value → Task → Executed
-divided op s v t =
-    required t (isInt s && isInt v) 31
-    (required t (not (eqZ (integerOf v) (pos 0))) 32 (stores (op (integerOf s) (integerOf v)) t))
+abbrev pub divided : (ℤ → ℤ → Value) → Value → Value → Active → Executed
+divided op s v a =
+    required (isInt s && isInt v) 31
+    (required (not (eqZ (integerOf v) (pos 0))) 32 (stores (op (integerOf s) (integerOf v)) a))
 
 -- sums, differences and products keep the low 64 bits, read as signed
 abbrev pub sum : ℤ → ℤ → Value
@@ -107,87 +103,105 @@ abbrev pub isEqual : ℤ → ℤ → Value
 isEqual a b = truth (eqZ a b)
 
 -- index an integer? (31) Inside the record? (33)
-abbrev pub fetched : List ℤ → Value → Task → Executed
-fetched words v t =
-    required t (isInt v) 31
-    (required t (nonNeg (integerOf v) && ltb (natAbs (integerOf v)) (length words)) 33
-    (stores (Int (getD words (natAbs (integerOf v)) (pos 0))) t))
+abbrev pub fetched : List ℤ → Value → Active → Executed
+fetched words v a =
+    required (isInt v) 31
+    (required (nonNeg (integerOf v) && ltb (natAbs (integerOf v)) (length words)) 33
+    (stores (Int (getD words (natAbs (integerOf v)) (pos 0))) a))
+
+-- entering block b: its handler, with counter 0, where the task is promoted
+abbrev pub entersBy : Bool → List ℕ → ℕ → Active → Executed
+entersBy true cells b a = goes (blockOf cells (blockOf cells b .label) .first) 0
+entersBy false cells b a = goes (blockOf cells b .first) (a .counter)
+
+abbrev pub enters : List ℕ → ℕ → ℕ → Active → Executed
+enters cells interval b a = entersBy (promotes cells interval b (a .counter) (a .places)) cells b a
 
 -- jump target a label? (34)
-abbrev pub jumped : List ℕ → ℕ → Value → Task → Executed
-jumped cells interval v t = required t (isLabel v) 34 (goes (entered cells interval (labelOf v) t))
+abbrev pub jumped : List ℕ → ℕ → Value → Active → Executed
+jumped cells interval v a = required (isLabel v) 34 (enters cells interval (labelOf v) a)
 
 -- if-jump register an integer? (31) It jumps when s is 0
-abbrev pub branchedBy : Bool → List ℕ → ℕ → Value → Task → Executed
-branchedBy true cells interval v t = jumped cells interval v t
-branchedBy false cells interval v t = goes (onward t)
+abbrev pub branchedBy : Bool → List ℕ → ℕ → Value → Active → Executed
+branchedBy true cells interval v a = jumped cells interval v a
+branchedBy false cells interval v a = goes (a .pc + 1) (a .counter)
 
-abbrev pub branched : List ℕ → ℕ → Value → Value → Task → Executed
-branched cells interval s v t = required t (isInt s) 31 (branchedBy (eqZ (integerOf s) (pos 0)) cells interval v t)
+abbrev pub branched : List ℕ → ℕ → Value → Value → Active → Executed
+branched cells interval s v a = required (isInt s) 31 (branchedBy (eqZ (integerOf s) (pos 0)) cells interval v a)
 
 -- a label of a join target? (35)
-abbrev pub allocated : List ℕ → Value → Task → Executed
-allocated cells v t =
-    required t (isLabel v && eqb (blockOf cells (labelOf v) .annotation) 2) 35 (stores (Record (labelOf v) (t .depth)) t)
+abbrev pub allocated : List ℕ → Value → Active → Executed
+allocated cells v a =
+    required (isLabel v && eqb (blockOf cells (labelOf v) .annotation) 2) 35 (stores (Record (labelOf v) (a .depth)) a)
 
 -- a record that fits? (36) A label? (34) Two places to fork? (37)
-abbrev pub forked : List ℕ → Value → Value → Task → Executed
-forked cells s v t =
-    required t (isRecord s && fits (recordOf s) t) 36
-    (required t (isLabel v) 34
-    (required t (leb 2 (t .places)) 37 (forks (recordOf s) (blockOf cells (labelOf v) .first) t)))
+abbrev pub forked : List ℕ → Value → Value → Active → List Fork → Executed
+forked cells s v a forks =
+    required (isRecord s && fits (recordOf s) (a .depth) forks) 36
+    (required (isLabel v) 34 (required (leb 2 (a .places)) 37 (splits s (blockOf cells (labelOf v) .first) a)))
 
 -- no open fork at halt? (38)
-abbrev pub halted : Task → Executed
-halted t = required t (eqb (t .depth) 0) 38 (ends Halted t)
+abbrev pub halted : Active → Executed
+halted a = required (eqb (a .depth) 0) 38 (ends Halts)
 
 -- a record that fits? (36) Its depth equal to the task's: go to the continuation. Otherwise the task waits
-abbrev pub metAt : Bool → List ℕ → ℕ → Fork → Task → Executed
-metAt true cells interval k t = goes (entered cells interval (k .continuation) t)
-metAt false cells interval k t = ends Waiting t
+abbrev pub metAt : Bool → List ℕ → ℕ → Fork → Active → Executed
+metAt true cells interval k a = enters cells interval (k .continuation) a
+metAt false cells interval k a = ends Waits
 
-abbrev pub met : List ℕ → ℕ → Value → Task → Executed
-met cells interval v t =
-    required t (isRecord v && fits (recordOf v) t) 36 (metAt (eqb (recordOf v .depth) (t .depth)) cells interval (recordOf v) t)
+abbrev pub met : List ℕ → ℕ → Value → Active → List Fork → Executed
+met cells interval v a forks =
+    required (isRecord v && fits (recordOf v) (a .depth) forks) 36 (metAt (eqb (recordOf v .depth) (a .depth)) cells interval (recordOf v) a)
 
 -- ---- One instruction with the values s and v
 
 module _ (cells : List ℕ) (words : List ℤ) (interval : ℕ) where
-  abbrev pub executedAs : Value → Value → Task → Op → Executed
-  executedAs s v t move = stores v t
-  executedAs s v t plus = computed sum s v t
-  executedAs s v t minus = computed difference s v t
-  executedAs s v t times = computed product s v t
-  executedAs s v t divide = divided quotient s v t
-  executedAs s v t modulo = divided remainder s v t
-  executedAs s v t less = computed isLess s v t
-  executedAs s v t equal = computed isEqual s v t
-  executedAs s v t word = fetched words v t
-  executedAs s v t ifJump = branched cells interval s v t
-  executedAs s v t jralloc = allocated cells v t
-  executedAs s v t fork = forked cells s v t
-  executedAs s v t jump = jumped cells interval v t
-  executedAs s v t halt = halted t
-  executedAs s v t meet = met cells interval v t
+  abbrev pub executedAs : Value → Value → Active → List Fork → Op → Executed
+  executedAs s v a forks move = stores v a
+  executedAs s v a forks plus = computed sum s v a
+  executedAs s v a forks minus = computed difference s v a
+  executedAs s v a forks times = computed product s v a
+  executedAs s v a forks divide = divided quotient s v a
+  executedAs s v a forks modulo = divided remainder s v a
+  executedAs s v a forks less = computed isLess s v a
+  executedAs s v a forks equal = computed isEqual s v a
+  executedAs s v a forks word = fetched words v a
+  executedAs s v a forks ifJump = branched cells interval s v a
+  executedAs s v a forks jralloc = allocated cells v a
+  executedAs s v a forks fork = forked cells s v a forks
+  executedAs s v a forks jump = jumped cells interval v a
+  executedAs s v a forks halt = halted a
+  executedAs s v a forks meet = met cells interval v a forks
   -- an accepted program has no other opcode (8)
-  executedAs s v t unknown = faults 8 t
+  executedAs s v a forks unknown = faults 8
 
-  unfoldable pub executed : Instruction → Value → Value → Task → Executed
-  executed x s v t = executedAs s v (counted t) (getD opcodes (x .opcode) unknown)
+  unfoldable pub executed : Instruction → Value → Value → Active → List Fork → Executed
+  executed x s v a forks = executedAs s v (countedActive a) forks (getD opcodes (x .opcode) unknown)
 
--- ---- What it makes of the frame
+-- ---- What it makes of the frame as it was before the instruction
 
--- by its kind: the value goes to r; the registers stay; a fault's are 16 integers 0; the child has the parent's registers, counter 0
-abbrev pub appliedBy : Kind → List Register → ℕ → Value → Task → Stepped Frame
-appliedBy Stores registers r v t = one (record { task = t; registers = set registers r (record { value = v }) })
-appliedBy Goes registers r v t = one (record { task = t; registers = registers })
-appliedBy Ends registers r v t = one (record { task = t; registers = registers })
-appliedBy Faults registers r v t = one (record { task = t; registers = zeros })
-appliedBy (Forks pc) registers r v t =
-    two (record { task = t; registers = registers }) (record { task = movedTo pc 0 t; registers = registers })
+-- the task goes on, at the instruction and with the counter that are left
+abbrev pub after : Executed → Task → Task
+after e t = movedTo (e .pc) (e .counter) (counted t)
+
+-- the sides of a fork: the child starts at pc, counter 0
+abbrev pub parentSide : Executed → Task → Task
+parentSide e t = side (recordOf (e .value)) (e .pc) (e .counter) (counted t)
+
+abbrev pub childSide : ℕ → Executed → Task → Task
+childSide pc e t = movedTo pc 0 (parentSide e t)
+
+-- by its kind: the value goes to r; the registers stay; a fault's are 16 integers 0; the child has the parent's registers
+abbrev pub appliedBy : Kind → Frame → ℕ → Executed → Stepped Frame
+appliedBy Stores f r e = one (record { task = after e (f .task); registers = set (f .registers) r (record { value = e .value }) })
+appliedBy Goes f r e = one (withTask (after e (f .task)) f)
+appliedBy Waits f r e = one (withTask (ended Waiting (counted (f .task))) f)
+appliedBy Halts f r e = one (withTask (ended Halted (counted (f .task))) f)
+appliedBy (Faults n) f r e = one (record { task = ended (Faulted n) (counted (f .task)); registers = zeros })
+appliedBy (Forks pc) f r e = two (withTask (parentSide e (f .task)) f) (withTask (childSide pc e (f .task)) f)
 
 abbrev pub applied : Frame → Instruction → Executed → Stepped Frame
-applied f x e = appliedBy (e .kind) (f .registers) (x .r) (e .value) (e .task)
+applied f x e = appliedBy (e .kind) f (x .r) e
 
 -- the value of operand v, where `held` is that of the register that an operand of kind 1 names
 unfoldable pub selected : Instruction → Value → Value
@@ -203,18 +217,17 @@ statusBy (some n) = Faulted n
 
 -- ---- What the machine hands over
 
--- of a running task of a state of the shape, below the work's limit: what carrying out its instruction needs to be safe.
--- `proofs/Executing.antt` proves it of every formed frame
-pub record Ready (cells : List ℕ) (s v : Value) (t : Task) : Type 0 where
+-- of a running task of a state of the shape, below the work's limit: what carrying out its instruction needs to be safe. The machine proves
+-- it in its `proofs/Readiness.antt`
+pub record Ready (cells : List ℕ) (s v : Value) (a : Active) : Type 0 where
   pub accepted-program : programNo cells ≡ 0
-  pub pc-below : t .pc < instructionCount cells
+  pub pc-below : a .pc < instructionCount cells
   pub s-fits : valueFits cells s ≡ true
   pub v-fits : valueFits cells v ≡ true
-  pub counter-below : t .counter < 4294967295
-  pub span-below : t .span < 4294967295
-  pub depth-most : t .depth ≤ 6
-  -- a task that can fork has room for an open fork more
-  pub fork-room : 2 ≤ t .places → t .depth < 6
+  pub counter-below : a .counter < 4294967295
+  pub depth-most : a .depth ≤ 6
+  -- a task that can fork has room for the open fork that the machine adds
+  pub fork-room : 2 ≤ a .places → a .depth < 6
 
 -- of two ended sides of a fork, the parent's first
 pub record Joinable (cells : List ℕ) (p c : Frame) : Type 0 where

@@ -90,9 +90,9 @@ asked f false n after = one (faulted n f)
 -- ---- Entering a block by jump, taken if-jump or join
 
 -- it is promotion-ready, the interval isn't 0, the counter exceeds the interval and the task has two places or more
-unfoldable pub promotes : List ℕ → ℕ → ℕ → Task → Bool
-promotes cells interval b t =
-    eqb (blockOf cells b .annotation) 1 && (not (eqb interval 0) && (ltb interval (t .counter) && leb 2 (t .places)))
+unfoldable pub promotes : List ℕ → ℕ → ℕ → ℕ → ℕ → Bool
+promotes cells interval b counter places =
+    eqb (blockOf cells b .annotation) 1 && (not (eqb interval 0) && (ltb interval counter && leb 2 places))
 
 -- then the counter becomes 0 and control goes to the handler; otherwise it enters the block
 abbrev pub enteredBy : Bool → List ℕ → ℕ → Task → Task
@@ -100,7 +100,7 @@ enteredBy true cells b t = movedTo (blockOf cells (blockOf cells b .label) .firs
 enteredBy false cells b t = movedTo (blockOf cells b .first) (t .counter) t
 
 abbrev pub entered : List ℕ → ℕ → ℕ → Task → Task
-entered cells interval b t = enteredBy (promotes cells interval b t) cells b t
+entered cells interval b t = enteredBy (promotes cells interval b (t .counter) (t .places)) cells b t
 
 -- jump target a label? (34) if-jump looks only when it jumps
 abbrev pub jumpedIf : Bool → List ℕ → ℕ → Value → Frame → Stepped Frame
@@ -119,27 +119,25 @@ belong forks k (suc n) i =
     ]
 
 -- a record fits a task when its depth is not above the task's and every fork opened beyond that depth belongs to it
-unfoldable pub fits : Fork → Task → Bool
-fits k t = leb (k .depth) (t .depth) && belong (t .forks) k (t .depth - k .depth) (k .depth)
+unfoldable pub fits : Fork → ℕ → List Fork → Bool
+fits k depth forks = leb (k .depth) depth && belong forks k (depth - k .depth) (k .depth)
 
 -- one side of a fork: half of the places, and an open fork more, under the record
-abbrev pub side : Fork → ℕ → ℕ → Frame → Frame
-side k pc counter f = record {
-  task = record {
-    status = f .task .status;
-    places = f .task .places / 2;
-    pc = pc;
-    counter = counter;
-    span = f .task .span;
-    depth = f .task .depth + 1;
-    forks = set (f .task .forks) (f .task .depth) k;
-  };
-  registers = f .registers;
+abbrev pub side : Fork → ℕ → ℕ → Task → Task
+side k pc counter t = record {
+  status = t .status;
+  places = t .places / 2;
+  pc = pc;
+  counter = counter;
+  span = t .span;
+  depth = t .depth + 1;
+  forks = set (t .forks) (t .depth) k;
 }
 
 -- the parent goes on; the child has the parent's registers and span, counter 0, and starts block b
 abbrev pub forked : List ℕ → Fork → ℕ → Frame → Stepped Frame
-forked cells k b f = two (side k (f .task .pc + 1) (f .task .counter) f) (side k (blockOf cells b .first) 0 f)
+forked cells k b f =
+    two (withTask (side k (f .task .pc + 1) (f .task .counter) (f .task)) f) (withTask (side k (blockOf cells b .first) 0 (f .task)) f)
 
 -- the record's depth equal to the task's: go to the continuation. Otherwise the task waits
 abbrev pub metBy : Bool → List ℕ → ℕ → Fork → Task → Task
@@ -186,7 +184,7 @@ module _ (cells : List ℕ) (words : List ℤ) (interval : ℕ) where
       asked f (isLabel v && eqb (blockOf cells (labelOf v) .annotation) 2) 35 (one (stored r (Record (labelOf v) (f .task .depth)) f))
   -- 12 fork s, v. A record that fits? (36) A label? (34) Two places to fork? (37)
   carriedOut r s v f fork =
-      asked f (isRecord s && fits (recordOf s) (f .task)) 36
+      asked f (isRecord s && fits (recordOf s) (f .task .depth) (f .task .forks)) 36
       (asked f (isLabel v) 34 (asked f (leb 2 (f .task .places)) 37 (forked cells (recordOf s) (labelOf v) f)))
   -- 13 jump v
   carriedOut r s v f jump = jumpedIf true cells interval v f
@@ -194,7 +192,7 @@ module _ (cells : List ℕ) (words : List ℤ) (interval : ℕ) where
   carriedOut r s v f halt = asked f (eqb (f .task .depth) 0) 38 (one (withTask (ended Halted (f .task)) f))
   -- 15 join v. A record that fits? (36)
   carriedOut r s v f meet =
-      asked f (isRecord v && fits (recordOf v) (f .task)) 36
+      asked f (isRecord v && fits (recordOf v) (f .task .depth) (f .task .forks)) 36
       (one (withTask (metBy (eqb (recordOf v .depth) (f .task .depth)) cells interval (recordOf v) (f .task)) f))
   -- an accepted program has no other opcode (8)
   carriedOut r s v f unknown = one (faulted 8 f)

@@ -1,6 +1,6 @@
 // Opcodes 2 to 9: r := s op v, and r := word v.
+use crate::Active;
 use crate::Executed;
-use crate::Task;
 use crate::Value;
 use crate::results::fault;
 use crate::results::store;
@@ -20,123 +20,123 @@ fn truth_of(holds: bool) -> Value
 }
 
 // Execute alone calls it; the shape test has put pc inside the program.
-pub fn add(s: Value, v: Value, t: Task) -> Executed
+pub fn add(s: Value, v: Value, t: Active) -> Executed
     requires { ⌜ t .pc < 1024 ⌝ }
     ensures { λ r. ⌜ r ≡ computed sum s v t ⌝ }
 {
     let Value::Int(a) = s else {
-        return fault(31, t);
+        return fault(31);
     };
     let Value::Int(b) = v else {
-        return fault(31, t);
+        return fault(31);
     };
     store(Value::Int(int64::wrapping_add(a, b)), t)
 }
 
 // As above.
-pub fn subtract(s: Value, v: Value, t: Task) -> Executed
+pub fn subtract(s: Value, v: Value, t: Active) -> Executed
     requires { ⌜ t .pc < 1024 ⌝ }
     ensures { λ r. ⌜ r ≡ computed difference s v t ⌝ }
 {
     let Value::Int(a) = s else {
-        return fault(31, t);
+        return fault(31);
     };
     let Value::Int(b) = v else {
-        return fault(31, t);
+        return fault(31);
     };
     store(Value::Int(int64::wrapping_sub(a, b)), t)
 }
 
 // As above.
-pub fn multiply(s: Value, v: Value, t: Task) -> Executed
+pub fn multiply(s: Value, v: Value, t: Active) -> Executed
     requires { ⌜ t .pc < 1024 ⌝ }
     ensures { λ r. ⌜ r ≡ computed product s v t ⌝ }
 {
     let Value::Int(a) = s else {
-        return fault(31, t);
+        return fault(31);
     };
     let Value::Int(b) = v else {
-        return fault(31, t);
+        return fault(31);
     };
     store(Value::Int(int64::wrapping_mul(a, b)), t)
 }
 
 // As above.
-pub fn divide(s: Value, v: Value, t: Task) -> Executed
+pub fn divide(s: Value, v: Value, t: Active) -> Executed
     requires { ⌜ t .pc < 1024 ⌝ }
     ensures { λ r. ⌜ r ≡ divided quotient s v t ⌝ }
 {
     let Value::Int(a) = s else {
-        return fault(31, t);
+        return fault(31);
     };
     let Value::Int(b) = v else {
-        return fault(31, t);
+        return fault(31);
     };
     if int64::equal(b, 0) {
-        return fault(32, t);
+        return fault(32);
     }
     store(Value::Int(int64::quotient(a, b)), t)
 }
 
 // As above.
-pub fn modulo(s: Value, v: Value, t: Task) -> Executed
+pub fn modulo(s: Value, v: Value, t: Active) -> Executed
     requires { ⌜ t .pc < 1024 ⌝ }
     ensures { λ r. ⌜ r ≡ divided remainder s v t ⌝ }
 {
     let Value::Int(a) = s else {
-        return fault(31, t);
+        return fault(31);
     };
     let Value::Int(b) = v else {
-        return fault(31, t);
+        return fault(31);
     };
     if int64::equal(b, 0) {
-        return fault(32, t);
+        return fault(32);
     }
     store(Value::Int(int64::remainder(a, b)), t)
 }
 
 // As above.
-pub fn less(s: Value, v: Value, t: Task) -> Executed
+pub fn less(s: Value, v: Value, t: Active) -> Executed
     requires { ⌜ t .pc < 1024 ⌝ }
     ensures { λ r. ⌜ r ≡ computed isLess s v t ⌝ }
 {
     let Value::Int(a) = s else {
-        return fault(31, t);
+        return fault(31);
     };
     let Value::Int(b) = v else {
-        return fault(31, t);
+        return fault(31);
     };
     store(truth_of(int64::less(a, b)), t)
 }
 
 // As above.
-pub fn equal(s: Value, v: Value, t: Task) -> Executed
+pub fn equal(s: Value, v: Value, t: Active) -> Executed
     requires { ⌜ t .pc < 1024 ⌝ }
     ensures { λ r. ⌜ r ≡ computed isEqual s v t ⌝ }
 {
     let Value::Int(a) = s else {
-        return fault(31, t);
+        return fault(31);
     };
     let Value::Int(b) = v else {
-        return fault(31, t);
+        return fault(31);
     };
     store(truth_of(int64::equal(a, b)), t)
 }
 
 // Word v of the call record, counted from 0.
-pub fn fetch(words: &[i64], v: Value, t: Task) -> Executed
+pub fn fetch(words: &[i64], v: Value, t: Active) -> Executed
     requires { ⌜ t .pc < 1024 ⌝ }
     ensures { λ r. ⌜ r ≡ fetched (now (words .entry)) v t ⌝ }
 {
     let Value::Int(index) = v else {
-        return fault(31, t);
+        return fault(31);
     };
     if index < 0 {
-        return fault(33, t);
+        return fault(33);
     }
     let at = index as usize;
     if words.len() <= at {
-        return fault(33, t);
+        return fault(33);
     }
     store(Value::Int(words[at]), t)
 }

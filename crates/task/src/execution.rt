@@ -1,6 +1,7 @@
-// One instruction carried out on small values: the task record, and the values of its operands.
+// One instruction carried out on small values: the numbers of a running task, its open forks, and the values of its operands.
+use crate::Active;
 use crate::Executed;
-use crate::Task;
+use crate::Fork;
 use crate::Value;
 use crate::arithmetic::add;
 use crate::arithmetic::divide;
@@ -46,12 +47,13 @@ pub fn execute(
     x: Instruction,
     s: Value,
     v: Value,
-    task: Task,
+    active: Active,
+    forks: [Fork; 6],
 ) -> Executed
-    requires { ⌜ Ready (now cells) s v task ⌝ }
-    ensures { λ r. ⌜ r ≡ executed (now (cells .entry)) (now (words .entry)) interval x s v task ⌝ }
+    requires { ⌜ Ready (now cells) s v active ⌝ }
+    ensures { λ r. ⌜ r ≡ executed (now (cells .entry)) (now (words .entry)) interval x s v active forks ⌝ }
 {
-    let t = count(task);
+    let t = count(active);
     let opcode = x.opcode;
     match opcode {
         1 => store(v, t),
@@ -65,10 +67,10 @@ pub fn execute(
         9 => fetch(words, v, t),
         10 => branch(cells, interval, s, v, t),
         11 => allocate(cells, v, t),
-        12 => fork(cells, s, v, t),
+        12 => fork(cells, s, v, t, forks),
         13 => jump(cells, interval, v, t),
         14 => halt(t),
-        15 => meet(cells, interval, v, t),
-        _ => fault(8, t),
+        15 => meet(cells, interval, v, t, forks),
+        _ => fault(8),
     }
 }

@@ -1,15 +1,13 @@
 // Opcodes 12 and 15: fork and join, under a record that fits the task. The program has been accepted.
+use crate::Active;
 use crate::Executed;
 use crate::Fork;
-use crate::Status;
-use crate::Task;
+use crate::Kind;
 use crate::Value;
 use crate::control::enter;
 use crate::control::first_of;
 use crate::results::end;
 use crate::results::fault;
-use crate::results::go;
-use crate::results::split;
 ghost use mathlib.Core.Path.{_≡_};
 ghost use mathlib.Core.Bool.{true};
 ghost use Prim.Native.Nat.{_-_, _<_, _≤_};
@@ -38,58 +36,63 @@ fn all_belong(forks: [Fork; 6], under: Fork, depth: u32) -> bool
     true
 }
 
-fn does_fit(under: Fork, t: Task) -> bool
-    requires { ⌜ t .depth ≤ 6 ⌝ }
-    ensures { λ r. ⌜ r ≡ fits under t ⌝ }
+fn does_fit(under: Fork, depth: u32, forks: [Fork; 6]) -> bool
+    requires { ⌜ depth ≤ 6 ⌝ }
+    ensures { λ r. ⌜ r ≡ fits under depth forks ⌝ }
 {
-    if t.depth < under.depth {
+    if depth < under.depth {
         return false;
     }
-    let forks = t.forks;
-    all_belong(forks, under, t.depth)
+    all_belong(forks, under, depth)
 }
 
-// Both sides gain an open fork under s.
-pub fn fork(cells: &[u64], s: Value, v: Value, t: Task) -> Executed
-    requires { ⌜ (programNo (now cells) ≡ 0) × (valueFits (now cells) v ≡ true) × (t .pc < 1024) × (t .depth ≤ 6) × (2 ≤ t .places → t .depth < 6) ⌝ }
-    ensures { λ r. ⌜ r ≡ forked (now (cells .entry)) s v t ⌝ }
+// Both sides gain an open fork under s, which the caller opens.
+pub fn fork(cells: &[u64], s: Value, v: Value, t: Active, forks: [Fork; 6]) -> Executed
+    requires { ⌜ (programNo (now cells) ≡ 0) × (valueFits (now cells) v ≡ true) × (t .pc < 1024) × (t .depth ≤ 6) ⌝ }
+    ensures { λ r. ⌜ r ≡ forked (now (cells .entry)) s v t forks ⌝ }
 {
     let Value::Record(continuation, depth) = s else {
-        return fault(36, t);
+        return fault(36);
     };
     let under = Fork {
         continuation,
         depth,
     };
-    if !does_fit(under, t) {
-        return fault(36, t);
+    if !does_fit(under, t.depth, forks) {
+        return fault(36);
     }
     let Value::Label(b) = v else {
-        return fault(34, t);
+        return fault(34);
     };
     if t.places < 2 {
-        return fault(37, t);
+        return fault(37);
     }
-    split(under, first_of(cells, b as usize), t)
+    let pc = first_of(cells, b as usize);
+    Executed {
+        kind: Kind::Forks(pc),
+        value: s,
+        pc: t.pc + 1,
+        counter: t.counter,
+    }
 }
 
 // The record's depth equal to the task's: to the continuation. Otherwise the task waits.
-pub fn meet(cells: &[u64], interval: u64, v: Value, t: Task) -> Executed
+pub fn meet(cells: &[u64], interval: u64, v: Value, t: Active, forks: [Fork; 6]) -> Executed
     requires { ⌜ (programNo (now cells) ≡ 0) × (valueFits (now cells) v ≡ true) × (t .depth ≤ 6) ⌝ }
-    ensures { λ r. ⌜ r ≡ met (now (cells .entry)) interval v t ⌝ }
+    ensures { λ r. ⌜ r ≡ met (now (cells .entry)) interval v t forks ⌝ }
 {
     let Value::Record(continuation, depth) = v else {
-        return fault(36, t);
+        return fault(36);
     };
     let under = Fork {
         continuation,
         depth,
     };
-    if !does_fit(under, t) {
-        return fault(36, t);
+    if !does_fit(under, t.depth, forks) {
+        return fault(36);
     }
     if depth == t.depth {
-        return go(enter(cells, interval, continuation, t));
+        return enter(cells, interval, continuation, t);
     }
-    end(Status::Waiting, t)
+    end(Kind::Waits)
 }

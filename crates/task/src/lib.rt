@@ -48,19 +48,30 @@ pub struct Frame {
     pub registers: [Register; 16],
 }
 
-// What is left to do with the registers after one instruction, and what becomes of the task. `Forks` holds the child's first instruction:
-// the child's side is otherwise the parent's with counter 0.
+// What an instruction looks at, and changes, of a running task, besides its open forks: a few numbers and no array, so that the loop over the
+// slots keeps them in registers.
+pub struct Active {
+    pub places: u64,
+    pub pc: u16,
+    pub counter: u32,
+    pub depth: u32,
+}
+
+// What becomes of a task that has carried out an instruction. `Faults` holds the fault's number, `Forks` the child's first instruction.
 pub enum Kind {
     Stores,
     Goes,
-    Ends,
-    Faults,
+    Waits,
+    Halts,
+    Faults(u8),
     Forks(u16),
 }
 
-// One instruction carried out: the new task record, and the value for r where it is stored.
+// One instruction carried out: the new pc and counter, 0 where the task does not run on; and the value for r, or the record that a fork is
+// opened under, else the integer 0.
 pub struct Executed {
-    pub task: Task,
-    pub value: Value,
     pub kind: Kind,
+    pub value: Value,
+    pub pc: u16,
+    pub counter: u32,
 }

@@ -1,103 +1,70 @@
-//! The engine's speed beside the model's, on the largest program: 128 blocks, 1,024 instructions.
+//! The engine's speed beside the model's.
 //!
 //! Prints `ratio NAME VALUE`, the model's time divided by the engine's: above 1.0 the engine is
-//! faster. Both run in turns in the same process. The image is the same, and `out` is allocated
-//! once and not cleared between calls. The model's program is made anew in every call, as the
-//! engine's is.
+//! faster. Both get the same bytes and run in turns in the same process, the model built for
+//! release. What the two come to is compared.
 //!
-//! A pick puts all of its questions on both sides, to a program that loops for ever and the longest
-//! call record. The engine picks inside a replay only, so its time is that of a replay less that of
-//! one with an empty order.
+//! A run is timed from the job's bytes to the report. Last comes how the time of a pick inside a run
+//! grows, with the number of picks and with P.
+
+mod jobs;
+mod timing;
 
 use checks::assemble::JobInput;
-use std::time::{Duration, Instant};
-use std::{mem, ptr};
+use checks::{report, state};
+use model::job::Report;
+use timing::{black_box, calls_in_turns, in_turns, print, timed, Times};
 
-/// How often each side is timed, and the calls in one timing.
-const ROUNDS: usize = 401;
-const CALLS: u32 = 40;
-/// The same for picks, which all count as one call.
-const PICK_ROUNDS: usize = 101;
-const PICKS: u32 = 300;
+/// Larger than any run here.
+const BUDGET: u64 = 1_000_000_000;
 
-/// What the compiler can't see through. `std::hint::black_box` needs Rust 1.66.
-fn black_box<T>(value: T) -> T {
-    // SAFETY: the value is read once more and the first one is forgotten, so it moves.
-    unsafe {
-        let moved = ptr::read_volatile(&value);
-        mem::forget(value);
-        moved
-    }
-}
-
-fn timed(call: impl FnOnce()) -> Duration {
-    let start = Instant::now();
-    call();
-    start.elapsed()
-}
-
-/// The time of one of many calls.
-fn time_of(call: &mut impl FnMut()) -> Duration {
-    timed(|| (0..CALLS).for_each(|_| call())) / CALLS
-}
-
-fn median<T: PartialOrd + Copy>(mut values: Vec<T>) -> T {
-    values.sort_by(|a, b| a.partial_cmp(b).expect("times are numbers"));
-    values[values.len() / 2]
-}
-
-fn compare(name: &str, mut peer: impl FnMut(), mut engine: impl FnMut()) {
-    compare_times(name, ROUNDS, || time_of(&mut peer), || time_of(&mut engine));
-}
-
-/// Takes the times of the two in turns, the one and the other first, and prints the medians.
-fn compare_times(
-    name: &str,
-    rounds: usize,
-    mut peer: impl FnMut() -> Duration,
-    mut engine: impl FnMut() -> Duration,
-) {
-    let mut peer_times = Vec::new();
-    let mut engine_times = Vec::new();
-    for round in 0..rounds {
-        if round % 2 == 0 {
-            peer_times.push(peer());
-            engine_times.push(engine());
-        } else {
-            engine_times.push(engine());
-            peer_times.push(peer());
-        }
-    }
-    let ratios = peer_times
-        .iter()
-        .zip(&engine_times)
-        .map(|(peer, engine)| peer.as_secs_f64() / engine.as_secs_f64());
-    let ratio = median(ratios.collect());
-    let micros = |times| median::<Duration>(times).as_secs_f64() * 1e6;
-    println!(
-        "{:8} model {:8.2} µs, engine {:8.2} µs",
-        name,
-        micros(peer_times),
-        micros(engine_times)
+fn compare_images() {
+    const ROUNDS: usize = 401;
+    const CALLS: u32 = 40;
+    let image = checks::generate::valid_image(1, 128, 1024);
+    let check = calls_in_turns(
+        ROUNDS,
+        CALLS,
+        || assert!(black_box(model::read(black_box(&image))).is_ok()),
+        || assert!(black_box(engine::image_check(black_box(&image))).is_ok()),
     );
-    println!("ratio {} {:.2}", name, ratio);
+    print("read", "the image check, largest program", &check);
+
+    // Allocated once, and not cleared between calls.
+    let mut models = vec![0; image.len()];
+    let mut engines = vec![0; image.len()];
+    let rewrite = calls_in_turns(
+        ROUNDS,
+        CALLS,
+        || assert!(model::rewrite(black_box(&image), black_box(&mut models)).is_ok()),
+        || assert!(engine::image_rewrite(black_box(&image), black_box(&mut engines)).is_ok()),
+    );
+    print(
+        "write",
+        "the rewrite, which reads the image first",
+        &rewrite,
+    );
+    assert!(models == image && engines == image);
 }
 
+/// The engine picks inside a replay only, so its time is that of a replay less that of one with an
+/// empty order. The program loops for ever, and the call record is the longest.
 fn compare_picks() {
+    const ROUNDS: usize = 101;
+    const PICKS: u32 = 300;
     let mut input = JobInput::new(checks::layout::even_blocks(128, 1024), 64, 0);
     input.words = vec![1; model::MAX_WORDS];
     let bytes = input.bytes();
     let job = model::Job::parse(&bytes).expect("the job is as laid out");
     let mut machine = job.start().expect("start accepts the job");
     let order = vec![0; PICKS as usize];
-    let mut state = vec![0; engine::STATE_BYTES];
+    let mut engines = vec![0; engine::STATE_BYTES];
     let mut replay = |order: &[u8]| {
-        let answer = engine::replay(black_box(&bytes), black_box(order), black_box(&mut state));
+        let answer = engine::replay(black_box(&bytes), black_box(order), black_box(&mut engines));
         assert_eq!(black_box(answer), 0);
     };
-    compare_times(
-        "pick",
-        PICK_ROUNDS,
+    let times = in_turns(
+        ROUNDS,
         || {
             let pick = |_| {
                 let answer = machine.pick(black_box(&job.program), black_box(&job.words), 0);
@@ -111,43 +78,107 @@ fn compare_picks() {
             with_picks.saturating_sub(start_alone) / PICKS
         },
     );
-    // The first round's order, on both sides.
+    print("pick", "with all its questions, largest program", &times);
+
     let mut beside = job.start().expect("start accepts the job");
     for &slot in &order {
         let answer = beside.pick(&job.program, &job.words, slot.into());
         assert!(answer.is_ok() && beside.end().is_none());
     }
-    assert!(state == checks::state::bytes(&beside));
+    assert!(engines == state::bytes(&beside));
+}
+
+/// Times whole runs of a job that ends, from its bytes to its report.
+fn time_runs(rounds: usize, job: &[u8]) -> (Times, Report) {
+    let expected = model::job::run(job, BUDGET).expect("the job is accepted");
+    assert!(expected.end.is_some(), "the job ends");
+    let mut engines = [0; engine::REPORT_BYTES];
+    let times = in_turns(
+        rounds,
+        || timed(|| assert!(black_box(model::job::run(black_box(job), BUDGET)).is_ok())),
+        || {
+            timed(|| {
+                assert!(engine::job_run(black_box(job), BUDGET, black_box(&mut engines)).is_ok())
+            })
+        },
+    );
+    assert!(engines[..] == report::bytes(&expected)[..]);
+    (times, expected)
+}
+
+fn compare_runs(name: &str, what: &str, job: &[u8]) {
+    const ROUNDS: usize = 21;
+    let (times, report) = time_runs(ROUNDS, job);
+    let picks = report.picks as f64;
+    print(name, what, &times);
+    println!(
+        "{:12} {} instructions: model {:.1}, engine {:.1} million a second",
+        name,
+        report.picks,
+        picks / times.model / 1e6,
+        picks / times.engine / 1e6
+    );
+}
+
+fn compare_jobs() {
+    const ROUNDS: usize = 201;
+    const CALLS: u32 = 20;
+    let job = jobs::middling();
+    let mut text = [0; engine::TEXT_BYTES];
+    let mut length = 0;
+    let times = calls_in_turns(
+        ROUNDS,
+        CALLS,
+        || assert!(black_box(model::job::text(black_box(&job), BUDGET)).starts_with("end halt")),
+        || length = engine::job_text(black_box(&job), BUDGET, black_box(&mut text)),
+    );
+    let what = format!("a job of {} bytes to its text, 256 picks", job.len());
+    print("job", &what, &times);
+    assert!(text[..length as usize] == *model::job::text(&job, BUDGET).as_bytes());
+}
+
+/// A line of nanoseconds for each pick.
+fn print_growth(what: &str, rounds: usize, job: &[u8]) {
+    let (times, report) = time_runs(rounds, job);
+    let nanoseconds = |time: f64| time / report.picks as f64 * 1e9;
+    println!(
+        "{:22} {:>9} picks: model {:6.2} ns, engine {:6.2} ns a pick",
+        what,
+        report.picks,
+        nanoseconds(times.model),
+        nanoseconds(times.engine)
+    );
+}
+
+fn print_growths() {
+    const ROUNDS: usize = 7;
+    for picks in [100_000, 1_000_000, 10_000_000] {
+        print_growth("serial, P 1", ROUNDS, &jobs::serial(picks));
+    }
+    for picks in [100_000, 1_000_000, 10_000_000] {
+        print_growth("forks, P 64", ROUNDS, &jobs::forks(picks));
+    }
+    for places in [1, 2, 4, 8, 16, 32, 64] {
+        let what = format!("figure 2, P {}", places);
+        print_growth(&what, ROUNDS, &jobs::figure2(1_000_000, places));
+    }
 }
 
 fn main() {
-    let image = checks::generate::valid_image(1, 128, 1024);
-    let mut peer_out = vec![0; image.len()];
-    let mut engine_out = vec![0; image.len()];
-    println!("image of {} bytes", image.len());
-
-    compare(
-        "check",
-        || {
-            let program = model::read(black_box(&image));
-            assert!(black_box(program).is_ok());
-        },
-        || {
-            let answer = engine::image_check(black_box(&image));
-            assert!(black_box(answer).is_ok());
-        },
-    );
-    compare(
-        "rewrite",
-        || {
-            let answer = model::rewrite(black_box(&image), black_box(&mut peer_out));
-            assert!(black_box(answer).is_ok());
-        },
-        || {
-            let answer = engine::image_rewrite(black_box(&image), black_box(&mut engine_out));
-            assert!(black_box(answer).is_ok());
-        },
-    );
-    assert!(peer_out == image && engine_out == image);
+    compare_images();
     compare_picks();
+    let picks = 1_000_000;
+    compare_runs("run-serial", "one task's loop, P 1", &jobs::serial(picks));
+    compare_runs(
+        "run-figure2",
+        "002's Figure 2, P 64, interval 64",
+        &jobs::figure2(picks, 64),
+    );
+    compare_runs(
+        "run-forks",
+        "forks at every chance, P 64",
+        &jobs::forks(picks),
+    );
+    compare_jobs();
+    print_growths();
 }

@@ -1,16 +1,15 @@
 //! What a run of cases has covered, and what it ought to.
 
 use crate::compare::Answers;
+use crate::counts::Counts;
 use crate::damage::{Field, BLOCK_FIELDS, HEADER_FIELDS, INSTRUCTION_FIELDS};
 use crate::generate::{Case, Shape, SHAPES};
-use crate::shares::{unmet, Tally};
-use std::collections::BTreeMap;
+use crate::shares::Tally;
 use std::fmt;
 
-/// How often each thing was met, by its name; every thing that ought to be met has an entry.
 pub struct Coverage {
     cases: u64,
-    met: BTreeMap<String, u64>,
+    met: Counts,
     /// Counted apart, because every instruction of every accepted image is.
     operands: [[u64; 4]; 16],
     annotations: [[u64; 5]; 4],
@@ -59,7 +58,7 @@ impl Default for Coverage {
         }
         Coverage {
             cases: 0,
-            met: names.into_iter().map(|name| (name, 0)).collect(),
+            met: Counts::of(names),
             operands: [[0; 4]; 16],
             annotations: [[0; 5]; 4],
         }
@@ -67,42 +66,29 @@ impl Default for Coverage {
 }
 
 impl Coverage {
-    pub fn cases(&self) -> u64 {
-        self.cases
-    }
-
-    fn meet(&mut self, name: &str) {
-        match self.met.get_mut(name) {
-            Some(count) => *count += 1,
-            None => {
-                self.met.insert(name.to_string(), 1);
-            }
-        }
-    }
-
     pub fn count(&mut self, case: &Case, answers: &Answers) {
         self.cases += 1;
-        self.meet(&shape_name(case.shape));
+        self.met.meet(&shape_name(case.shape));
         if let Some(field) = case.damaged {
-            self.meet(&damaged_name(field));
+            self.met.meet(&damaged_name(field));
         }
         let check = answers.read.as_ref().err().copied().unwrap_or(0);
         let rewrite = answers.rewrite.err().unwrap_or(0);
-        self.meet(&format!("check answers {:2}", check));
-        self.meet(&format!("rewrite answers {:2}", rewrite));
+        self.met.meet(&format!("check answers {:2}", check));
+        self.met.meet(&format!("rewrite answers {:2}", rewrite));
         if case.image.is_empty() {
-            self.meet("image empty");
+            self.met.meet("image empty");
         }
         if case.out_len == 0 {
-            self.meet("out empty");
+            self.met.meet("out empty");
         } else if case.out_len < case.image.len() {
-            self.meet("out shorter");
+            self.met.meet("out shorter");
         } else if case.out_len > case.image.len() {
-            self.meet("out longer");
+            self.met.meet("out longer");
         }
         if let Ok(program) = &answers.read {
             if case.damaged.is_some() {
-                self.meet("accepted after damage");
+                self.met.meet("accepted after damage");
             }
             self.count_program(program);
         }
@@ -111,13 +97,13 @@ impl Coverage {
     fn count_program(&mut self, program: &model::Program) {
         let counts = (program.blocks.len(), program.instructions.len());
         if counts.0 == 1 || counts.0 == 128 {
-            self.meet(&format!("accepted B = {}", counts.0));
+            self.met.meet(&format!("accepted B = {}", counts.0));
         }
         if counts.1 == 1 || counts.1 == 1024 {
-            self.meet(&format!("accepted I = {}", counts.1));
+            self.met.meet(&format!("accepted I = {}", counts.1));
         }
         if counts == (128, 1024) {
-            self.meet("accepted B = 128, I = 1024");
+            self.met.meet("accepted B = 128, I = 1024");
         }
         for instruction in &program.instructions {
             self.operands[usize::from(instruction.opcode)][usize::from(instruction.kind)] += 1;
@@ -131,10 +117,26 @@ impl Coverage {
             self.annotations[row][usize::from(block.pair_count)] += 1;
         }
     }
+}
 
-    /// Every count with its name, what was not met included.
+impl Tally for Coverage {
+    fn add(&mut self, other: &Coverage) {
+        self.cases += other.cases;
+        self.met.add(&other.met);
+        for (mine, theirs) in self.operands.iter_mut().zip(&other.operands) {
+            mine.iter_mut().zip(theirs).for_each(|(m, t)| *m += t);
+        }
+        for (mine, theirs) in self.annotations.iter_mut().zip(&other.annotations) {
+            mine.iter_mut().zip(theirs).for_each(|(m, t)| *m += t);
+        }
+    }
+
+    fn cases(&self) -> u64 {
+        self.cases
+    }
+
     fn lines(&self) -> Vec<(String, u64)> {
-        let mut lines: Vec<_> = self.met.clone().into_iter().collect();
+        let mut lines = self.met.lines();
         for opcode in 1..=15 {
             let kinds = if opcode == 14 { 0..=0 } else { 1..=3 };
             lines.extend(kinds.map(|kind: usize| {
@@ -154,33 +156,11 @@ impl Coverage {
         }
         lines
     }
-
-    /// What ought to be met and was not.
-    pub fn missing(&self) -> Vec<String> {
-        unmet(self.lines())
-    }
-}
-
-impl Tally for Coverage {
-    fn add(&mut self, other: &Coverage) {
-        self.cases += other.cases;
-        for (name, count) in &other.met {
-            *self.met.entry(name.clone()).or_insert(0) += count;
-        }
-        for (mine, theirs) in self.operands.iter_mut().zip(&other.operands) {
-            mine.iter_mut().zip(theirs).for_each(|(m, t)| *m += t);
-        }
-        for (mine, theirs) in self.annotations.iter_mut().zip(&other.annotations) {
-            mine.iter_mut().zip(theirs).for_each(|(m, t)| *m += t);
-        }
-    }
 }
 
 impl fmt::Display for Coverage {
     fn fmt(&self, f: &mut fmt::Formatter) -> fmt::Result {
-        for (name, count) in self.lines() {
-            writeln!(f, "{:>12}  {}", count, name)?;
-        }
+        self.write_lines(f)?;
         write!(f, "{:>12}  images", self.cases)
     }
 }

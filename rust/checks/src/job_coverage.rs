@@ -1,7 +1,7 @@
 //! What a run of jobs has covered, and what it ought to.
 
 use crate::jobs::{JobCase, INTERVALS, MAKES};
-use crate::shares::{add_all, unmet, Tally};
+use crate::shares::{add_all, Tally};
 use model::plain::Evaluation;
 use model::task::{Step, Surroundings, MAX_DEPTH};
 use model::{fault, question, End, Job, Machine, Status};
@@ -46,10 +46,6 @@ fn fault_index(number: u8) -> usize {
 }
 
 impl JobCoverage {
-    pub fn jobs(&self) -> u64 {
-        self.jobs
-    }
-
     pub fn picks(&self) -> u64 {
         self.picks
     }
@@ -131,8 +127,37 @@ impl JobCoverage {
     pub fn count_settled(&mut self, forks: usize) {
         self.settled[forks] += 1;
     }
+}
 
-    /// Every count with its name, what was not met included.
+impl Tally for JobCoverage {
+    fn add(&mut self, other: &JobCoverage) {
+        self.jobs += other.jobs;
+        self.picks += other.picks;
+        add_all(&mut self.makes, &other.makes);
+        add_all(&mut self.places, &other.places);
+        add_all(&mut self.intervals, &other.intervals);
+        self.halted += other.halted;
+        add_all(&mut self.ended_with_fault, &other.ended_with_fault);
+        self.not_ended += other.not_ended;
+        add_all(&mut self.deepest, &other.deepest);
+        for (mine, theirs) in self.faults.iter_mut().zip(&other.faults) {
+            add_all(mine, theirs);
+        }
+        add_all(&mut self.promotions, &other.promotions);
+        add_all(&mut self.forks, &other.forks);
+        add_all(&mut self.joins_through, &other.joins_through);
+        for (mine, theirs) in self.joined.iter_mut().zip(&other.joined) {
+            add_all(mine, theirs);
+        }
+        self.joined_with_other_fault += other.joined_with_other_fault;
+        add_all(&mut self.settled, &other.settled);
+        add_all(&mut self.refused, &other.refused);
+    }
+
+    fn cases(&self) -> u64 {
+        self.jobs
+    }
+
     fn lines(&self) -> Vec<(String, u64)> {
         let mut lines = Vec::new();
         let mut line = |name: String, count: u64| lines.push((name, count));
@@ -193,44 +218,11 @@ impl JobCoverage {
         }
         lines
     }
-
-    /// What ought to be met and was not.
-    pub fn missing(&self) -> Vec<String> {
-        unmet(self.lines())
-    }
-}
-
-impl Tally for JobCoverage {
-    fn add(&mut self, other: &JobCoverage) {
-        self.jobs += other.jobs;
-        self.picks += other.picks;
-        add_all(&mut self.makes, &other.makes);
-        add_all(&mut self.places, &other.places);
-        add_all(&mut self.intervals, &other.intervals);
-        self.halted += other.halted;
-        add_all(&mut self.ended_with_fault, &other.ended_with_fault);
-        self.not_ended += other.not_ended;
-        add_all(&mut self.deepest, &other.deepest);
-        for (mine, theirs) in self.faults.iter_mut().zip(&other.faults) {
-            add_all(mine, theirs);
-        }
-        add_all(&mut self.promotions, &other.promotions);
-        add_all(&mut self.forks, &other.forks);
-        add_all(&mut self.joins_through, &other.joins_through);
-        for (mine, theirs) in self.joined.iter_mut().zip(&other.joined) {
-            add_all(mine, theirs);
-        }
-        self.joined_with_other_fault += other.joined_with_other_fault;
-        add_all(&mut self.settled, &other.settled);
-        add_all(&mut self.refused, &other.refused);
-    }
 }
 
 impl fmt::Display for JobCoverage {
     fn fmt(&self, f: &mut fmt::Formatter) -> fmt::Result {
-        for (name, count) in self.lines() {
-            writeln!(f, "{:>12}  {}", count, name)?;
-        }
+        self.write_lines(f)?;
         writeln!(f, "{:>12}  picks", self.picks)?;
         write!(f, "{:>12}  jobs", self.jobs)
     }

@@ -33,7 +33,12 @@ impl Lent {
     }
 
     pub(crate) fn is_untouched(&self) -> bool {
-        self.holds_pattern(self.start, self.end)
+        self.is_untouched_from(0)
+    }
+
+    /// Whether the bytes from this one on are as they were.
+    pub(crate) fn is_untouched_from(&self, offset: usize) -> bool {
+        self.holds_pattern(self.start + offset, self.end)
     }
 
     pub(crate) fn margins_are_untouched(&self) -> bool {

@@ -91,6 +91,12 @@ pub fn check(
         .map_err(|what| format!("{:?}: {}", MANNERS[second], what))?;
     if expected.is_some() {
         ensure!(
+            one.machine == other.machine,
+            "{:?} and {:?} leave different states",
+            MANNERS[first],
+            MANNERS[second]
+        );
+        ensure!(
             one.picks == other.picks,
             "{:?} and {:?} pick slots {:?} and {:?} times",
             MANNERS[first],

@@ -5,7 +5,7 @@ use crate::lent::Lent;
 use crate::orders::{any_number, MANNERS};
 use crate::random::Random;
 use crate::replay_coverage::ReplayCoverage;
-use crate::{shares, state};
+use crate::{numbers, shares, state};
 use engine::STATE_BYTES;
 use model::{question, Call, Job, Machine, Status};
 use std::ops::Range;
@@ -135,7 +135,8 @@ pub fn compare(case: &ReplayCase, salt: u64) -> Result<Result<Replayed, u8>, Str
     match &expected {
         Ok(replayed) => {
             let expected = state::bytes(&replayed.machine);
-            if let Some(what) = state::first_difference(&expected, lent_state.slice()) {
+            let found = lent_state.slice();
+            if let Some(what) = numbers::first_difference(&expected, found, state::meaning) {
                 return Err(what);
             }
         }

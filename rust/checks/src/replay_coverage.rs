@@ -1,7 +1,7 @@
 //! What a run of replays has covered, and what it ought to.
 
 use crate::replay::{ReplayCase, Replayed};
-use crate::shares::{add_all, unmet, Tally};
+use crate::shares::{add_all, Tally};
 use model::task::MAX_DEPTH;
 use model::{fault, question, End, Status, Value};
 use std::fmt;
@@ -29,10 +29,6 @@ pub struct ReplayCoverage {
 }
 
 impl ReplayCoverage {
-    pub fn jobs(&self) -> u64 {
-        self.jobs
-    }
-
     pub fn count(&mut self, case: &ReplayCase, answer: &Result<Replayed, u8>) {
         self.jobs += 1;
         match answer {
@@ -81,8 +77,29 @@ impl ReplayCoverage {
             }
         }
     }
+}
 
-    /// Every count with its name, what was not met included.
+impl Tally for ReplayCoverage {
+    fn add(&mut self, other: &ReplayCoverage) {
+        self.jobs += other.jobs;
+        self.carried_out += other.carried_out;
+        self.longest = self.longest.max(other.longest);
+        add_all(&mut self.answers, &other.answers);
+        self.halted += other.halted;
+        add_all(&mut self.ended_with_fault, &other.ended_with_fault);
+        self.not_ended += other.not_ended;
+        add_all(&mut self.refused_picks, &other.refused_picks);
+        add_all(&mut self.running, &other.running);
+        add_all(&mut self.waiting, &other.waiting);
+        add_all(&mut self.faulted, &other.faulted);
+        add_all(&mut self.kinds, &other.kinds);
+        self.refused_before_15 += other.refused_before_15;
+    }
+
+    fn cases(&self) -> u64 {
+        self.jobs
+    }
+
     fn lines(&self) -> Vec<(String, u64)> {
         let mut lines = Vec::new();
         let mut line = |name: String, count: u64| lines.push((name, count));
@@ -114,36 +131,11 @@ impl ReplayCoverage {
         }
         lines
     }
-
-    /// What ought to be met and was not.
-    pub fn missing(&self) -> Vec<String> {
-        unmet(self.lines())
-    }
-}
-
-impl Tally for ReplayCoverage {
-    fn add(&mut self, other: &ReplayCoverage) {
-        self.jobs += other.jobs;
-        self.carried_out += other.carried_out;
-        self.longest = self.longest.max(other.longest);
-        add_all(&mut self.answers, &other.answers);
-        self.halted += other.halted;
-        add_all(&mut self.ended_with_fault, &other.ended_with_fault);
-        self.not_ended += other.not_ended;
-        add_all(&mut self.refused_picks, &other.refused_picks);
-        add_all(&mut self.running, &other.running);
-        add_all(&mut self.waiting, &other.waiting);
-        add_all(&mut self.faulted, &other.faulted);
-        add_all(&mut self.kinds, &other.kinds);
-        self.refused_before_15 += other.refused_before_15;
-    }
 }
 
 impl fmt::Display for ReplayCoverage {
     fn fmt(&self, f: &mut fmt::Formatter) -> fmt::Result {
-        for (name, count) in self.lines() {
-            writeln!(f, "{:>12}  {}", count, name)?;
-        }
+        self.write_lines(f)?;
         writeln!(f, "{:>12}  picks carried out", self.carried_out)?;
         writeln!(f, "{:>12}  picks in the longest order", self.longest)?;
         write!(f, "{:>12}  jobs", self.jobs)

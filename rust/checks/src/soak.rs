@@ -1,5 +1,6 @@
 //! The command line of the long runs: `NAME [COUNT [SEED [FIRST]]]`.
 
+use crate::shares::Tally;
 use std::env;
 use std::fmt::Display;
 use std::ops::Range;
@@ -26,12 +27,7 @@ impl Soak {
     }
 
     /// Runs the cases and prints what they covered; status 1 for a difference or a gap.
-    pub fn run<C: Display, E: Display>(
-        &self,
-        run: impl FnOnce(u64, Range<u64>) -> Result<C, E>,
-        counted: impl FnOnce(&C) -> u64,
-        missing: impl FnOnce(&C) -> Vec<String>,
-    ) {
+    pub fn run<T: Tally, E: Display>(&self, run: impl FnOnce(u64, Range<u64>) -> Result<T, E>) {
         let count = self.argument(1, self.count);
         let seed = self.argument(2, 1);
         let first = self.argument(3, 0);
@@ -41,12 +37,16 @@ impl Soak {
             exit(1)
         });
         println!("{}", coverage);
-        let missing = missing(&coverage);
+        let missing = coverage.missing();
         if count >= self.enough && !missing.is_empty() {
             println!("not covered: {}", missing.join("; "));
             exit(1);
         }
-        let counted = counted(&coverage);
-        println!("seed {}: {} {}, no difference", seed, counted, self.cases);
+        println!(
+            "seed {}: {} {}, no difference",
+            seed,
+            coverage.cases(),
+            self.cases
+        );
     }
 }

@@ -1,7 +1,8 @@
-//! A state's bytes as the engine's replay writes them: 64-bit numbers, little-endian.
+//! A state's bytes as the engine's replay writes them.
 
+use crate::numbers::{self, REGISTER_NUMBERS};
 use model::task::MAX_DEPTH;
-use model::{Machine, Slot, Status, Value, MAX_PLACES, REGISTERS};
+use model::{Machine, Slot, Status, MAX_PLACES};
 
 const JOB_FIELDS: [&str; 3] = ["P", "interval", "work"];
 const TASK_FIELDS: [&str; 7] = [
@@ -14,11 +15,10 @@ const TASK_FIELDS: [&str; 7] = [
     "depth",
 ];
 const FORK_FIELDS: [&str; 2] = ["continuation", "depth"];
-const REGISTER_FIELDS: [&str; 3] = ["kind", "first number", "second number"];
 
 const FORKS_AT: usize = TASK_FIELDS.len();
 const REGISTERS_AT: usize = FORKS_AT + MAX_DEPTH * FORK_FIELDS.len();
-const SLOT_NUMBERS: usize = REGISTERS_AT + REGISTERS * REGISTER_FIELDS.len();
+const SLOT_NUMBERS: usize = REGISTERS_AT + REGISTER_NUMBERS;
 
 pub const NUMBERS: usize = JOB_FIELDS.len() + MAX_PLACES as usize * SLOT_NUMBERS;
 
@@ -39,25 +39,19 @@ fn numbers(machine: &Machine) -> Vec<u64> {
 fn slot_numbers(slot: &Slot) -> [u64; SLOT_NUMBERS] {
     let mut numbers = [0; SLOT_NUMBERS];
     let (status, fault) = match slot.status {
-        // What the model's vacant slot holds means nothing.
-        Status::Vacant => return numbers,
+        Status::Vacant => (0, 0),
         Status::Running => (1, 0),
         Status::Waiting => (2, 0),
         Status::Halted => (3, 0),
         Status::Faulted(number) => (4, number.into()),
     };
     let task = &slot.task;
-    // A task that issues no more instructions has neither of these two.
-    let (pc, counter) = match slot.status {
-        Status::Running => (task.pc.into(), task.counter.into()),
-        _ => (0, 0),
-    };
     numbers[..FORKS_AT].copy_from_slice(&[
         status,
         fault,
         task.places.into(),
-        pc,
-        counter,
+        task.pc.into(),
+        task.counter.into(),
         task.span.into(),
         task.depth() as u64,
     ]);
@@ -65,28 +59,15 @@ fn slot_numbers(slot: &Slot) -> [u64; SLOT_NUMBERS] {
     for (numbers, fork) in forks.zip(task.forks()) {
         numbers.copy_from_slice(&[fork.continuation.into(), fork.depth.into()]);
     }
-    let registers = numbers[REGISTERS_AT..].chunks_exact_mut(REGISTER_FIELDS.len());
-    for (numbers, value) in registers.zip(task.registers) {
-        numbers.copy_from_slice(&match value {
-            Value::Int(integer) => [0, integer as u64, 0],
-            Value::Label(label) => [1, label.into(), 0],
-            Value::Record(record) => [2, record.continuation.into(), record.depth.into()],
-        });
+    let registers = numbers[REGISTERS_AT..].iter_mut();
+    for (number, value) in registers.zip(numbers::of_registers(&task.registers)) {
+        *number = value;
     }
     numbers
 }
 
 pub fn bytes(machine: &Machine) -> Vec<u8> {
-    numbers(machine)
-        .into_iter()
-        .flat_map(u64::to_le_bytes)
-        .collect()
-}
-
-/// The number at this place in a state's bytes.
-pub fn number_at(state: &[u8], index: usize) -> u64 {
-    let bytes = &state[8 * index..8 * index + 8];
-    u64::from_le_bytes(bytes.try_into().expect("eight bytes"))
+    numbers::bytes(numbers(machine))
 }
 
 /// What the number at this place says.
@@ -103,26 +84,9 @@ pub fn meaning(index: usize) -> String {
         let (fork, field) = (at / FORK_FIELDS.len(), at % FORK_FIELDS.len());
         format!("open fork {}, {}", fork, FORK_FIELDS[field])
     } else {
-        let at = at - REGISTERS_AT;
-        let (register, field) = (at / REGISTER_FIELDS.len(), at % REGISTER_FIELDS.len());
-        format!("r{}, {}", register, REGISTER_FIELDS[field])
+        numbers::register_meaning(at - REGISTERS_AT)
     };
     format!("slot {}: {}", slot, within)
-}
-
-/// The first number in which two states differ, in words.
-pub fn first_difference(model: &[u8], engine: &[u8]) -> Option<String> {
-    (0..NUMBERS)
-        .find(|&index| number_at(model, index) != number_at(engine, index))
-        .map(|index| {
-            format!(
-                "number {} ({}): the model has {}, the engine {}",
-                index,
-                meaning(index),
-                number_at(model, index),
-                number_at(engine, index)
-            )
-        })
 }
 
 #[cfg(test)]

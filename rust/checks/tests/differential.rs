@@ -3,21 +3,14 @@
 use checks::compare::compare;
 use checks::layout::{even_blocks, every_form, program_f};
 use checks::run::run;
+use checks::shares::expect_all_met;
 
 const SEED: u64 = 0x7470_616c;
 const CASES: u64 = 300_000;
 
 #[test]
 fn seeded_images() {
-    match run(SEED, 0..CASES) {
-        Err(difference) => panic!("{}", difference),
-        Ok(coverage) => {
-            println!("{}", coverage);
-            assert_eq!(coverage.cases(), CASES);
-            let missing = coverage.missing();
-            assert!(missing.is_empty(), "not covered: {}", missing.join("; "));
-        }
-    }
+    expect_all_met(run(SEED, 0..CASES), CASES);
 }
 
 fn every_byte_changed_to_every_other(image: &[u8]) {

@@ -3,6 +3,7 @@
 
 use checks::jobs::refused;
 use checks::orders::run;
+use checks::shares::expect_all_met;
 
 const SEED: u64 = 0x6f72_6465_7273;
 const JOBS: u64 = 40_000;
@@ -10,15 +11,7 @@ const REFUSED_JOBS: u64 = 20_000;
 
 #[test]
 fn seeded_jobs() {
-    match run(SEED, 0..JOBS) {
-        Err(what) => panic!("{}", what),
-        Ok(coverage) => {
-            println!("{}", coverage);
-            assert_eq!(coverage.jobs(), JOBS);
-            let missing = coverage.missing();
-            assert!(missing.is_empty(), "not covered: {}", missing.join("; "));
-        }
-    }
+    expect_all_met(run(SEED, 0..JOBS), JOBS);
 }
 
 #[test]

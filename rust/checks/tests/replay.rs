@@ -1,26 +1,18 @@
 //! Engine and model on seeded jobs with orders of picks, and program F's orders.
 
-use checks::assemble::{op, word, JobInput, Operand};
-use checks::layout::{program_f, INSTRUCTION};
+use checks::assemble::JobInput;
+use checks::hand::{by_zero, f, f_with, outside};
+use checks::numbers::number_at;
 use checks::replay::{compare, run, ReplayCase};
-use checks::state::number_at;
+use checks::shares::expect_all_met;
 use engine::STATE_BYTES;
-use model::opcode::DIVIDE;
 
 const SEED: u64 = 0x7265_706c_6179;
 const JOBS: u64 = 24_000;
 
 #[test]
 fn seeded_jobs() {
-    match run(SEED, 0..JOBS) {
-        Err(what) => panic!("{}", what),
-        Ok(coverage) => {
-            println!("{}", coverage);
-            assert_eq!(coverage.jobs(), JOBS);
-            let missing = coverage.missing();
-            assert!(missing.is_empty(), "not covered: {}", missing.join("; "));
-        }
-    }
+    expect_all_met(run(SEED, 0..JOBS), JOBS);
 }
 
 const HALTED: u64 = 3;
@@ -32,10 +24,6 @@ const STATUS: usize = 3;
 const FAULT: usize = 4;
 const SPAN: usize = 8;
 const R0: usize = 22;
-
-fn f(places: u8) -> JobInput {
-    JobInput::new(program_f(), places, 0).with_register(0, 4)
-}
 
 /// The engine's state, after it was compared with the model's.
 fn state(input: &JobInput, order: &[u8]) -> Vec<u8> {
@@ -85,15 +73,7 @@ fn f_with_one_place_faults() {
 
 #[test]
 fn f_with_two_faults_keeps_the_parents_in_either_order() {
-    let mut input = f(2);
-    let instructions = input.image.len() - 9 * INSTRUCTION;
-    let mut replace = |number: usize, record: [u8; INSTRUCTION]| {
-        let at = instructions + number * INSTRUCTION;
-        input.image[at..at + INSTRUCTION].copy_from_slice(&record);
-    };
-    replace(2, word(0, Operand::Int(0)));
-    replace(4, op(DIVIDE, 0, 0, Operand::Int(0)));
-
+    let input = f_with(outside(), by_zero());
     let parent_first = state(&input, &[0, 0, 0, 1]);
     let child_first = state(&input, &[0, 0, 1, 0]);
     assert_eq!(outcome(&parent_first), [FAULTED, 33, 4, 3]);

@@ -1,15 +1,14 @@
 //! Document 01's 'Tried by hand', for machine, plain evaluation and run program.
 
-use checks::assemble::{
-    fork, halt, join, jralloc, mov, op, word, Annotation, Assembly, JobInput, Operand,
-};
-use checks::layout::{even_blocks, pair, program_f};
-use checks::product::{product, A, B, C};
+use checks::assemble::{halt, mov, op, Annotation, Assembly, JobInput, Operand};
+use checks::hand::{by_zero, f, f_with, figure_2, outside};
+use checks::layout::even_blocks;
+use checks::product::C;
 use model::job::report;
 use model::opcode::{ADD, DIVIDE, LESS, REMAINDER};
 use model::plain::{evaluate, Evaluation};
 use model::{Answer, End, Job, Value};
-use Operand::{Int, Lab, Reg};
+use Operand::{Int, Reg};
 
 /// What the plain evaluation says, after the run and picks of the lowest and of the highest slot
 /// have come to the same.
@@ -46,10 +45,6 @@ fn left_by(machine: &model::Machine) -> Evaluation {
         span: machine.last_task().span,
         work: machine.work(),
     }
-}
-
-fn f(places: u8) -> JobInput {
-    JobInput::new(program_f(), places, 0).with_register(0, 4)
 }
 
 #[test]
@@ -95,29 +90,9 @@ fn f_with_one_place_faults() {
     assert_eq!(report(&f(1).bytes()), fault_report(37, 2, 2));
 }
 
-/// F with other instructions for the parent's sum and the child's move.
-fn f_with(parent: [u8; 12], child: [u8; 12]) -> JobInput {
-    let target = Annotation::JoinTarget {
-        policy: 0,
-        combining: 3,
-        pairs: vec![pair(0, 2)],
-    };
-    let mut f = Assembly::default();
-    f.block(
-        Annotation::None,
-        &[jralloc(1, Lab(2)), fork(1, Lab(1)), parent, join(Reg(1))],
-    );
-    f.block(Annotation::None, &[child, join(Reg(1))]);
-    f.block(target, &[halt()]);
-    f.block(Annotation::None, &[op(ADD, 0, 0, Reg(2)), join(Reg(1))]);
-    JobInput::new(f.image(), 2, 0).with_register(0, 4)
-}
-
 #[test]
 fn f_with_two_faults_keeps_the_parents_in_either_order() {
-    let outside = word(0, Int(0));
-    let by_zero = op(DIVIDE, 0, 0, Int(0));
-    let input = f_with(outside, by_zero);
+    let input = f_with(outside(), by_zero());
     let job = Job::parse(&input.bytes()).unwrap();
     for order in [[0, 0, 0, 1], [0, 0, 1, 0]] {
         let mut machine = job.start().unwrap();
@@ -132,7 +107,7 @@ fn f_with_two_faults_keeps_the_parents_in_either_order() {
     assert_eq!(outcome(&input).end, End::Fault(33));
     assert_eq!(report(&input.bytes()), fault_report(33, 4, 3));
 
-    let swapped = f_with(by_zero, outside);
+    let swapped = f_with(by_zero(), outside());
     assert_eq!(report(&swapped.bytes()), fault_report(32, 4, 3));
     let same_as_f = f_with(op(ADD, 0, 0, Int(1)), mov(0, Int(7)));
     assert_eq!(same_as_f, f(2));
@@ -140,19 +115,15 @@ fn f_with_two_faults_keeps_the_parents_in_either_order() {
 
 #[test]
 fn f_with_a_fault_in_one_side() {
-    let by_zero = op(DIVIDE, 0, 0, Int(0));
-    let childs = f_with(op(ADD, 0, 0, Int(1)), by_zero);
+    let childs = f_with(op(ADD, 0, 0, Int(1)), by_zero());
     assert_eq!(report(&childs.bytes()), fault_report(32, 5, 4));
-    let parents = f_with(by_zero, mov(0, Int(7)));
+    let parents = f_with(by_zero(), mov(0, Int(7)));
     assert_eq!(report(&parents.bytes()), fault_report(32, 5, 4));
 }
 
 /// End, c, work and span of the product loop with b 5.
 fn product_of(a: i64, places: u8, interval: u16) -> (End, Value, u32, u32) {
-    let input = JobInput::new(product(), places, interval)
-        .with_register(A.into(), a)
-        .with_register(B.into(), 5);
-    let outcome = outcome(&input);
+    let outcome = outcome(&figure_2(a, places, interval));
     let c = outcome.registers[usize::from(C)];
     (outcome.end, c, outcome.work, outcome.span)
 }

@@ -1,9 +1,9 @@
-//! The run program: a job's bytes, and the text that it prints.
+//! The run program: a job's bytes, what a run of it comes to, and the text that it prints.
 
 use crate::machine::{Answer, End, Machine};
-use crate::task::{Record, Value, REGISTERS};
+use crate::task::{Record, Registers, Value, REGISTERS, ZEROS};
 use crate::{image, question, Program};
-use std::fmt::{self, Write};
+use std::fmt;
 
 /// The run program's budget.
 pub const BUDGET: u64 = 1_000_000;
@@ -106,44 +106,71 @@ impl Job {
     }
 }
 
-/// What the run program prints for this input.
-pub fn report(input: &[u8]) -> String {
-    match run(input) {
-        Err(refusal) => format!("refused {}\n", refusal),
-        Ok(machine) => state_report(&machine),
-    }
+/// What a budgeted run of a job comes to.
+#[derive(Clone, Debug, PartialEq, Eq)]
+pub struct Report {
+    /// None: the budget is spent, or the work stands at its limit. Then the span is 0, and the
+    /// registers are integers 0.
+    pub end: Option<End>,
+    pub picks: u64,
+    pub work: u32,
+    pub span: u32,
+    pub registers: Registers,
 }
 
-/// The state after the run program's budget.
-fn run(input: &[u8]) -> Result<Machine, u8> {
+/// Runs a job from a fresh start. The numbers of the questions put to it: 10; the reader's; start's.
+pub fn run(input: &[u8], budget: u64) -> Result<Report, u8> {
     let job = Job::parse(input)?;
     let mut machine = job.start()?;
-    let (answer, _) = machine.run(&job.program, &job.words, BUDGET)?;
-    debug_assert_eq!(answer == Answer::Ended, machine.end().is_some());
-    Ok(machine)
+    let (answer, picks) = machine.run(&job.program, &job.words, budget)?;
+    let (span, registers) = match answer {
+        Answer::Ended => (machine.last_task().span, machine.last_task().registers),
+        Answer::Spent => (0, ZEROS),
+    };
+    Ok(Report {
+        end: machine.end(),
+        picks,
+        work: machine.work(),
+        span,
+        registers,
+    })
 }
 
-fn state_report(machine: &Machine) -> String {
-    let mut text = String::new();
-    write_report(&mut text, machine).expect("a string takes all that is written");
-    text
+/// What the run program prints for this input.
+pub fn report(input: &[u8]) -> String {
+    text(input, BUDGET)
 }
 
-fn write_report(text: &mut String, machine: &Machine) -> fmt::Result {
-    match machine.end() {
-        None => {
-            writeln!(text, "end spent")?;
-            return writeln!(text, "work {}", machine.work());
+/// What the run program would print with this budget.
+pub fn text(input: &[u8], budget: u64) -> String {
+    text_of(&run(input, budget))
+}
+
+/// What the run program prints where a run comes to this.
+pub fn text_of(outcome: &Result<Report, u8>) -> String {
+    match outcome {
+        Err(refusal) => format!("refused {}\n", refusal),
+        Ok(report) => report.to_string(),
+    }
+}
+
+impl fmt::Display for Report {
+    fn fmt(&self, f: &mut fmt::Formatter) -> fmt::Result {
+        match self.end {
+            None => {
+                writeln!(f, "end spent")?;
+                return writeln!(f, "work {}", self.work);
+            }
+            Some(End::Halt) => writeln!(f, "end halt")?,
+            Some(End::Fault(number)) => writeln!(f, "end fault {}", number)?,
         }
-        Some(End::Halt) => writeln!(text, "end halt")?,
-        Some(End::Fault(number)) => writeln!(text, "end fault {}", number)?,
+        writeln!(f, "work {}", self.work)?;
+        writeln!(f, "span {}", self.span)?;
+        for (number, value) in self.registers.iter().enumerate() {
+            writeln!(f, "r{} {}", number, value)?;
+        }
+        Ok(())
     }
-    writeln!(text, "work {}", machine.work())?;
-    writeln!(text, "span {}", machine.last_task().span)?;
-    for (number, value) in machine.last_task().registers.iter().enumerate() {
-        writeln!(text, "r{} {}", number, value)?;
-    }
-    Ok(())
 }
 
 impl fmt::Display for Value {

@@ -1,4 +1,5 @@
-//! A second implementation of the block engine, written from document 01 alone.
+//! A second implementation of the block engine, written from document 01 alone, and for the shape
+//! test from docs/machine.md.
 //!
 //! The tests compare the proved engine with it, and the benchmark runs it beside the engine.
 
@@ -11,6 +12,7 @@ pub mod plain;
 pub mod question;
 #[cfg(test)]
 mod sample;
+mod shape;
 pub mod task;
 
 pub use image::{

@@ -1,12 +1,8 @@
 //! The machine: a job's state, start, pick, and the budgeted run.
-//!
-//! Question 20 is not put. It is about a state that was lent as memory, and this one is only ever
-//! written here; the caller hands in the program that it was started with.
 
 use crate::image::{Block, Program};
-use crate::question;
 use crate::task::{Record, Step, Surroundings, Task, REGISTERS, ZEROS};
-use std::mem;
+use crate::{question, shape};
 
 pub const MAX_PLACES: u64 = 64;
 pub const MAX_WORDS: usize = 4096;
@@ -15,7 +11,7 @@ pub const WORK_LIMIT: u32 = u32::MAX;
 
 #[derive(Clone, Copy, Debug, PartialEq, Eq)]
 pub enum Status {
-    /// No task. What the slot's task holds means nothing.
+    /// No task.
     Vacant,
     Running,
     /// Its side of the innermost fork ended with a join.
@@ -30,6 +26,18 @@ pub enum Status {
 pub struct Slot {
     pub status: Status,
     pub task: Task,
+}
+
+impl Slot {
+    pub const VACANT: Slot = Slot {
+        status: Status::Vacant,
+        task: Task::NONE,
+    };
+
+    /// Whether the task there has ended its side of its innermost fork.
+    pub(crate) fn has_ended_side(&self) -> bool {
+        matches!(self.status, Status::Waiting | Status::Faulted(_))
+    }
 }
 
 /// How a job ended.
@@ -48,15 +56,17 @@ pub enum Answer {
 
 #[derive(Clone, Debug, PartialEq, Eq)]
 pub struct Machine {
-    interval: u16,
-    work: u32,
+    pub(crate) interval: u16,
+    pub(crate) work: u32,
     /// Bit k is set when slot k has a running task, so that the run need not look into the others.
-    running: u64,
-    /// One for each place. A task sits in the first slot of its places.
-    slots: Vec<Slot>,
+    pub(crate) running: u64,
+    /// One for each place. A task sits in the first slot of its places, and has program counter and
+    /// counter 0 unless it is running.
+    pub(crate) slots: Vec<Slot>,
 }
 
 /// What a pick is handed besides its slot, after the questions about it: the program's, then 14.
+/// The machine that it is used with meets the shape test for the program.
 #[derive(Clone, Copy, Debug)]
 pub struct Call<'a> {
     program: &'a Program,
@@ -78,6 +88,16 @@ fn check_words(words: &[i64]) -> Result<(), u8> {
     Ok(())
 }
 
+/// Question 11.
+pub(crate) fn allows_places(places: u64) -> bool {
+    places.is_power_of_two() && places <= MAX_PLACES
+}
+
+/// Question 12.
+pub(crate) fn allows_interval(interval: u64) -> bool {
+    interval == 0 || (8..=u16::MAX.into()).contains(&interval)
+}
+
 impl Machine {
     /// The state of a fresh start.
     pub fn start(
@@ -88,27 +108,22 @@ impl Machine {
         words: &[i64],
     ) -> Result<Self, u8> {
         program.check()?;
-        if !places.is_power_of_two() || places > MAX_PLACES {
+        if !allows_places(places) {
             return Err(question::PLACES);
         }
-        let interval = match u16::try_from(interval) {
-            Ok(interval) if interval == 0 || interval >= 8 => interval,
-            _ => return Err(question::INTERVAL),
-        };
+        if !allows_interval(interval) {
+            return Err(question::INTERVAL);
+        }
         let registers: &[i64; REGISTERS] = registers.try_into().map_err(|_| question::REGISTERS)?;
         check_words(words)?;
 
-        let vacant = Slot {
-            status: Status::Vacant,
-            task: Task::new(&[0; REGISTERS], 0),
-        };
-        let mut slots = vec![vacant; places as usize];
+        let mut slots = vec![Slot::VACANT; places as usize];
         slots[0] = Slot {
             status: Status::Running,
             task: Task::new(registers, places as u8),
         };
         Ok(Machine {
-            interval,
+            interval: interval as u16,
             work: 0,
             running: 1,
             slots,
@@ -147,12 +162,22 @@ impl Machine {
         &self.slots[0].task
     }
 
-    /// Carries out a pick of this slot. A refusal leaves the state as it was.
-    pub fn pick(&mut self, program: &Program, words: &[i64], slot: usize) -> Result<(), u8> {
-        self.pick_in(Call::new(program, words)?, slot)
+    /// Puts the questions of pick and run up to 20.
+    fn call<'a>(&self, program: &'a Program, words: &'a [i64]) -> Result<Call<'a>, u8> {
+        let call = Call::new(program, words)?;
+        if !shape::meets(self, program) {
+            return Err(question::SHAPE);
+        }
+        Ok(call)
     }
 
-    /// A pick that has its own questions left to put.
+    /// Carries out a pick of this slot. A refusal leaves the state as it was.
+    pub fn pick(&mut self, program: &Program, words: &[i64], slot: usize) -> Result<(), u8> {
+        let call = self.call(program, words)?;
+        self.pick_in(call, slot)
+    }
+
+    /// A pick that has only the questions from 21 on left to put.
     pub fn pick_in(&mut self, call: Call, slot: usize) -> Result<(), u8> {
         if slot >= self.places() {
             return Err(question::SLOT);
@@ -179,7 +204,7 @@ impl Machine {
         words: &[i64],
         budget: u64,
     ) -> Result<(Answer, u64), u8> {
-        let call = Call::new(program, words)?;
+        let call = self.call(program, words)?;
         let allowed = budget.min(u64::from(WORK_LIMIT - self.work));
         let mut picks = 0;
         let mut ahead = self.running;
@@ -216,15 +241,23 @@ impl Machine {
                 self.fork(slot, record, &program.blocks[usize::from(target)]);
             }
             Step::Wait => {
-                self.set_status(slot, Status::Waiting);
+                self.end_task(slot, Status::Waiting);
                 self.settle(program, slot);
             }
-            Step::Halt => self.set_status(slot, Status::Halted),
+            Step::Halt => self.end_task(slot, Status::Halted),
             Step::Fault(number) => {
-                self.set_status(slot, Status::Faulted(number));
+                self.end_task(slot, Status::Faulted(number));
                 self.settle(program, slot);
             }
         }
+    }
+
+    /// The task issues no more instructions, and has neither program counter nor counter.
+    fn end_task(&mut self, slot: usize, status: Status) {
+        let task = &mut self.slots[slot].task;
+        task.pc = 0;
+        task.counter = 0;
+        self.set_status(slot, status);
     }
 
     fn set_status(&mut self, slot: usize, status: Status) {
@@ -274,22 +307,21 @@ impl Machine {
     /// part of its side.
     fn both_ended(&self, parent: usize, child: usize) -> bool {
         let (parent, child) = (&self.slots[parent], &self.slots[child]);
-        let ended = |slot: &Slot| matches!(slot.status, Status::Waiting | Status::Faulted(_));
-        ended(parent) && ended(child) && parent.task.depth() == child.task.depth()
+        parent.has_ended_side()
+            && child.has_ended_side()
+            && parent.task.depth() == child.task.depth()
     }
 
     /// One task of two ended sides, in the parent's slot.
     fn join(&mut self, program: &Program, parent_slot: usize, child_slot: usize) {
         let (before, after) = self.slots.split_at_mut(child_slot);
         let (parent, child) = (&mut before[parent_slot], &mut after[0]);
-        let child_status = mem::replace(&mut child.status, Status::Vacant);
-        let (task, child) = (&mut parent.task, &child.task);
+        let task = &mut parent.task;
 
         let record = task.close_fork();
-        task.places += child.places;
-        task.span = task.span.max(child.span);
-        task.counter = 0;
-        let status = match (parent.status, child_status) {
+        task.places += child.task.places;
+        task.span = task.span.max(child.task.span);
+        let status = match (parent.status, child.status) {
             (Status::Faulted(number), _) | (_, Status::Faulted(number)) => {
                 task.registers = ZEROS;
                 Status::Faulted(number)
@@ -297,12 +329,13 @@ impl Machine {
             _ => {
                 let continuation = &program.blocks[usize::from(record.continuation)];
                 for (from, to) in continuation.register_pairs() {
-                    task.registers[to] = child.registers[from];
+                    task.registers[to] = child.task.registers[from];
                 }
                 task.pc = program.blocks[usize::from(continuation.label)].first;
                 Status::Running
             }
         };
+        *child = Slot::VACANT;
         self.set_status(parent_slot, status);
     }
 }

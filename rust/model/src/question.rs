@@ -31,6 +31,8 @@ pub const REGISTERS: u8 = 13;
 pub const WORDS: u8 = 14;
 /// Every lent buffer of the length docs/ names?
 pub const BUFFER: u8 = 15;
+/// Does the state meet the shape test for the program handed in?
+pub const SHAPE: u8 = 20;
 /// Slot below P?
 pub const SLOT: u8 = 21;
 /// Job not ended?

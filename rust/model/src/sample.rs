@@ -98,3 +98,17 @@ pub fn countdown() -> Program {
         (PLAIN, &[HALT]),
     ])
 }
+
+/// A task that forks under one record until its places are used up, and children that only join.
+pub fn forks() -> Program {
+    let target = Block {
+        annotation: 2,
+        label: 2,
+        ..PLAIN
+    };
+    let join = [instruction(opcode::JOIN, 0, 0, Reg(1))];
+    let mut code = vec![instruction(opcode::JRALLOC, 1, 0, Lab(1))];
+    code.resize(8, instruction(opcode::FORK, 0, 1, Lab(2)));
+    code.push(HALT);
+    program(&[(PLAIN, &code), (target, &[HALT]), (PLAIN, &join)])
+}

@@ -5,6 +5,7 @@
 
 use crate::image::{Instruction, Program};
 use crate::{fault, opcode};
+use std::mem;
 
 pub const REGISTERS: usize = 16;
 /// 64 places can be halved six times.
@@ -24,6 +25,12 @@ pub struct Record {
     pub depth: u8,
 }
 
+/// What stands for a fork that isn't open.
+const NO_FORK: Record = Record {
+    continuation: 0,
+    depth: 0,
+};
+
 pub type Registers = [Value; REGISTERS];
 
 /// What a fault leaves of a task's registers.
@@ -38,9 +45,9 @@ pub struct Task {
     /// Instructions since the last promotion, fork (in a child) or join.
     pub counter: u32,
     pub span: u32,
-    /// The first `depth` are open, the outermost first.
-    forks: [Record; MAX_DEPTH],
-    depth: u8,
+    /// The first `depth` are open, the outermost first; the others are 0.
+    pub(crate) forks: [Record; MAX_DEPTH],
+    pub(crate) depth: u8,
 }
 
 /// What a task's instructions look at besides the task.
@@ -69,19 +76,23 @@ pub enum Step {
 }
 
 impl Task {
+    /// What stands in the place of a task where there is none.
+    pub const NONE: Task = Task {
+        registers: ZEROS,
+        places: 0,
+        pc: 0,
+        counter: 0,
+        span: 0,
+        forks: [NO_FORK; MAX_DEPTH],
+        depth: 0,
+    };
+
     /// The one task of a fresh start, at block 0.
     pub fn new(registers: &[i64; REGISTERS], places: u8) -> Self {
         Task {
             registers: registers.map(Value::Int),
             places,
-            pc: 0,
-            counter: 0,
-            span: 0,
-            forks: [Record {
-                continuation: 0,
-                depth: 0,
-            }; MAX_DEPTH],
-            depth: 0,
+            ..Task::NONE
         }
     }
 
@@ -103,7 +114,13 @@ impl Task {
     /// Closes the innermost fork, of which there is one, and hands back its record.
     pub fn close_fork(&mut self) -> Record {
         self.depth -= 1;
-        self.forks[self.depth()]
+        mem::replace(&mut self.forks[usize::from(self.depth)], NO_FORK)
+    }
+
+    /// Whether the entries of forks that are not open are 0, and there are no more open than entries.
+    pub(crate) fn has_clear_forks(&self) -> bool {
+        let others = self.forks.get(self.depth()..);
+        others.map_or(false, |others| others.iter().all(|&fork| fork == NO_FORK))
     }
 
     /// Issues the next instruction. One that faults counts too, and sets the registers to 0.
@@ -125,13 +142,13 @@ impl Task {
         let instruction = &surroundings.program.instructions[usize::from(self.pc)];
         match instruction.opcode {
             opcode::MOVE => self.set(instruction, self.operand(instruction)),
-            opcode::ADD => self.combine(instruction, i64::wrapping_add),
-            opcode::SUBTRACT => self.combine(instruction, i64::wrapping_sub),
-            opcode::MULTIPLY => self.combine(instruction, i64::wrapping_mul),
-            opcode::DIVIDE => self.divide(instruction, i64::wrapping_div),
-            opcode::REMAINDER => self.divide(instruction, i64::wrapping_rem),
-            opcode::LESS => self.combine(instruction, |a, b| truth(a < b)),
-            opcode::EQUAL => self.combine(instruction, |a, b| truth(a == b)),
+            opcode::ADD => self.combine(instruction, |a, b| Ok(a.wrapping_add(b))),
+            opcode::SUBTRACT => self.combine(instruction, |a, b| Ok(a.wrapping_sub(b))),
+            opcode::MULTIPLY => self.combine(instruction, |a, b| Ok(a.wrapping_mul(b))),
+            opcode::DIVIDE => self.combine(instruction, |a, b| Ok(a.wrapping_div(divisor(b)?))),
+            opcode::REMAINDER => self.combine(instruction, |a, b| Ok(a.wrapping_rem(divisor(b)?))),
+            opcode::LESS => self.combine(instruction, |a, b| Ok(truth(a < b))),
+            opcode::EQUAL => self.combine(instruction, |a, b| Ok(truth(a == b))),
             opcode::WORD => self.word(instruction, surroundings.words),
             opcode::IF_JUMP => {
                 if self.integer(instruction.s)? != 0 {
@@ -190,25 +207,11 @@ impl Task {
     fn combine(
         &mut self,
         instruction: &Instruction,
-        op: impl FnOnce(i64, i64) -> i64,
+        op: impl FnOnce(i64, i64) -> Result<i64, u8>,
     ) -> Result<Step, u8> {
         let a = self.integer(instruction.s)?;
         let b = self.integer_operand(instruction)?;
-        self.set(instruction, Value::Int(op(a, b)))
-    }
-
-    #[inline]
-    fn divide(
-        &mut self,
-        instruction: &Instruction,
-        op: impl FnOnce(i64, i64) -> i64,
-    ) -> Result<Step, u8> {
-        let a = self.integer(instruction.s)?;
-        let b = self.integer_operand(instruction)?;
-        if b == 0 {
-            return Err(fault::DIVISOR);
-        }
-        self.set(instruction, Value::Int(op(a, b)))
+        self.set(instruction, Value::Int(op(a, b)?))
     }
 
     fn word(&mut self, instruction: &Instruction, words: &[i64]) -> Result<Step, u8> {
@@ -303,6 +306,14 @@ fn label(value: Value) -> Result<u8, u8> {
     match value {
         Value::Label(label) => Ok(label),
         _ => Err(fault::TARGET),
+    }
+}
+
+#[inline]
+fn divisor(integer: i64) -> Result<i64, u8> {
+    match integer {
+        0 => Err(fault::DIVISOR),
+        _ => Ok(integer),
     }
 }
 

@@ -1,6 +1,5 @@
 //! The long run: `soak [COUNT [SEED [FIRST]]]` compares COUNT images of SEED from case FIRST on.
 
-use checks::coverage::Coverage;
 use checks::soak::Soak;
 
 fn main() {
@@ -10,5 +9,5 @@ fn main() {
         cases: "images",
         enough: 200_000,
     };
-    soak.run(checks::run::run, Coverage::cases, Coverage::missing);
+    soak.run(checks::run::run);
 }

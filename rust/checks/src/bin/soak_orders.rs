@@ -1,6 +1,5 @@
 //! The long run: `soak_orders [COUNT [SEED [FIRST]]]` tries COUNT jobs of SEED from job FIRST on.
 
-use checks::job_coverage::JobCoverage;
 use checks::soak::Soak;
 
 fn main() {
@@ -10,5 +9,5 @@ fn main() {
         cases: "jobs",
         enough: 20_000,
     };
-    soak.run(checks::orders::run, JobCoverage::jobs, JobCoverage::missing);
+    soak.run(checks::orders::run);
 }

@@ -1,6 +1,5 @@
 //! The long run: `soak_replay [COUNT [SEED [FIRST]]]` replays COUNT jobs of SEED from job FIRST on.
 
-use checks::replay_coverage::ReplayCoverage;
 use checks::soak::Soak;
 
 fn main() {
@@ -10,9 +9,5 @@ fn main() {
         cases: "jobs",
         enough: 20_000,
     };
-    soak.run(
-        checks::replay::run,
-        ReplayCoverage::jobs,
-        ReplayCoverage::missing,
-    );
+    soak.run(checks::replay::run);
 }

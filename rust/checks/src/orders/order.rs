@@ -21,7 +21,7 @@ pub(super) struct Order<'a> {
     call: Call<'a>,
     /// What the plain evaluation says, if the job ends.
     expected: Option<&'a Evaluation>,
-    machine: Machine,
+    pub(super) machine: Machine,
     pub(super) picks: PicksBySlot,
     /// Slots with a running task, and number of slots with any.
     running: Vec<usize>,

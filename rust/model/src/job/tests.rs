@@ -105,3 +105,33 @@ fn values_print_as_int_lab_or_rec() {
     ];
     assert_eq!(lines[..7], start);
 }
+
+#[test]
+fn a_report_is_what_the_run_comes_to() {
+    let mut input = bytes(&write(&countdown()).unwrap(), 1, 0, &[]);
+    let r0 = input.len() - 2 - 16 * 8;
+    input[r0] = 3;
+    for budget in 0..=10 {
+        let spent = Report {
+            end: None,
+            picks: budget,
+            work: budget as u32,
+            span: 0,
+            registers: ZEROS,
+        };
+        assert_eq!(run(&input, budget), Ok(spent));
+        let expected = format!("end spent\nwork {}\n", budget);
+        assert_eq!(text(&input, budget), expected);
+    }
+    for budget in [11, 12, BUDGET, u64::MAX] {
+        let report = run(&input, budget).unwrap();
+        assert_eq!((report.end, report.picks), (Some(End::Halt), 11));
+        assert_eq!((report.work, report.span), (11, 11));
+        assert_eq!(report.registers[0], Value::Int(0));
+        assert_eq!(report.registers[15], Value::Int(-15));
+        assert_eq!(text(&input, budget), report.to_string());
+    }
+    input.pop();
+    assert_eq!(run(&input, 0), Err(10));
+    assert_eq!(text(&input, 0), "refused 10\n");
+}

@@ -1,10 +1,8 @@
 //! The questions of start, pick and run, and where the tasks sit.
 
 use super::*;
-use crate::opcode;
-use crate::sample::{countdown, f, instruction, program, Operand, HALT, PLAIN};
+use crate::sample::{countdown, f, forks};
 use crate::task::Value;
-use Operand::{Lab, Reg};
 
 const ZERO: [i64; 16] = [0; 16];
 
@@ -77,6 +75,10 @@ fn pick_puts_its_questions_in_order_and_a_refusal_changes_nothing() {
     let mut before = machine.clone();
     assert_eq!(machine.pick(&bad, &many, 9), Err(7));
     assert_eq!(machine.pick(&program, &many, 9), Err(14));
+    let mut damaged = machine.clone();
+    damaged.interval = 7;
+    assert_eq!(damaged.pick(&program, &many, 2), Err(14));
+    assert_eq!(damaged.pick(&program, &[], 2), Err(20));
     assert_eq!(machine.pick(&program, &[], 2), Err(21));
     assert_eq!(machine.pick(&program, &[], usize::MAX), Err(21));
     assert_eq!(machine.pick(&program, &[], 1), Err(23));
@@ -128,20 +130,6 @@ fn the_pick_that_ends_the_second_side_joins() {
         assert_eq!(task.registers[0], Value::Int(1));
         assert_eq!(task.registers[2], Value::Int(7));
     }
-}
-
-/// A task that forks under one record until its places are used up, and children that only join.
-fn forks() -> Program {
-    let target = Block {
-        annotation: 2,
-        label: 2,
-        ..PLAIN
-    };
-    let join = [instruction(opcode::JOIN, 0, 0, Reg(1))];
-    let mut code = vec![instruction(opcode::JRALLOC, 1, 0, Lab(1))];
-    code.resize(8, instruction(opcode::FORK, 0, 1, Lab(2)));
-    code.push(HALT);
-    program(&[(PLAIN, &code), (target, &[HALT]), (PLAIN, &join)])
 }
 
 #[test]
@@ -229,13 +217,16 @@ fn run_stops_at_the_work_limit() {
 }
 
 #[test]
-fn run_puts_the_questions_of_a_pick_up_to_14() {
+fn run_puts_the_questions_of_a_pick_up_to_20() {
     let mut machine = start(&f(), 2);
     let mut bad = f();
     bad.blocks.clear();
     assert_eq!(machine.run(&bad, &[0; 4097], 0), Err(4));
     assert_eq!(machine.run(&f(), &[0; 4097], 0), Err(14));
     assert_eq!(machine, start(&f(), 2));
+    machine.interval = 7;
+    assert_eq!(machine.run(&f(), &[0; 4097], 0), Err(14));
+    assert_eq!(machine.run(&f(), &[], 0), Err(20));
 }
 
 #[test]

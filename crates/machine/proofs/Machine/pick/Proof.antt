@@ -2,7 +2,7 @@
 use mathlib.Core.Path.{_≡_, sym, ap, _∙_}
 use Rattle.machine.specs.Slots.{Sized}
 use Rattle.machine.specs.Picking.{stateNo, pickNo}
-use Rattle.machine.proofs.Sizes.{length-by}
+use Rattle.codes.proofs.Sizes.{length-by}
 use Rattle.machine.proofs.Picked.{state-passes, slot-ready, refused-by-state, refused-by-slot, accepted-by-both, picked-one}
 use borrow.Author.Needs.{needs}
 use Rattle.machine.proofs.Machine.pick.Statement.{statement}

@@ -3,7 +3,7 @@ use mathlib.Core.Path.{sym, ap, _∙_}
 use Prim.Native.Nat.{_+_}
 use Rattle.machine.specs.declared.Machine.{Machine}
 use Rattle.machine.specs.Slots.{put, Sized}
-use Rattle.machine.proofs.Sizes.{length-by}
+use Rattle.codes.proofs.Sizes.{length-by}
 use Rattle.machine.proofs.SlotLaws.{put-sized}
 use Rattle.machine.proofs.InPlace.{put-outside}
 use borrow.Author.Needs.{needs}

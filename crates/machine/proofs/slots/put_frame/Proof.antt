@@ -2,7 +2,7 @@
 use mathlib.Core.Path.{_≡_, refl}
 use Prim.Native.Nat.{_-_, _*_, _≤_}
 use Rattle.task.specs.Frames.{zeroRegister}
-use Rattle.machine.specs.Slots.{reads}
+use Rattle.codes.specs.Stretches.{reads}
 use Rattle.machine.proofs.Copying.{copied-next, filling}
 use borrow.Author.Needs.{needs}
 use native.Mathlib.Omega.{arith}

@@ -4,7 +4,7 @@ use Prim.Native.Nat.{ℕ, _-_, _≤_}
 use lib.ListN.{getD}
 use lib.Seq.{sets}
 use Rattle.task.specs.Frames.{zeroRegister, integers}
-use Rattle.machine.specs.Slots.{reads}
+use Rattle.codes.specs.Stretches.{reads}
 use Rattle.machine.proofs.Filling.{filled-more, filled-none}
 use mir.Syntax.{w64}
 use mir.ValLaws.{toZ-ofZ}

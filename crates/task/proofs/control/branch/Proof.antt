@@ -1,7 +1,6 @@
 -- `branch` meets its contract.
-use mathlib.Core.Path.{ap, _∙_}
+use mathlib.Core.Path.{_∙_}
 use Rattle.task.proofs.Computing.{given}
-use Rattle.task.specs.Execute.{goes}
 use Rattle.task.proofs.Entering.{tests-other, branches, falls-through}
 use borrow.Author.Needs.{needs}
 use Rattle.task.proofs.control.branch.Statement.{statement}
@@ -25,14 +24,14 @@ jump-requires c κs = search needs
 returns-2 : tie.Need-returns-2
 returns-2 c = c .jump .ensures ∙ branches (c .before .before .before .before .before .before .before .args .cells .now) (c .before .before .before .before .before .before .before .args .interval) (c .before .before .before .before .before .before .before .args .v) (c .before .before .before .before .before .before .before .args .t) (c .before .before .before .before .before .before .before .args .s) (c .before .before .before .before .s .given .1) (search needs) (c .before .before .equal .ensures) (c .before .if1 .taken)
 
-advance-requires : tie.Need-advance-requires
-advance-requires c κs = search needs
+add-go : tie.Need-add-go
+add-go c = search needs
 
 go-requires : tie.Need-go-requires
 go-requires c κs = search needs
 
 returns-3 : tie.Need-returns-3
-returns-3 c = c .go .ensures ∙ ap goes (c .before .advance .ensures) ∙ falls-through (c .before .before .before .before .before .before .before .before .args .cells .now) (c .before .before .before .before .before .before .before .before .args .interval) (c .before .before .before .before .before .before .before .before .args .v) (c .before .before .before .before .before .before .before .before .args .t) (c .before .before .before .before .before .before .before .before .args .s) (c .before .before .before .before .before .s .given .1) (search needs) (c .before .before .before .equal .ensures) (c .before .before .if1 .left)
+returns-3 c = c .go .ensures ∙ falls-through (c .before .before .before .before .before .before .before .before .args .cells .now) (c .before .before .before .before .before .before .before .before .args .interval) (c .before .before .before .before .before .before .before .before .args .v) (c .before .before .before .before .before .before .before .before .args .t) (c .before .before .before .before .before .before .before .before .args .s) (c .before .before .before .before .before .s .given .1) (search needs) (c .before .before .before .equal .ensures) (c .before .before .if1 .left)
 
 pub branch-spec : {M : Type 1} → statement M
 branch-spec =
@@ -44,6 +43,6 @@ branch-spec =
     equal-requires
     jump-requires
     returns-2
-    advance-requires
+    add-go
     go-requires
     returns-3)

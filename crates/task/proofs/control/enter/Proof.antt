@@ -1,4 +1,5 @@
 -- `enter` meets its contract.
+use mathlib.Core.Path.{_∙_}
 use Rattle.image.proofs.Accepted.{accepted}
 use Rattle.task.proofs.Entering.{enters-handler, enters-block}
 use borrow.Author.Needs.{needs}
@@ -27,14 +28,20 @@ shared-slice-read-handler c = let k = accepted (c .before .before .before .befor
 first-of-requires : tie.Need-first-of-requires
 first-of-requires c κs = let k = accepted (c .before .before .before .before .args .cells .now) (c .before .before .before .before .pre .0) in let b = k .block (c .before .before .before .before .args .b) (c .before .before .before .before .pre .1) in (c .before .before .before .before .pre .0, b .label-below)
 
+go-requires : tie.Need-go-requires
+go-requires c κs = search needs
+
 returns : tie.Need-returns
-returns c = enters-handler (c .before .before .before .before .before .args .cells .now) (c .before .before .before .before .before .args .interval) (c .before .before .before .before .before .args .b) (c .before .before .before .before .before .args .t) (c .before .before .before .is-promoted .ensures) (c .before .before .if1 .taken) (c .first-of .ensures)
+returns c = c .go .ensures ∙ enters-handler (c .before .before .before .before .before .before .args .cells .now) (c .before .before .before .before .before .before .args .interval) (c .before .before .before .before .before .before .args .b) (c .before .before .before .before .before .before .args .t) (c .before .before .before .before .is-promoted .ensures) (c .before .before .before .if1 .taken) (c .before .first-of .ensures)
 
 first-of-requires-2 : tie.Need-first-of-requires-2
 first-of-requires-2 c κs = search needs
 
+go-requires-2 : tie.Need-go-requires-2
+go-requires-2 c κs = search needs
+
 returns-2 : tie.Need-returns-2
-returns-2 c = enters-block (c .before .before .before .before .args .cells .now) (c .before .before .before .before .args .interval) (c .before .before .before .before .args .b) (c .before .before .before .before .args .t) (c .before .before .is-promoted .ensures) (c .before .if1 .left) (c .first-of2 .ensures)
+returns-2 c = c .go2 .ensures ∙ enters-block (c .before .before .before .before .before .args .cells .now) (c .before .before .before .before .before .args .interval) (c .before .before .before .before .before .args .b) (c .before .before .before .before .before .args .t) (c .before .before .before .is-promoted .ensures) (c .before .before .if1 .left) (c .before .first-of2 .ensures)
 
 pub enter-spec : {M : Type 1} → statement M
 enter-spec =
@@ -47,6 +54,8 @@ enter-spec =
     mul-handler-2
     shared-slice-read-handler
     first-of-requires
+    go-requires
     returns
     first-of-requires-2
+    go-requires-2
     returns-2)

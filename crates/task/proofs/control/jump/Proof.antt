@@ -18,12 +18,9 @@ returns c = c .fault .ensures ∙ no-target (c .before .before .before .args .ce
 enter-requires : tie.Need-enter-requires
 enter-requires c κs = (c .before .before .before .before .pre .0, label-fits (c .before .before .before .before .args .cells .now) (c .before .v .given .1) (c .before .before .before .before .pre .1))
 
-go-requires : tie.Need-go-requires
-go-requires c κs = search needs
-
 returns-2 : tie.Need-returns-2
-returns-2 c = c .go .ensures ∙ jumps (c .before .before .before .before .before .before .args .cells .now) (c .before .before .before .before .before .before .args .interval) (c .before .before .before .before .before .before .args .v) (c .before .before .before .before .before .before .args .t) (c .before .before .before .v .given .1) (c .before .enter .ensures)
+returns-2 c = c .enter .ensures ∙ jumps (c .before .before .before .before .before .args .cells .now) (c .before .before .before .before .before .args .interval) (c .before .before .before .before .before .args .v) (c .before .before .before .before .before .args .t) (c .before .before .v .given .1)
 
 pub jump-spec : {M : Type 1} → statement M
 jump-spec =
-    tie.close (tie.spec enum-known-v fault-requires returns enter-requires go-requires returns-2)
+    tie.close (tie.spec enum-known-v fault-requires returns enter-requires returns-2)

@@ -2,7 +2,6 @@
 use mathlib.Core.Path.{_≡_, refl, sym, _∙_}
 use Prim.Native.Nat.{_-_, _≤_}
 use Rattle.task.specs.Step.{belong}
-use Rattle.task.specs.Execute.{forks}
 use Rattle.task.proofs.Belonging.{none-left, other-continuation, other-depth, belongs-on}
 use borrow.Author.Needs.{needs}
 use native.Mathlib.Omega.{arith}

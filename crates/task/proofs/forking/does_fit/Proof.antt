@@ -14,7 +14,7 @@ all-belong-requires c κs = search needs
 
 returns-2 : tie.Need-returns-2
 unfolding fits
-returns-2 c = rw (le-leb _ _ (c .before .before .if1 .left)) (c .all-belong .ensures)
+returns-2 c = rw (le-leb _ _ (c .before .if1 .left)) (c .all-belong .ensures)
 
 pub does-fit-spec : {M : Type 1} → statement M
 does-fit-spec = tie.close (tie.spec returns all-belong-requires returns-2)

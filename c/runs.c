@@ -1,0 +1,171 @@
+/* Runs with budgets, to a report and to a text: F's job, refused ones, and lengths of the buffers. */
+
+#include "testing.h"
+
+#include <stdio.h>
+#include <string.h>
+
+enum { NUMBERS = TPAL_REPORT_BYTES / 8, BUDGET = 1000000 };
+
+/* Registers with integers 0 have only zeros. */
+static const uint64_t f_report[NUMBERS] = {
+    TPAL_END_HALT, 0, 9, 9, 7,
+    TPAL_KIND_INTEGER, 12, 0,
+    TPAL_KIND_RECORD, 2, 0,
+    TPAL_KIND_INTEGER, 7, 0
+};
+static const uint64_t f_fault_report[NUMBERS] = {TPAL_END_FAULT, TPAL_FAULT_PLACES, 2, 2, 2};
+
+#define ZEROS_FROM_R3 \
+    "r3 int 0\nr4 int 0\nr5 int 0\nr6 int 0\nr7 int 0\nr8 int 0\nr9 int 0\nr10 int 0\n" \
+    "r11 int 0\nr12 int 0\nr13 int 0\nr14 int 0\nr15 int 0\n"
+
+static const char f_text[] =
+    "end halt\nwork 9\nspan 7\nr0 int 12\nr1 rec 2 0\nr2 int 7\n" ZEROS_FROM_R3;
+static const char f_fault_text[] =
+    "end fault 37\nwork 2\nspan 2\nr0 int 0\nr1 int 0\nr2 int 0\n" ZEROS_FROM_R3;
+
+/* `numbers` is what an accepted call reports. */
+static void try_report(const char *name, const uint8_t *job, size_t job_len, uint64_t budget,
+                       size_t report_len, unsigned expected, const uint64_t *numbers)
+{
+    uint8_t report[2 * TPAL_REPORT_BYTES];
+    uint8_t untouched[sizeof report];
+    size_t written = expected == TPAL_ACCEPTED ? TPAL_REPORT_BYTES : 0;
+    char line[160];
+    unsigned answer;
+    size_t index;
+    int right;
+
+    memset(report, FILL, sizeof report);
+    memset(untouched, FILL, sizeof untouched);
+    answer = tpal_job_run(job, job_len, budget, report, report_len);
+    right = memcmp(report + written, untouched, sizeof report - written) == 0;
+    for (index = 0; index < written / 8; index++)
+        right = right && number_at(report, index) == numbers[index];
+    snprintf(line, sizeof line, "run %s into %zu bytes%s", name, report_len,
+             right ? "" : " (wrong bytes in report)");
+    expect(line, answer == expected && right, expected, answer);
+}
+
+/* An empty text where the buffer has another length. */
+static void try_text(const char *name, const uint8_t *job, size_t job_len, uint64_t budget,
+                     size_t text_len, const char *expected)
+{
+    uint8_t text[2 * TPAL_TEXT_BYTES];
+    uint8_t untouched[sizeof text];
+    size_t length = strlen(expected);
+    char line[160];
+    uint64_t answer;
+    int right;
+
+    memset(text, FILL, sizeof text);
+    memset(untouched, FILL, sizeof untouched);
+    answer = tpal_job_text(job, job_len, budget, text, text_len);
+    right = memcmp(text, expected, length) == 0
+        && memcmp(text + length, untouched, sizeof text - length) == 0;
+    snprintf(line, sizeof line, "text of %s in %zu bytes%s", name, text_len,
+             right ? "" : " (wrong bytes in text)");
+    expect(line, answer == length && right, (unsigned)length, (unsigned)answer);
+}
+
+static void try_accepted(const char *name, const uint8_t *job, uint64_t budget,
+                         const uint64_t *numbers, const char *text)
+{
+    try_report(name, job, JOB_LEN, budget, TPAL_REPORT_BYTES, TPAL_ACCEPTED, numbers);
+    try_text(name, job, JOB_LEN, budget, TPAL_TEXT_BYTES, text);
+}
+
+static void try_refused(const char *name, const uint8_t *job, size_t job_len, unsigned number)
+{
+    char text[16];
+
+    snprintf(text, sizeof text, "refused %u\n", number);
+    try_report(name, job, job_len, BUDGET, TPAL_REPORT_BYTES, number, NULL);
+    try_report(name, job, job_len, 0, 0, number, NULL);
+    try_text(name, job, job_len, BUDGET, TPAL_TEXT_BYTES, text);
+    try_text(name, job, job_len, 0, TPAL_TEXT_BYTES, text);
+}
+
+static void try_budgets(uint8_t *job)
+{
+    uint64_t spent[NUMBERS] = {TPAL_END_SPENT};
+    char name[32];
+    char text[32];
+    unsigned budget;
+
+    for (budget = 0; budget < 9; budget++) {
+        spent[2] = spent[3] = budget;
+        snprintf(name, sizeof name, "F with budget %u", budget);
+        snprintf(text, sizeof text, "end spent\nwork %u\n", budget);
+        try_accepted(name, job, budget, spent, text);
+    }
+    try_accepted("F with budget 9", job, 9, f_report, f_text);
+    try_accepted("F with budget 10", job, 10, f_report, f_text);
+    try_accepted("F", job, BUDGET, f_report, f_text);
+    try_accepted("F with the largest budget", job, UINT64_MAX, f_report, f_text);
+    job[PLACES_AT] = 1;
+    try_accepted("F with P 1", job, BUDGET, f_fault_report, f_fault_text);
+}
+
+/* F's job with one byte changed. */
+static void try_damaged(const char *name, size_t at, uint8_t byte, unsigned number)
+{
+    uint8_t job[JOB_LEN];
+
+    make_job(job);
+    job[at] = byte;
+    try_refused(name, job, JOB_LEN, number);
+}
+
+static void try_refusals(void)
+{
+    static uint8_t longest[TPAL_JOB_MAX + 1];
+    static uint8_t many_words[JOB_LEN + 8 * 4097];
+    uint8_t short_image[JOB_LEN - F_LEN + 7] = {7};
+    uint8_t job[JOB_LEN + 1] = {0};
+
+    try_refused("a job with an image of 7 bytes", short_image, sizeof short_image, TPAL_HEADER);
+    try_damaged("F with mark TPC", IMAGE_AT + 2, 'C', TPAL_MARK);
+    try_damaged("F with version 2", IMAGE_AT + 3, 2, TPAL_VERSION);
+    try_damaged("F with 0 blocks", IMAGE_AT + 5, 0, TPAL_COUNTS);
+    try_damaged("F with 3 blocks", IMAGE_AT + 5, 3, TPAL_LENGTH);
+    try_damaged("F with block 0 at 1", IMAGE_AT + 8, 1, TPAL_BLOCK_START);
+    try_damaged("F with annotation 3", IMAGE_AT + 30, 3, TPAL_ANNOTATION);
+    try_damaged("F with opcode 0", IMAGE_AT + 48, 0, TPAL_FIELDS);
+    try_damaged("F with block 1 at 3", IMAGE_AT + 18, 3, TPAL_LAST_IN_BLOCK);
+    try_damaged("F with P 3", PLACES_AT, 3, TPAL_PLACES);
+    try_damaged("F with interval 7", INTERVAL_AT, 7, TPAL_INTERVAL);
+    make_job(many_words);
+    many_words[WORD_COUNT_AT] = 4097 % 256;
+    many_words[WORD_COUNT_AT + 1] = 4097 / 256;
+    try_refused("F with 4,097 words", many_words, sizeof many_words, TPAL_WORDS);
+
+    make_job(job);
+    try_refused("no bytes", job, 0, TPAL_INPUT);
+    try_refused("F less a byte", job, JOB_LEN - 1, TPAL_INPUT);
+    try_refused("F and a byte", job, JOB_LEN + 1, TPAL_INPUT);
+    memset(longest, 0xff, 2);
+    memset(longest + 2 + 65535 + 3 + 16 * 8, 0xff, 2);
+    try_refused("the longest job", longest, TPAL_JOB_MAX, TPAL_MARK);
+    try_refused("the longest job and a byte", longest, TPAL_JOB_MAX + 1, TPAL_INPUT);
+}
+
+void try_runs(void)
+{
+    static const size_t off_by[] = {1, 8, TPAL_REPORT_BYTES};
+    uint8_t job[JOB_LEN];
+    size_t i;
+
+    make_job(job);
+    for (i = 0; i < sizeof off_by / sizeof *off_by; i++) {
+        try_report("F", job, JOB_LEN, BUDGET, TPAL_REPORT_BYTES - off_by[i], TPAL_BUFFER, NULL);
+        try_report("F", job, JOB_LEN, BUDGET, TPAL_REPORT_BYTES + off_by[i], TPAL_BUFFER, NULL);
+        try_text("F", job, JOB_LEN, BUDGET, TPAL_TEXT_BYTES - off_by[i], "");
+        try_text("F", job, JOB_LEN, BUDGET, TPAL_TEXT_BYTES + off_by[i], "");
+    }
+    try_text("F", job, JOB_LEN, BUDGET, 0, "");
+    try_text("F less a byte", job, JOB_LEN - 1, BUDGET, 0, "");
+    try_budgets(job);
+    try_refusals();
+}

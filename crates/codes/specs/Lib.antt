@@ -1,0 +1,3 @@
+-- What the contracts of `codes` cite.
+pub mod Stretches
+pub mod Codes

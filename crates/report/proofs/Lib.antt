@@ -1,0 +1,8 @@
+pub mod Laying
+pub mod StateLaws
+pub mod ReportLaws
+pub mod Writing
+pub mod Decimals
+pub mod Lines
+pub mod ReadBack
+pub mod Samples

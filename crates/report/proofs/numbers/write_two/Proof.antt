@@ -1,0 +1,28 @@
+-- `write_two` meets its contract.
+use mathlib.Core.Path.{refl, ap, _∙_}
+use mathlib.Core.List.{List, [], _∷_}
+use Prim.Native.Nat.{ℕ, _+_}
+use lib.Seq.{sets}
+use Rattle.report.proofs.Laying.{numbers-placed, one-number}
+use borrow.Author.Needs.{needs}
+use Rattle.report.proofs.numbers.write_two.Statement.{statement}
+use Rattle.report.proofs.numbers.write_two.Tie as tie
+
+write-u64-requires : tie.Need-write-u64-requires
+write-u64-requires c κs = search needs
+
+add-write-u64 : tie.Need-add-write-u64
+add-write-u64 c = search needs
+
+write-u64-requires-2 : tie.Need-write-u64-requires-2
+write-u64-requires-2 c κs = search needs
+
+same-length : tie.Need-same-length
+same-length c = search needs
+
+returns : tie.Need-returns
+returns c = numbers-placed (c .before .before .before .before .before .before .before .before .before .args .out .now) _ _ (c .before .before .before .before .before .before .before .before .before .args .at) (c .before .before .before .before .before .before .before .before .before .args .at + 8) (c .before .before .before .before .before .before .before .before .before .args .a ∷ []) (c .before .before .before .before .before .before .before .before .before .args .b ∷ []) (c .before .before .before .before .before .before .write-u64 .ensures ∙ ap (λ (x : List ℕ). sets (c .before .before .before .before .before .before .before .before .before .args .out .now) (c .before .before .before .before .before .before .before .before .before .args .at) x) (one-number (c .before .before .before .before .before .before .before .before .before .args .a))) (c .before .before .write-u642 .ensures ∙ ap (λ (x : List ℕ). sets (c .before .before .before .before .before .before .write-u64 .last .0) (c .before .before .before .before .before .before .before .before .before .args .at + 8) x) (one-number (c .before .before .before .before .before .before .before .before .before .args .b))) refl
+
+pub write-two-spec : {M : Type 1} → statement M
+write-two-spec =
+    tie.close (tie.spec write-u64-requires add-write-u64 write-u64-requires-2 same-length returns)

@@ -1,0 +1,54 @@
+-- The report of a run, and its bytes: 53 numbers of 64 bits, little-endian.
+use mathlib.Core.Bool.{Bool, true, false}
+use mathlib.Core.List.{List, _∷_}
+use Prim.Native.Nat.{ℕ}
+use lib.ListN.{getD}
+use Rattle.image.specs.Layout.{rows}
+use Rattle.task.specs.Frames.{zeroRegister, zeros}
+use Rattle.machine.specs.declared.Machine.{Machine}
+use Rattle.machine.specs.declared.End.{End}
+use Rattle.machine.specs.declared.End.the-variants.{NotEnded, Halt, Fault}
+use Rattle.machine.specs.Slots.{at}
+use Rattle.machine.specs.Ending.{ending, jobEnded}
+use Rattle.report.specs.declared.Report.{Report}
+use Rattle.report.specs.Numbers.{valueNumbers, inBytes}
+
+-- a job that has ended reports the span and the registers of slot 0; one that has not is spent, and reports the work alone
+abbrev pub reportBy : Bool → Machine → ℕ → Report
+reportBy true m picks = record {
+  end = ending m;
+  picks = picks;
+  work = m .work;
+  span = at m 0 .task .span;
+  registers = at m 0 .registers;
+}
+reportBy false m picks = record { end = ending m; picks = picks; work = m .work; span = 0; registers = zeros }
+
+-- of the state after a run, and the picks that the run carried out
+abbrev pub reportOf : Machine → ℕ → Report
+reportOf m picks = reportBy (jobEnded m) m picks
+
+-- ---- Its bytes
+
+abbrev pub endNumber : End → ℕ
+endNumber NotEnded = 0
+endNumber Halt = 1
+endNumber (Fault n) = 2
+
+-- 0 where the job has not ended with a fault
+abbrev pub endFault : End → ℕ
+endFault NotEnded = 0
+endFault Halt = 0
+endFault (Fault n) = n
+
+-- end, fault number, picks, work, span, then the 16 registers
+unfoldable pub reportNumbers : Report → List ℕ
+reportNumbers r =
+    endNumber (r .end) ∷ endFault (r .end) ∷ r .picks ∷ r .work ∷ r .span
+    ∷ rows (λ i. valueNumbers (getD (r .registers) i zeroRegister .value)) 16
+
+abbrev pub reportLength : ℕ
+reportLength = 424
+
+abbrev pub reportBytes : Report → List ℕ
+reportBytes r = inBytes (reportNumbers r)

@@ -1,0 +1,176 @@
+//! What a run of jobs with budgets has covered, and what it ought to.
+
+use crate::budgets::BudgetCase;
+use crate::counts::Counts;
+use crate::shares::Tally;
+use engine::{REPORT_BYTES, TEXT_BYTES};
+use model::job::{Report, BUDGET};
+use model::{fault, question, End, Value};
+use std::fmt;
+
+pub struct BudgetsCoverage {
+    jobs: u64,
+    picks: u64,
+    met: Counts,
+}
+
+const BUDGETS: [u64; 4] = [0, 1, BUDGET, u64::MAX];
+const KINDS: [&str; 3] = ["integer", "label", "record"];
+
+const SPENT_AT_ONCE: &str = "spent, budget 0";
+const SPENT_LAST: &str = "spent, one pick before the end";
+const SPENT: &str = "spent, more picks before the end";
+const ENDED_LAST: &str = "ended on the budget's last pick";
+const ENDED: &str = "ended before the budget's last pick";
+const WRONG_REPORT: &str = "a report of another length, good job";
+const WRONG_REPORT_AND_JOB: &str = "a report of another length, refused job";
+const WRONG_TEXT: &str = "a text of another length";
+const TEXT_OF_REFUSAL: &str = "text of a refusal";
+const TEXT: &str = "text of a report";
+
+const NAMES: [&str; 12] = [
+    "end spent",
+    "end halt",
+    SPENT_AT_ONCE,
+    SPENT_LAST,
+    SPENT,
+    ENDED_LAST,
+    ENDED,
+    WRONG_REPORT,
+    WRONG_REPORT_AND_JOB,
+    WRONG_TEXT,
+    TEXT_OF_REFUSAL,
+    TEXT,
+];
+
+fn answer(number: u8) -> String {
+    format!("job answers {:2}", number)
+}
+
+fn end(report: &Report) -> String {
+    match report.end {
+        None => "end spent".to_string(),
+        Some(End::Halt) => "end halt".to_string(),
+        Some(End::Fault(number)) => end_fault(number),
+    }
+}
+
+fn end_fault(number: u8) -> String {
+    format!("end fault {}", number)
+}
+
+fn with_budget(budget: u64, outcome: &str) -> String {
+    format!("{} with budget {}", outcome, budget)
+}
+
+fn final_register(kind: &str) -> String {
+    format!("final register with {}", kind)
+}
+
+/// Whether the job ends with one pick more than its budget.
+fn ends_with_one_more(case: &BudgetCase) -> bool {
+    let report = model::job::run(&case.job, case.budget + 1);
+    report.map_or(false, |report| report.end.is_some())
+}
+
+impl Default for BudgetsCoverage {
+    fn default() -> Self {
+        // Sixteen registers are always there, and 15 is counted with the lengths.
+        let numbers = (0..=question::INTERVAL).chain([question::WORDS]);
+        let mut names: Vec<String> = numbers.map(answer).collect();
+        names.extend((fault::FIRST..=fault::LAST).map(end_fault));
+        for budget in BUDGETS {
+            names.push(with_budget(budget, "refused"));
+            // No job ends without a pick, and these that would be spent run too long.
+            if budget != 0 {
+                names.push(with_budget(budget, "ended"));
+            }
+            if budget != u64::MAX {
+                names.push(with_budget(budget, "spent"));
+            }
+        }
+        names.extend(KINDS.map(final_register));
+        names.extend(NAMES.map(String::from));
+        BudgetsCoverage {
+            jobs: 0,
+            picks: 0,
+            met: Counts::of(names),
+        }
+    }
+}
+
+impl BudgetsCoverage {
+    pub fn count(&mut self, case: &BudgetCase, answered: &Result<Report, u8>) {
+        self.jobs += 1;
+        let number = answered.as_ref().err().copied().unwrap_or(0);
+        self.met.meet(&answer(number));
+        let outcome = match answered {
+            Err(_) => "refused",
+            Ok(Report { end: None, .. }) => "spent",
+            Ok(_) => "ended",
+        };
+        if BUDGETS.contains(&case.budget) {
+            self.met.meet(&with_budget(case.budget, outcome));
+        }
+        if case.report_len != REPORT_BYTES {
+            self.met.meet(match answered {
+                Ok(_) => WRONG_REPORT,
+                Err(_) => WRONG_REPORT_AND_JOB,
+            });
+        }
+        self.met.meet(match answered {
+            _ if case.text_len != TEXT_BYTES => WRONG_TEXT,
+            Err(_) => TEXT_OF_REFUSAL,
+            Ok(_) => TEXT,
+        });
+        if let Ok(report) = answered {
+            self.count_report(case, report);
+        }
+    }
+
+    fn count_report(&mut self, case: &BudgetCase, report: &Report) {
+        self.picks += report.picks;
+        self.met.meet(&end(report));
+        self.met.meet(match report.end {
+            None if case.budget == 0 => SPENT_AT_ONCE,
+            None if ends_with_one_more(case) => SPENT_LAST,
+            None => SPENT,
+            Some(_) if report.picks == case.budget => ENDED_LAST,
+            Some(_) => ENDED,
+        });
+        if report.end.is_none() {
+            return;
+        }
+        for value in report.registers {
+            self.met.meet(&final_register(match value {
+                Value::Int(_) => KINDS[0],
+                Value::Label(_) => KINDS[1],
+                Value::Record(_) => KINDS[2],
+            }));
+        }
+    }
+}
+
+impl Tally for BudgetsCoverage {
+    fn add(&mut self, other: &BudgetsCoverage) {
+        self.jobs += other.jobs;
+        self.picks += other.picks;
+        self.met.add(&other.met);
+    }
+
+    fn cases(&self) -> u64 {
+        self.jobs
+    }
+
+    fn lines(&self) -> Vec<(String, u64)> {
+        self.met.lines()
+    }
+}
+
+impl fmt::Display for BudgetsCoverage {
+    fn fmt(&self, f: &mut fmt::Formatter) -> fmt::Result {
+        self.write_lines(f)?;
+        writeln!(f, "{:>12}  picks", self.picks)?;
+        write!(f, "{:>12}  jobs", self.jobs)
+    }
+}

@@ -1,0 +1,96 @@
+//! Jobs of document 01's 'Tried by hand'.
+
+use crate::assemble::{
+    fork, halt, join, jralloc, jump, op, word, Annotation, Assembly, JobInput, Operand,
+};
+use crate::layout::{pair, program_f, InstructionRecord};
+use crate::product::{product, A, B};
+use model::opcode::{ADD, DIVIDE};
+use Operand::{Int, Lab, Reg};
+
+/// Program F with r0 4.
+pub fn f(places: u8) -> JobInput {
+    JobInput::new(program_f(), places, 0).with_register(0, 4)
+}
+
+/// F at P 2 with other instructions for the parent's sum and the child's move.
+pub fn f_with(parent: InstructionRecord, child: InstructionRecord) -> JobInput {
+    let target = Annotation::JoinTarget {
+        policy: 0,
+        combining: 3,
+        pairs: vec![pair(0, 2)],
+    };
+    let mut f = Assembly::default();
+    f.block(
+        Annotation::None,
+        &[jralloc(1, Lab(2)), fork(1, Lab(1)), parent, join(Reg(1))],
+    );
+    f.block(Annotation::None, &[child, join(Reg(1))]);
+    f.block(target, &[halt()]);
+    f.block(Annotation::None, &[op(ADD, 0, 0, Reg(2)), join(Reg(1))]);
+    JobInput::new(f.image(), 2, 0).with_register(0, 4)
+}
+
+/// Word 0 of an empty call record: fault 33.
+pub fn outside() -> InstructionRecord {
+    word(0, Int(0))
+}
+
+/// Fault 32.
+pub fn by_zero() -> InstructionRecord {
+    op(DIVIDE, 0, 0, Int(0))
+}
+
+/// The product loop of document 002's Figure 2 with b 5.
+pub fn figure_2(a: i64, places: u8, interval: u16) -> JobInput {
+    JobInput::new(product(), places, interval)
+        .with_register(A.into(), a)
+        .with_register(B.into(), 5)
+}
+
+/// A block that jumps to itself.
+pub fn endless() -> JobInput {
+    let mut endless = Assembly::default();
+    endless.block(Annotation::None, &[jump(Lab(0))]);
+    JobInput::new(endless.image(), 1, 0)
+}
+
+/// A job's bytes that are refused with each of the numbers that a job can get; all but the one
+/// thing is as in F.
+pub fn refused() -> Vec<(u8, Vec<u8>)> {
+    let with_image = |change: fn(&mut Vec<u8>)| {
+        let mut input = f(2);
+        change(&mut input.image);
+        input.bytes()
+    };
+    let with = |change: fn(&mut JobInput)| {
+        let mut input = f(2);
+        change(&mut input);
+        input.bytes()
+    };
+    let mut cut_short = f(2).bytes();
+    cut_short.pop();
+    vec![
+        (1, with_image(|image| image.truncate(7))),
+        (2, with_image(|image| image[2] = b'C')),
+        (3, with_image(|image| image[3] = 2)),
+        (4, with_image(|image| image[5] = 0)),
+        (5, with_image(|image| image.truncate(155))),
+        (6, with_image(|image| image[8] = 1)),
+        (7, with_image(|image| image[30] = 3)),
+        (8, with_image(|image| image[48] = 0)),
+        (9, with_image(|image| image[18] = 3)),
+        (10, cut_short),
+        (11, with(|input| input.places = 3)),
+        (12, with(|input| input.interval = 7)),
+        (14, with(|input| input.words = vec![0; 4097])),
+    ]
+}
+
+/// Bytes that pass question 10 and no more: the image is of zeros, so the answer is 2, and there
+/// are too many words. With an image of 65,535 bytes, no longer ones pass.
+pub fn long(image_len: usize) -> Vec<u8> {
+    let mut input = JobInput::new(vec![0; image_len], 1, 0);
+    input.words = vec![0; 65_535];
+    input.bytes()
+}

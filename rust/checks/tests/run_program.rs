@@ -1,0 +1,122 @@
+//! The run program, `target/bin/tpal_run`, on inputs with stored outputs.
+
+use checks::hand::{by_zero, endless, f, f_with, figure_2, long, outside, refused};
+use std::fs;
+use std::io::{ErrorKind, Write};
+use std::path::PathBuf;
+use std::process::{Command, Stdio};
+use std::thread;
+use std::time::Duration;
+
+fn at_the_root(path: &str) -> PathBuf {
+    PathBuf::from(env!("CARGO_MANIFEST_DIR"))
+        .join("../..")
+        .join(path)
+}
+
+/// What the program prints for an input that comes in these parts, with a while between them. It
+/// has status 0 and says nothing else.
+fn printed_for(parts: Vec<Vec<u8>>) -> String {
+    let program = at_the_root("target/bin/tpal_run");
+    let mut child = Command::new(&program)
+        .stdin(Stdio::piped())
+        .stdout(Stdio::piped())
+        .stderr(Stdio::piped())
+        .spawn()
+        .unwrap_or_else(|error| panic!("{}: {}; run `make`", program.display(), error));
+    let mut stdin = child.stdin.take().expect("piped");
+    let writer = thread::spawn(move || {
+        for (number, part) in parts.iter().enumerate() {
+            if number > 0 {
+                thread::sleep(Duration::from_millis(20));
+            }
+            match stdin.write_all(part) {
+                // It need not read what is too long to the end.
+                Err(error) if error.kind() != ErrorKind::BrokenPipe => panic!("{}", error),
+                _ => {}
+            }
+        }
+    });
+    let output = child.wait_with_output().expect("the program ends");
+    writer.join().expect("the input is written");
+    assert!(output.status.success(), "{}", output.status);
+    assert_eq!(output.stderr, b"");
+    String::from_utf8(output.stdout).expect("text")
+}
+
+fn printed(input: &[u8]) -> String {
+    printed_for(vec![input.to_vec()])
+}
+
+fn stored(name: &str) -> String {
+    let path = at_the_root("rust/checks/tests/data").join(name);
+    fs::read_to_string(&path).unwrap_or_else(|error| panic!("{}: {}", path.display(), error))
+}
+
+#[test]
+fn jobs_with_stored_outputs() {
+    let jobs = [
+        ("f.txt", f(2)),
+        ("f_one_place.txt", f(1)),
+        ("f_two_faults.txt", f_with(outside(), by_zero())),
+        ("figure_2_a2_interval_0.txt", figure_2(2, 1, 0)),
+        ("figure_2_a3_interval_8.txt", figure_2(3, 2, 8)),
+        ("figure_2_a4_interval_8.txt", figure_2(4, 2, 8)),
+        ("spent.txt", endless()),
+    ];
+    for (name, input) in jobs {
+        assert_eq!(printed(&input.bytes()), stored(name), "{}", name);
+        assert_eq!(model::job::report(&input.bytes()), stored(name), "{}", name);
+    }
+}
+
+#[test]
+fn refused_jobs() {
+    for (number, job) in refused() {
+        assert_eq!(printed(&job), format!("refused {}\n", number));
+    }
+}
+
+#[test]
+fn input_that_ends_early() {
+    let job = f(2).bytes();
+    for length in [0, 1, 2, 3, 157, 158, 161, 288, 289] {
+        assert!(length < job.len());
+        assert_eq!(printed(&job[..length]), "refused 10\n", "{} bytes", length);
+    }
+}
+
+#[test]
+fn input_that_goes_on() {
+    for extra in [1, 7, 8, 4_096, 100_000, 600_000] {
+        let mut job = f(2).bytes();
+        job.resize(job.len() + extra, 0);
+        assert_eq!(printed(&job), "refused 10\n", "{} bytes more", extra);
+    }
+}
+
+#[test]
+fn input_that_comes_in_parts() {
+    for lengths in [[1, 1, 1], [2, 156, 100], [100, 1, 188], [289, 0, 0]] {
+        let mut rest = f(2).bytes();
+        let mut parts = Vec::new();
+        for length in lengths {
+            parts.push(rest.drain(..length).collect());
+        }
+        parts.push(rest);
+        assert_eq!(printed_for(parts), stored("f.txt"), "{:?}", lengths);
+    }
+}
+
+#[test]
+fn long_inputs() {
+    for image_len in [65_533, 65_534, 65_535] {
+        assert_eq!(printed(&long(image_len)), "refused 2\n");
+    }
+    for extra in [1, 2, 8, 65_536, 2_000_000] {
+        let mut job = long(65_535);
+        assert_eq!(job.len(), 589_950);
+        job.resize(589_950 + extra, 0);
+        assert_eq!(printed(&job), "refused 10\n", "{} bytes more", extra);
+    }
+}
