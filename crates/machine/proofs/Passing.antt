@@ -38,6 +38,50 @@ module _ (m : Machine) where
   none-found (suc n) k quiet =
       rw (firstRunning, quiet k (omega arith) (omega arith)) (none-found n (k + 1) (λ i p q. quiet i (omega arith) (omega arith)) ∙ omega arith)
 
+  -- one that is found runs
+  pub found-runs : (n k : ℕ) → firstRunning m n k < k + n → running (at m (firstRunning m n k)) ≡ true
+  unfolding firstRunning
+  found-runs zero k h = absurd (omega arith)
+  found-runs (suc n) k h = by-test (running (at m k)) (λ e. rw (firstRunning, e) e)
+      (λ e. rw (firstRunning, e) (found-runs n (k + 1) (let g = rw (firstRunning, e) at h in omega arith)))
+
+  -- and where one runs, one is found
+  pub some-found : (n k s : ℕ) → k ≤ s → s < k + n → running (at m s) ≡ true → firstRunning m n k < k + n
+  unfolding firstRunning
+  some-found zero k s a b r = absurd (omega arith)
+  some-found (suc n) k s a b r = by-test (running (at m k)) (λ e. rw (firstRunning, e) (omega arith))
+      (λ e. by-below k s
+      (λ h. let g = some-found n (k + 1) s (omega arith) (omega arith) r in rw (firstRunning, e) (omega arith))
+      (λ h. let g : k ≡ s = omega arith in clash (ap (λ (i : ℕ). running (at m i)) g ∙ r) e))
+
+  -- so the next pick is of a running task, wherever the run stands
+  pub next-runs : (k s : ℕ) → s < m .places → running (at m s) ≡ true → (nextPick m k < m .places) × (running (at m (nextPick m k)) ≡ true)
+  unfolding nextPick
+  next-runs k s below r =
+      let here = firstRunning m (m .places - k) k in
+      by-test (ltb here (m .places))
+      (λ t. let h = ltb-true here (m .places) t in rw t (h, found-runs (m .places - k) k (omega arith)))
+      (λ t. let g = some-found (m .places) 0 s (omega arith) (omega arith) r in rw t (omega arith, found-runs (m .places) 0 g))
+
+  -- from slot 0 on
+  pub next-from-first : nextPick m 0 ≡ firstRunning m (m .places) 0
+  unfolding nextPick
+  next-from-first = rw (whole (m .places)) (either (ltb (firstRunning m (m .places) 0) (m .places)) (firstRunning m (m .places) 0))
+    where
+      whole : (n : ℕ) → n - 0 ≡ n
+      whole n = omega arith
+
+      either : (t : Bool) (n : ℕ) → cond t n n ≡ n
+      either true n = refl
+      either false n = refl
+
+  -- and so from a slot on from which none runs in this pass: from P on, say
+  pub next-when-over : (k : ℕ) → ((i : ℕ) → k ≤ i → i < m .places → running (at m i) ≡ false) → nextPick m k ≡ nextPick m 0
+  unfolding nextPick
+  next-when-over k over =
+      let none = none-found (m .places - k) k (λ i p q. over i p (omega arith)) in
+      rw (none, le-ltb (k + (m .places - k)) (m .places) (omega arith)) (sym next-from-first)
+
 -- The run's next pick is looked for from slot `from` on. `passed` slots were passed over, none of which had a running task, and now
 -- slot k is reached: in the same pass or in the next one.
 pub record Seeks (m : Machine) (from passed k : ℕ) : Type 0 where
@@ -141,11 +185,17 @@ module _ (cells : List ℕ) (words : List ℤ) where
   rests zero r e = refl
   rests (suc n) r e = rw (runs, e)
 
+  -- elsewhere it picks the next running task
+  pub picks-next : (n : ℕ) (r : Run) → stops (r .machine) ≡ false
+      → runs cells words (suc n) r ≡ runs cells words n (pickedAt cells words (nextPick (r .machine) (r .slot)) r)
+  unfolding runs
+  picks-next n r e = rw (runs, e)
+
   pub picks-on : (n : ℕ) (r : Run) (k : ℕ) → 0 < n → stops (r .machine) ≡ false → nextPick (r .machine) (r .slot) ≡ k
       → runs cells words n r ≡ runs cells words (n - 1) (pickedAt cells words k r)
   unfolding runs
   picks-on zero r k h e f = absurd (omega arith)
-  picks-on (suc n) r k h e f = rw (runs, e, f, less-one n)
+  picks-on (suc n) r k h e f = picks-next n r e ∙ rw (f, less-one n)
     where
       less-one : (n : ℕ) → suc n - 1 ≡ n
       less-one n = omega arith

@@ -1,7 +1,7 @@
 -- Where the plain evaluation ends within the limit there is a complete order. Any two complete orders of a job end in the same state,
 -- whole, and carry out the same number of picks in every slot.
 use Prim.Native.Nat.{ℕ, zero, suc, _+_, _-_}
-use mathlib.Core.Path.{_≡_, refl, sym, ap, _∙_, subst⁻¹}
+use mathlib.Core.Path.{_≡_, sym, ap, _∙_, subst⁻¹}
 use mathlib.Core.Bool.{true}
 use mathlib.Core.List.{List, [], _∷_, _++_}
 use native.Mathlib.Omega.{arith}
@@ -22,7 +22,7 @@ use Rattle.machine.proofs.PickLaws.{picked-work}
 use Rattle.machine.proofs.StartLaws.{fresh-shows, fresh-fits}
 use Rattle.orders.specs.Demand.{Job, startOn, played, carriedOut, Agrees}
 use Rattle.orders.specs.Complete.{Complete, SameOutcome, CompleteOrdersAgree, SomeOrderCompletes}
-use Rattle.orders.proofs.Plays.{modelOfJob, FitsJob, freshJob, JobAccepted, job-accepted, started-job, play-fits, played-is, carriedOut-is}
+use Rattle.orders.proofs.Plays.{modelOfJob, FitsJob, freshJob, JobAccepted, job-accepted, started-job, played-on, play-fits, played-is, carriedOut-is}
 use Rattle.orders.proofs.Demand.{demand-3}
 
 -- ---- there is a complete order
@@ -30,8 +30,7 @@ use Rattle.orders.proofs.Demand.{demand-3}
 played-one-more : (j : Job) (ks : List ℕ) (m : Machine) (k : ℕ)
     → played j m (ks ++ (k ∷ [])) ≡ picked (j .cells) (j .words) (played j m ks) k
 unfolding played
-played-one-more j [] m k = refl
-played-one-more j (i ∷ ks) m k = played-one-more j ks (picked (j .cells) (j .words) m i) k
+played-one-more j ks m k = played-on j ks (k ∷ []) m
 
 -- a task is picked as long as work is left: r more picks
 complete-in : (j : Job) (m₀ : Machine) (e : Frame) (W : ℕ) → ((ks : List ℕ) → Agrees j (played j m₀ ks) e W)

@@ -3,4 +3,7 @@ pub mod Plays
 pub mod Demand
 pub mod Complete
 pub mod Shapes
+pub mod Runs
+pub mod Budgets
+pub mod SameEnd
 pub mod Replaying

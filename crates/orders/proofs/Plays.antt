@@ -1,7 +1,7 @@
 -- An order of picks is an order of agreement's model: the same states, and the same picks carried out.
 use Prim.Native.Nat.{ℕ, _+_}
 use mathlib.Core.Path.{_≡_, refl, ap, _∙_}
-use mathlib.Core.List.{List, [], _∷_}
+use mathlib.Core.List.{List, [], _∷_, _++_}
 use Rattle.agreement.specs.Picks.{Model, ifPicked, canPick, pick, play}
 use Rattle.agreement.specs.Picks as model
 use Rattle.task.specs.declared.Frame.{Frame}
@@ -36,6 +36,12 @@ pub started-job : (j : Job) → Accepted j → (m : Machine) → startOn j m ≡
 started-job j e m = started-fresh m (j .cells) (j .places) (j .interval) (j .registers) (j .words) e
 
 -- ---- its orders
+
+-- two orders, one after the other
+pub played-on : (j : Job) (ks ls : List ℕ) (m : Machine) → played j m (ks ++ ls) ≡ played j (played j m ks) ls
+unfolding played
+played-on j [] ls m = refl
+played-on j (k ∷ ks) ls m = played-on j ks ls (picked (j .cells) (j .words) m k)
 
 module _ {j : Job} (start : JobAccepted j) where
   abbrev M : Model Frame Machine

@@ -2,4 +2,5 @@
 pub mod Demand
 pub mod Complete
 pub mod Shapes
+pub mod Runs
 pub mod Replay
