@@ -32,7 +32,7 @@ all: tools $(archive) $(program)
 	cargo build $(in_rust)
 
 run: tools $(program)
-	cargo build --quiet $(in_rust) -p tpasm
+	@cargo build --quiet $(in_rust) -p tpasm
 	@$(assembler) job $(JOB) $(OPTIONS) -o target/run.job
 	@$(program) <target/run.job
 

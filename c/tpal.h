@@ -7,8 +7,9 @@
  * write to a lent buffer during the call.
  *
  * Threads. The engine has no global state, takes no memory from the heap and makes no system
- * calls. Each function may be called from any thread, by several at once. A call on an image takes
- * less than 64 KB of the caller's stack, one on a job less than 512 KB.
+ * calls. Each function may be called from any thread, by several at once. Leave 64 KiB of stack for
+ * a call on an image and 640 KiB for one on a job. docs/api.md has the measured figures, and what
+ * holds in a signal handler; docs/numbers.md says what to do about each number.
  *
  * Answers. 0 is accepted; any other answer is the number of the first question that was answered
  * with no. A refused call leaves the buffer that it would write as it was. Only tpal_job_text
