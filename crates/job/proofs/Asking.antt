@@ -3,16 +3,29 @@ use mathlib.Core.Path.{_≡_, sym, ap, _∙_}
 use mathlib.Core.Bool.{true}
 use mathlib.Core.List.{List}
 use Prim.Native.Nat.{ℕ}
+use lib.ListN.{length}
 use Rattle.image.specs.Layout.{cellsIn}
-use Rattle.image.specs.Questions.{orElse}
-use Rattle.image.specs.Doors.{imageNo}
-use Rattle.image.proofs.Asked.{ask-yes, or-else-no, or-else-yes}
-use Rattle.machine.specs.Starting.{startNoBy}
+use Rattle.image.specs.Doors.{imageNo, writeNo}
+use Rattle.image.proofs.Asked.{ask-yes, or-else-no, or-else-yes, or-else-both}
+use Rattle.image.specs.Questions.{orElse, programNo}
+use Rattle.image.proofs.RoundTrip.{read-writes}
+use Rattle.machine.specs.Starting.{settingsNo, startNoBy}
 use Rattle.job.specs.Job.{jobImage, jobPlaces, jobInterval, wordCount, endsExactly, lengthNo, jobNo}
 
 -- an input that question 10 lets pass ends exactly
 pub length-asked : (bytes : List ℕ) (r : ℕ) → r ≡ lengthNo bytes → r ≡ 0 → endsExactly bytes ≡ true
 length-asked bytes r e z = ask-yes (endsExactly bytes) 9 0 (sym e ∙ z) .0
+
+-- the program of an accepted image was asked about by the reader
+pub read-program : (image : List ℕ) → imageNo image ≡ 0 → programNo (cellsIn image) ≡ 0
+unfolding writeNo
+read-program image e = or-else-both (programNo (cellsIn image)) _ (read-writes image e) .0
+
+-- so start's own questions are left
+pub settings-left : (cells : List ℕ) (places interval registers words : ℕ) → programNo cells ≡ 0
+    → settingsNo places interval registers words (length cells) ≡ startNoBy cells places interval registers words
+unfolding startNoBy
+settings-left cells places interval registers words e = sym (or-else-yes (programNo cells) _ e)
 
 module _ (bytes : List ℕ) where
   abbrev start : ℕ

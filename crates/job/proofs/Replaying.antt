@@ -48,7 +48,7 @@ module _ (bytes : List ℕ) (accepted : jobNo bytes ≡ 0) where
 
   module _ (order cells : List ℕ) (places interval : ℕ) (registers words : List ℤ) (answer : ℕ) (m : Machine) (p : cells ≡ cellsIn (jobImage bytes))
       (q : places ≡ jobPlaces bytes) (r : interval ≡ jobInterval bytes) (s : registers ≡ jobRegisters bytes) (t : words ≡ jobWords bytes) where
-    pub same-job : jobOf cells places interval registers words ≡ jobIn bytes
+    same-job : jobOf cells places interval registers words ≡ jobIn bytes
     same-job = λ i. record { cells = p i; places = q i; interval = r i; registers = s i; words = t i }
 
     pub replay-agrees : answer ≡ startNo cells places interval registers words → m ≡ replayed answer (jobOf cells places interval registers words) order

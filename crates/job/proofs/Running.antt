@@ -1,70 +1,64 @@
--- An accepted job, run: its fresh start meets the run's questions, so the run is that of the definition.
-use mathlib.Core.Path.{_≡_, sym, ap, _∙_, subst}
-use mathlib.Core.Bool.{Bool, true, cond}
-use mathlib.Core.List.{List, []}
-use Prim.Native.Nat.{ℕ}
-use lib.Dec.{eqb, leb}
+-- An accepted job, run: its fresh start is a state of the shape, and the loop from there is the run of the definition. And the text.
+use mathlib.Core.Path.{_≡_, sym, ap, _∙_, subst⁻¹}
+use mathlib.Core.Bool.{true, cond}
+use mathlib.Core.List.{List}
+use Prim.Native.Nat.{ℕ, _^_, _<_}
+use native.Mathlib.Omega.{arith}
+use lib.Dec.{eqb}
 use lib.IntN.{ℤ}
 use lib.ListN.{length}
 use lib.Seq.{sets}
-use borrow.Author.Tests.{eq-eqb, ne-eqb}
+use borrow.Author.Tests.{eq-eqb, ne-eqb, eqb-true}
 use Rattle.image.specs.Layout.{programCells, cellsIn}
-use Rattle.image.specs.Questions.{programNo, orElse}
+use Rattle.image.specs.Questions.{programNo}
 use Rattle.machine.specs.declared.Machine.{Machine}
-use Rattle.machine.specs.declared.Outcome.{Outcome}
-use Rattle.machine.specs.Starting.{startNo, started, empty}
+use Rattle.machine.specs.declared.Driven.{Driven}
+use Rattle.machine.specs.Starting.{fresh, empty}
 use Rattle.machine.specs.Shape.{shape}
-use Rattle.machine.specs.Picking.{stateNoBy, stateNo}
-use Rattle.machine.specs.Running.{outcome}
-use Rattle.machine.proofs.PickLaws.{Lent}
-use Rattle.machine.proofs.StartLaws.{StartAccepted, start-accepted}
-use Rattle.orders.specs.Demand.{Job, startOn, played}
-use Rattle.orders.specs.Shapes.{Meets}
-use Rattle.orders.specs.Replay.{jobOf}
-use Rattle.orders.proofs.Shapes.{every-order-meets}
+use Rattle.machine.specs.Running.{driven}
+use Rattle.machine.proofs.Intervals.{interval-fits}
+use Rattle.machine.proofs.Owning.{places-some}
+use Rattle.machine.proofs.ShapeLaws.{Fits, fits-shape}
+use Rattle.machine.proofs.StartLaws.{StartAccepted, start-accepted, started-fresh, fresh-fits}
+use Rattle.orders.specs.Demand.{Job, startOn}
 use Rattle.report.specs.declared.Report.{Report}
 use Rattle.report.specs.Report.{reportOf}
+use Rattle.report.specs.Text.{textOf, refusedText, textRoom}
 use Rattle.job.specs.Job.{jobImage, jobPlaces, jobInterval, jobRegisters, jobWords, jobNo}
 use Rattle.job.specs.Replay.{jobIn}
-use Rattle.report.specs.Text.{textOf, refusedText, textRoom}
 use Rattle.job.specs.Run.{reportIn, textIn, textLength, textStored}
-use Rattle.job.proofs.Replaying.{start-agrees, same-job}
-
--- the questions of a run, answered one by one
-passes : (cells : List ℕ) (words : List ℤ) (m : Machine) → programNo cells ≡ 0 → Lent cells words → shape cells m ≡ true → stateNo cells words m ≡ 0
-unfolding stateNoBy orElse
-passes cells words m e lent s = rw (e, lent .few-words, lent .whole, s)
-
-start-meets : (j : Job) → startNo (j .cells) (j .places) (j .interval) (j .registers) (j .words) ≡ 0 → (m : Machine) → Meets (j .cells) (startOn j m)
-unfolding played
-start-meets j a m = every-order-meets j a m []
+use Rattle.job.proofs.Replaying.{start-agrees}
 
 module _ (bytes : List ℕ) (accepted : jobNo bytes ≡ 0) where
   abbrev j : Job
   j = jobIn bytes
 
-  abbrev first : Machine
-  first = startOn j (empty 0 0)
+  start : StartAccepted (j .cells) (j .places) (j .interval) (j .registers) (j .words)
+  start = start-accepted (j .cells) (j .places) (j .interval) (j .registers) (j .words) (start-agrees bytes accepted)
 
-  start-passes : stateNo (j .cells) (j .words) first ≡ 0
-  start-passes =
-      let a = start-agrees bytes accepted in
-      let s = start-accepted (j .cells) (j .places) (j .interval) (j .registers) (j .words) a in
-      passes (j .cells) (j .words) first (s .allowed .program) (s .lent) (start-meets j a (empty 0 0) .shaped)
+  pub interval-small : jobInterval bytes < 2 ^ 16
+  interval-small = interval-fits (jobInterval bytes) (start .allowed .interval-allowed)
 
-  outcome-run : (budget : ℕ) → reportOf (outcome (j .cells) (j .words) first budget .machine) (outcome (j .cells) (j .words) first budget .picks) ≡ reportIn bytes budget
-  unfolding outcome
-  outcome-run budget = rw start-passes
+  module _ {cells : List ℕ} {places interval : ℕ} {registers : List ℤ} (p : cells ≡ cellsIn (jobImage bytes)) (q : places ≡ jobPlaces bytes)
+      (r : interval ≡ jobInterval bytes) (s : registers ≡ jobRegisters bytes) {m : Machine} (e : m ≡ fresh places interval registers) where
+    its-state : m ≡ fresh (j .places) (j .interval) (j .registers)
+    its-state = e ∙ (λ i. fresh (q i) (r i) (s i))
 
-  module _ (cells : List ℕ) (places interval : ℕ) (registers words : List ℤ) (p : cells ≡ cellsIn (jobImage bytes)) (q : places ≡ jobPlaces bytes)
-      (r : interval ≡ jobInterval bytes) (s : registers ≡ jobRegisters bytes) (t : words ≡ jobWords bytes) where
-    pub run-agrees : (budget : ℕ) {m : Machine} {o : Outcome} {report : Report} → m ≡ started (empty 0 0) cells places interval registers words
-        → o ≡ outcome cells words m budget → report ≡ reportOf (o .machine) (o .picks) → report ≡ reportIn bytes budget
-    run-agrees budget e f g =
-        g ∙ ap (λ (o : Outcome). reportOf (o .machine) (o .picks)) (f ∙ ap (λ (n : Machine). outcome cells words n budget) e)
-        ∙ ap (λ (i : Job). reportOf (outcome (i .cells) (i .words) (startOn i (empty 0 0)) budget .machine) (outcome (i .cells) (i .words) (startOn i (empty 0 0)) budget .picks))
-        (same-job bytes accepted [] cells places interval registers words 0 (empty 0 0) p q r s t)
-        ∙ outcome-run budget
+    -- what the loop asks of a fresh start
+    pub fresh-ready : (programNo cells ≡ 0) × (length cells ≡ programCells) × (shape cells m ≡ true) × (0 < m .places)
+    fresh-ready =
+        let x : Fits (j .cells) (j .interval) (j .places) m = subst⁻¹ (Fits (j .cells) (j .interval) (j .places)) its-state (fresh-fits start) in (
+          ap programNo p ∙ start .allowed .program,
+          ap length p ∙ eqb-true (length (j .cells)) programCells (start .lent .whole),
+          ap (λ (c : List ℕ). shape c m) p ∙ fits-shape (start .allowed) m x,
+          omega (arith, x .its-places, places-some (j .places) (start .allowed .places-allowed)),
+        )
+
+    pub run-agrees : {words : List ℤ} (t : words ≡ jobWords bytes) (budget : ℕ) {d : Driven} {report : Report} → d ≡ driven cells words m 0 budget
+        → report ≡ reportOf (d .machine) (d .picks) → report ≡ reportIn bytes budget
+    run-agrees t budget f g =
+        let first : m ≡ startOn j (empty 0 0) = its-state ∙ sym (started-fresh (empty 0 0) (j .cells) (j .places) (j .interval) (j .registers) (j .words) (start-agrees bytes accepted)) in
+        g ∙ ap (λ (o : Driven). reportOf (o .machine) (o .picks)) (f ∙ (λ i. driven (p i) (t i) (first i) 0 budget))
 
 -- ---- the text
 

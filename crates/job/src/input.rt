@@ -98,7 +98,8 @@ pub fn read_words(job: &[u8], out: &mut [i64])
     read_numbers(job, at, out);
 }
 
-// All questions of a job. Where all are answered with yes, the cells are the image's program.
+// All questions of a job. Where all are answered with yes, the cells are the image's program; the reader has put its questions, so start's
+// own are left.
 pub fn ask_job(job: &[u8], cells: &mut [u64]) -> u8
     requires { ⌜ now cells ≡ replicate programCells 0 ⌝ }
     ensures { λ r. ⌜ r ≡ jobNo (now (job .entry)) ⌝ }
@@ -114,5 +115,5 @@ pub fn ask_job(job: &[u8], cells: &mut [u64]) -> u8
     }
     let places = places_of(job);
     let interval = interval_of(job);
-    machine::start::ask_start(cells, places, interval, 16, word_count(job))
+    machine::start::ask_settings(places, interval, 16, word_count(job), cells.len())
 }

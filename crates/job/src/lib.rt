@@ -69,7 +69,8 @@ pub extern "C" fn tpal_replay(job: &[u8], order: &[u8], state: &mut [u8]) -> u8
     0
 }
 
-// An accepted job's run, whose words go to the lent slice.
+// An accepted job's run, whose words go to the lent slice. The questions of start and run have all been put, and a fresh start meets the
+// shape test: so it goes on without them.
 fn run_job(job: &[u8], cells: &[u64], words: &mut [i64], budget: u64) -> Report
     requires { ⌜ (jobNo (now job) ≡ 0) × (now cells ≡ cellsIn (jobImage (now job))) × (length (now words) ≡ wordCount (now job)) ⌝ }
     ensures { λ r. ⌜ r ≡ reportIn (now (job .entry)) budget ⌝ }
@@ -79,11 +80,10 @@ fn run_job(job: &[u8], cells: &[u64], words: &mut [i64], budget: u64) -> Report
     input::read_words(job, words);
     let places = input::places_of(job);
     let interval = input::interval_of(job);
-    let answer = Machine::blank().start(cells, places, interval, &registers, words);
-    let fresh = answer.machine;
-    let outcome = fresh.run(cells, words, budget);
-    let machine = outcome.machine;
-    report::report_of(machine, outcome.picks)
+    let fresh = machine::start::fresh_machine(places, interval as u16, &registers);
+    let driven = machine::drive::drive(cells, words, fresh, 0, budget);
+    let last = driven.machine;
+    report::report_of(last, driven.picks)
 }
 
 // Runs a job, given by its bytes, with this budget, and writes its report into `out`, which has 424 bytes (15). A refusal leaves `out` as

@@ -29,16 +29,20 @@ placesAllowed places = ltb (rank places) 7
 abbrev pub intervalAllowed : ℕ → Bool
 intervalAllowed interval = eqb interval 0 || (leb 8 interval && leb interval 65535)
 
--- The program's questions, then P allowed? (11) Interval 0 or 8 to 65,535? (12) Sixteen registers? (13) At most 4,096 words? (14)
--- Every lent buffer of the length docs/ names? (15) Of registers and words only their number counts
-unfoldable pub startNoBy : List ℕ → ℕ → ℕ → ℕ → ℕ → ℕ
-startNoBy cells places interval registers words =
-    orElse (programNo cells)
-    (ask (placesAllowed places) 11
+-- P allowed? (11) Interval 0 or 8 to 65,535? (12) Sixteen registers? (13) At most 4,096 words? (14) Every lent buffer of the length docs/
+-- names? (15) Of registers, words and the program buffer only their number counts
+abbrev pub settingsNo : ℕ → ℕ → ℕ → ℕ → ℕ → ℕ
+settingsNo places interval registers words cells =
+    ask (placesAllowed places) 11
     (ask (intervalAllowed interval) 12
     (ask (eqb registers 16) 13
     (ask (leb words 4096) 14
-    (ask (eqb (length cells) programCells) 15 0)))))
+    (ask (eqb cells programCells) 15 0))))
+
+-- the program's questions first
+unfoldable pub startNoBy : List ℕ → ℕ → ℕ → ℕ → ℕ → ℕ
+startNoBy cells places interval registers words =
+    orElse (programNo cells) (settingsNo places interval registers words (length cells))
 
 abbrev pub startNo : List ℕ → ℕ → ℕ → List ℤ → List ℤ → ℕ
 startNo cells places interval registers words = startNoBy cells places interval (length registers) (length words)

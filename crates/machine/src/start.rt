@@ -12,7 +12,7 @@ ghost use lib.ListN.{length};
 ghost use lib.Seq.{sets};
 ghost use Rattle.task.specs.Frames.{zeroRegister, integers};
 ghost use Rattle.codes.specs.Stretches.{reads};
-ghost use Rattle.machine.specs.Starting.{rank, placesAllowed, intervalAllowed, startNoBy, startNo, empty, fresh, started};
+ghost use Rattle.machine.specs.Starting.{rank, placesAllowed, intervalAllowed, settingsNo, startNoBy, startNo, empty, fresh, started};
 
 // The power of two that P is, or 7 where P is not allowed.
 pub fn rank_of(places: u64) -> usize
@@ -55,14 +55,10 @@ pub fn allows_interval(interval: u64) -> bool
     interval <= 65535
 }
 
-// Start's questions. They look at the lengths of registers and words alone.
-pub fn ask_start(cells: &[u64], places: u64, interval: u64, registers: usize, words: usize) -> u8
-    ensures { λ r. ⌜ r ≡ startNoBy (now (cells .entry)) places interval registers words ⌝ }
+// Start's own questions. Of registers, words and the program buffer only their number counts.
+pub fn ask_settings(places: u64, interval: u64, registers: usize, words: usize, cells: usize) -> u8
+    ensures { λ r. ⌜ r ≡ settingsNo places interval registers words cells ⌝ }
 {
-    let no = image::questions::ask_program(cells);
-    if no != 0 {
-        return no;
-    }
     if 7 <= rank_of(places) {
         return 11;
     }
@@ -75,10 +71,21 @@ pub fn ask_start(cells: &[u64], places: u64, interval: u64, registers: usize, wo
     if 4096 < words {
         return 14;
     }
-    if cells.len() != 5890 {
+    if cells != 5890 {
         return 15;
     }
     0
+}
+
+// Start's questions: the program's first.
+pub fn ask_start(cells: &[u64], places: u64, interval: u64, registers: usize, words: usize) -> u8
+    ensures { λ r. ⌜ r ≡ startNoBy (now (cells .entry)) places interval registers words ⌝ }
+{
+    let no = image::questions::ask_program(cells);
+    if no != 0 {
+        return no;
+    }
+    ask_settings(places, interval, registers, words, cells.len())
 }
 
 // A state with no task.
@@ -129,8 +136,8 @@ fn with_registers(bank: [Register; 1024], registers: &[i64]) -> [Register; 1024]
     filled
 }
 
-// One task in slot 0, with the start registers, all places, and block 0 to begin with.
-fn fresh_machine(places: u64, interval: u16, registers: &[i64]) -> Machine
+// One task in slot 0, with the start registers, all places, and block 0 to begin with. Start and `job` call it, after start's questions.
+pub fn fresh_machine(places: u64, interval: u16, registers: &[i64]) -> Machine
     requires { ⌜ length (now registers) ≡ 16 ⌝ }
     ensures { λ r. ⌜ r ≡ fresh places interval (now (registers .entry)) ⌝ }
 {

@@ -1,10 +1,9 @@
 -- `run_job` meets its contract.
-use mathlib.Core.Path.{refl, ap, _∙_}
-use Rattle.machine.specs.Starting.{empty, started}
-use Rattle.machine.specs.declared.Machine.{Machine}
+use mathlib.Core.Path.{refl, sym, subst⁻¹}
 use Rattle.job.proofs.Replaying.{accepted-ends}
-use Rattle.job.proofs.Running.{run-agrees}
+use Rattle.job.proofs.Running.{interval-small, fresh-ready, run-agrees}
 use borrow.Author.Needs.{needs}
+use native.Mathlib.Omega.{arith}
 use Rattle.job.proofs.run_job.Statement.{statement}
 use Rattle.job.proofs.run_job.Tie as tie
 
@@ -23,17 +22,17 @@ places-of-requires c κs = (accepted-ends (c .before .before .before .before .be
 interval-of-requires : tie.Need-interval-of-requires
 interval-of-requires c κs = (accepted-ends (c .before .before .before .before .before .before .before .before .before .args .job .now) (c .before .before .before .before .before .before .before .before .before .pre .0))
 
-blank-requires : tie.Need-blank-requires
-blank-requires c κs = search needs
+cast-fresh-machine : tie.Need-cast-fresh-machine
+cast-fresh-machine c = record { fits = omega (arith, c .interval-of .ensures, interval-small (c .before .before .before .before .before .before .before .before .before .before .args .job .now) (c .before .before .before .before .before .before .before .before .before .before .pre .0)) }
 
-slice-aggregate-start : tie.Need-slice-aggregate-start
-slice-aggregate-start c = search needs
+slice-aggregate-fresh-machine : tie.Need-slice-aggregate-fresh-machine
+slice-aggregate-fresh-machine c = search needs
 
-start-requires : tie.Need-start-requires
-start-requires c κs = search needs
+fresh-machine-requires : tie.Need-fresh-machine-requires
+fresh-machine-requires c κs = search needs
 
-run-requires : tie.Need-run-requires
-run-requires c κs = search needs
+drive-requires : tie.Need-drive-requires
+drive-requires c κs = fresh-ready (c .before .before .before .before .before .before .before .before .before .before .before .before .before .args .job .now) (c .before .before .before .before .before .before .before .before .before .before .before .before .before .pre .0) (c .before .before .before .before .before .before .before .before .before .before .before .before .before .pre .1) (c .before .before .before .before .places-of .ensures) (c .before .before .before .interval-of .ensures) (c .before .before .before .before .before .before .before .before .before .read-registers .ensures) (c .before .fresh-machine .ensures)
 
 report-of-requires : tie.Need-report-of-requires
 report-of-requires c κs = search needs
@@ -42,11 +41,7 @@ same-length : tie.Need-same-length
 same-length c = search needs
 
 returns : tie.Need-returns
-returns c =
-    run-agrees (c .before .before .before .before .before .before .before .before .before .before .before .before .before .before .before .before .before .before .before .args .job .now) (c .before .before .before .before .before .before .before .before .before .before .before .before .before .before .before .before .before .before .before .pre .0) (c .before .before .before .before .before .before .before .before .before .before .before .before .before .before .before .before .before .before .before .args .cells .now) (c .before .before .before .before .before .before .before .before .before .before .places-of .result) (c .before .before .before .before .before .before .before .before .before .interval-of .result) (c .before .before .before .before .before .before .before .before .before .before .before .before .before .before .before .read-registers .last .1 .0) (c .before .before .before .before .before .before .before .before .before .before .before .before .read-words .last .1 .0)
-    (c .before .before .before .before .before .before .before .before .before .before .before .before .before .before .before .before .before .before .before .pre .1) (c .before .before .before .before .before .before .before .before .before .before .places-of .ensures) (c .before .before .before .before .before .before .before .before .before .interval-of .ensures) (c .before .before .before .before .before .before .before .before .before .before .before .before .before .before .before .read-registers .ensures) (c .before .before .before .before .before .before .before .before .before .before .before .before .read-words .ensures) (c .before .before .before .before .before .before .before .before .before .before .before .before .before .before .before .before .before .before .before .args .budget)
-    (c .before .before .before .before .before .start .ensures .1 ∙ ap (λ (m : Machine). started m (c .before .before .before .before .before .before .before .before .before .before .before .before .before .before .before .before .before .before .before .args .cells .now) (c .before .before .before .before .before .before .before .before .before .before .places-of .result) (c .before .before .before .before .before .before .before .before .before .interval-of .result) (c .before .before .before .before .before .before .before .before .before .before .before .before .before .before .before .read-registers .last .1 .0) (c .before .before .before .before .before .before .before .before .before .before .before .before .read-words .last .1 .0)) (c .before .before .before .before .before .before .before .before .blank .ensures))
-    (c .before .before .run .ensures) (c .report-of .ensures)
+returns c = run-agrees (c .before .before .before .before .before .before .before .before .before .before .before .before .before .before .before .before .args .job .now) (c .before .before .before .before .before .before .before .before .before .before .before .before .before .before .before .before .pre .0) (c .before .before .before .before .before .before .before .before .before .before .before .before .before .before .before .before .pre .1) (c .before .before .before .before .before .before .before .places-of .ensures) (c .before .before .before .before .before .before .interval-of .ensures) (c .before .before .before .before .before .before .before .before .before .before .before .before .read-registers .ensures) (c .before .before .before .before .fresh-machine .ensures) (c .before .before .before .before .before .before .before .before .before .read-words .ensures) (c .before .before .before .before .before .before .before .before .before .before .before .before .before .before .before .before .args .budget) (c .before .before .drive .ensures) (c .report-of .ensures)
 
 pub run-job-spec : {M : Type 1} → statement M
 run-job-spec =
@@ -57,10 +52,10 @@ run-job-spec =
     read-words-requires
     places-of-requires
     interval-of-requires
-    blank-requires
-    slice-aggregate-start
-    start-requires
-    run-requires
+    cast-fresh-machine
+    slice-aggregate-fresh-machine
+    fresh-machine-requires
+    drive-requires
     report-of-requires
     same-length
     returns)

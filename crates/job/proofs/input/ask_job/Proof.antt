@@ -1,8 +1,10 @@
 -- `ask_job` meets its contract.
 use mathlib.Core.Path.{sym, ap, _∙_}
 use Rattle.image.specs.Layout.{cellsIn}
+use Rattle.image.specs.Questions.{programNo}
 use Rattle.image.specs.Doors.{imageNo}
-use Rattle.job.proofs.Asking.{length-asked, refused-by-length, refused-by-image, answered-by-start}
+use Rattle.job.specs.Job.{jobImage}
+use Rattle.job.proofs.Asking.{length-asked, refused-by-length, refused-by-image, answered-by-start, read-program, settings-left}
 use borrow.Author.Needs.{needs}
 use Rattle.job.proofs.input.ask_job.Statement.{statement}
 use Rattle.job.proofs.input.ask_job.Tie as tie
@@ -32,17 +34,20 @@ interval-of-requires : tie.Need-interval-of-requires
 interval-of-requires c κs = (length-asked (c .before .before .before .before .before .before .before .before .before .before .before .args .job .now) (c .before .before .before .before .before .before .before .before .ask-length .result) (c .before .before .before .before .before .before .before .before .ask-length .ensures) (c .before .before .before .before .before .before .before .if1 .left))
 
 word-count-requires : tie.Need-word-count-requires
-word-count-requires c κs = (length-asked (c .before .before .before .before .before .before .before .before .before .before .before .before .before .args .job .now) (c .before .before .before .before .before .before .before .before .before .before .ask-length .result) (c .before .before .before .before .before .before .before .before .before .before .ask-length .ensures) (c .before .before .before .before .before .before .before .before .before .if1 .left))
+word-count-requires c κs = (length-asked (c .before .before .before .before .before .before .before .before .before .before .before .before .args .job .now) (c .before .before .before .before .before .before .before .before .before .ask-length .result) (c .before .before .before .before .before .before .before .before .before .ask-length .ensures) (c .before .before .before .before .before .before .before .before .if1 .left))
 
-ask-start-requires : tie.Need-ask-start-requires
-ask-start-requires c κs = search needs
+ask-settings-requires : tie.Need-ask-settings-requires
+ask-settings-requires c κs = search needs
 
 same-length-2 : tie.Need-same-length-2
 same-length-2 c = search needs
 
 returns-3 : tie.Need-returns-3
-returns-3 c = let held = c .before .before .before .before .before .before .before .before .scan .ensures .1 (c .before .before .before .before .before .if2 .left) ∙ ap cellsIn (c .before .before .before .before .before .before .before .before .before .before .image-of .ensures) in
-    (answered-by-start (c .before .before .before .before .before .before .before .before .before .before .before .before .before .before .before .args .job .now) (sym (c .before .before .before .before .before .before .before .before .before .before .before .before .ask-length .ensures) ∙ c .before .before .before .before .before .before .before .before .before .before .before .if1 .left) _ _ _ _ (c .ask-start .result) (sym (c .before .before .before .before .before .before .before .before .scan .ensures .0 ∙ ap imageNo (c .before .before .before .before .before .before .before .before .before .before .image-of .ensures)) ∙ c .before .before .before .before .before .if2 .left) held (c .before .before .before .before .places-of .ensures) (c .before .before .before .interval-of .ensures) (c .before .word-count .ensures .0) (c .ask-start .ensures), λ e. held)
+returns-3 c =
+    let passed = sym (c .before .before .before .before .before .before .before .scan .ensures .0 ∙ ap imageNo (c .before .before .before .before .before .before .before .before .before .image-of .ensures)) ∙ c .before .before .before .before .if2 .left in
+    let held = c .before .before .before .before .before .before .before .scan .ensures .1 (c .before .before .before .before .if2 .left) ∙ ap cellsIn (c .before .before .before .before .before .before .before .before .before .image-of .ensures) in
+    let program = ap programNo held ∙ read-program (jobImage (c .before .before .before .before .before .before .before .before .before .before .before .before .before .before .args .job .now)) passed in
+    (answered-by-start (c .before .before .before .before .before .before .before .before .before .before .before .before .before .before .args .job .now) (sym (c .before .before .before .before .before .before .before .before .before .before .before .ask-length .ensures) ∙ c .before .before .before .before .before .before .before .before .before .before .if1 .left) _ _ _ _ (c .ask-settings .result) passed held (c .before .before .before .places-of .ensures) (c .before .before .interval-of .ensures) (c .before .word-count .ensures .0) (c .ask-settings .ensures ∙ settings-left _ _ _ 16 _ program), λ e. held)
 
 pub ask-job-spec : {M : Type 1} → statement M
 ask-job-spec =
@@ -57,6 +62,6 @@ ask-job-spec =
     places-of-requires
     interval-of-requires
     word-count-requires
-    ask-start-requires
+    ask-settings-requires
     same-length-2
     returns-3)
