@@ -74,25 +74,30 @@ module _ {F S : Type 0} (M : Model F S) (K : Forms F S) (laws : Laws M K) where
     pub aligned : Aligned k height
     pub formed : Formed height (at m k)
     pub room : height ≤ D
+    -- its other slots have no task
+    pub alone : (i : ℕ) → k < i → i < k + 2 ^ height → running (at m i) ≡ false
+    pub inside : k + 2 ^ height ≤ 2 ^ D
 
   first-slot : {m : S} {b h k : ℕ} {f : F} → Lone slots K m b h f → b ≤ k → k < b + 2 ^ h → running (at m k) ≡ true → k ≡ b
   first-slot {m} {b} {h} {k} l p q r = by-below b k (λ x. clash r (laws .empty-idle (at m k) (l .empty k x q))) (λ x. omega arith)
 
-  stands-in : (T : Tree F) (m : S) (b h : ℕ) → Aligned b h → h ≤ D → Holds slots K m b h T → (k : ℕ) → b ≤ k → k < b + 2 ^ h → running (at m k) ≡ true
-      → Stands m k
-  stands-in (leaf f) m b h a top l k p q r =
+  stands-in : (T : Tree F) (m : S) (b h : ℕ) → Aligned b h → h ≤ D → b + 2 ^ h ≤ 2 ^ D → Holds slots K m b h T → (k : ℕ) → b ≤ k → k < b + 2 ^ h
+      → running (at m k) ≡ true → Stands m k
+  stands-in (leaf f) m b h a top end l k p q r =
       let e : k ≡ b = first-slot l p q r in
       record {
         height = h;
         aligned = subst (λ (n : ℕ). Aligned n h) (sym e) a;
         formed = subst (λ (n : ℕ). Formed h (at m n)) (sym e) (subst (λ (g : F). Formed h g) (sym (l .here)) (l .formed));
         room = top;
+        alone = λ i x y. laws .empty-idle (at m i) (l .empty i (omega arith) (omega arith));
+        inside = omega arith;
       }
-  stands-in (node x y) m b zero a top l k p q r = absurd l
-  stands-in (node x y) m b (suc h) a top l k p q r =
+  stands-in (node x y) m b zero a top end l k p q r = absurd l
+  stands-in (node x y) m b (suc h) a top end l k p q r =
       by-below k (b + 2 ^ h)
-      (λ z. stands-in x m b h (aligned-lower a) (omega arith) (l .0) k p z r)
-      (λ z. stands-in y m (b + 2 ^ h) h (aligned-upper a) (omega arith) (l .1) k z (omega arith) r)
+      (λ z. stands-in x m b h (aligned-lower a) (omega arith) (omega (arith, pow-pos h)) (l .0) k p z r)
+      (λ z. stands-in y m (b + 2 ^ h) h (aligned-upper a) (omega arith) (omega arith) (l .1) k z (omega arith) r)
 
   pub stands : (T : Tree F) (m : S) → Shows slots K m T → (k : ℕ) → k < 2 ^ D → running (at m k) ≡ true → Stands m k
-  stands T m s k below r = stands-in T m 0 D (aligned-zero D) (omega arith) (s .holds) k (omega arith) (omega arith) r
+  stands T m s k below r = stands-in T m 0 D (aligned-zero D) (omega arith) (omega arith) (s .holds) k (omega arith) (omega arith) r

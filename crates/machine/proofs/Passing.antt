@@ -3,9 +3,10 @@ use mathlib.Core.Path.{_≡_, refl, sym, ap, _∙_}
 use mathlib.Core.Logic.{_⊎_, inl, inr}
 use mathlib.Core.Bool.{Bool, true, false, cond, not, _&&_, _||_}
 use mathlib.Core.List.{List}
-use Prim.Native.Nat.{ℕ, zero, suc, _+_, _-_, _<_, _≤_}
+use Prim.Native.Nat.{ℕ, zero, suc, _+_, _-_, _^_, _<_, _≤_}
 use native.Mathlib.Omega.{arith}
 use lib.Dec.{ltb}
+use lib.Pow.{pow-pos}
 use lib.IntN.{ℤ}
 use borrow.Author.Tests.{ltb-true, ltb-false, lt-ltb, le-ltb}
 use Rattle.agreement.specs.Facts.{clash, both-true, by-test, by-below}
@@ -13,12 +14,15 @@ use Rattle.task.specs.Frames.{running}
 use Rattle.machine.specs.declared.Machine.{Machine}
 use Rattle.machine.specs.Slots.{at}
 use Rattle.machine.specs.Ending.{jobEnded}
+use Rattle.machine.specs.Starting.{rank}
 use Rattle.machine.specs.Picking.{workLimit, issued}
 use Rattle.machine.specs.Running.{Run, firstRunning, nextPick, stops, pickedAt, runs}
 use Rattle.machine.specs.Driving.{goesOn, nextSlot}
+use Rattle.machine.proofs.RankLaws.{rank-power}
 use Rattle.machine.proofs.Models.{Allowed}
 use Rattle.machine.proofs.ShapeLaws.{Fits}
 use Rattle.machine.proofs.PickLaws.{issued-fits}
+use Rattle.machine.proofs.Carrying.{stand}
 use Rattle.machine.proofs.Quiet.{running-open, quiet-ended}
 
 -- ---- the search for the next running task
@@ -156,6 +160,17 @@ begins-after m k places same below = record {
   reached = λ few. rw same (by-below (k + 1) (m .places) (λ b. rw (lt-ltb (k + 1) (m .places) b) (inl (omega arith)))
       (λ b. rw (le-ltb (k + 1) (m .places) b) (inr (omega arith))));
   this-pass = λ i p q b. absurd (omega arith);
+  next-pass = λ i q. absurd (omega arith);
+}
+
+-- behind the w places of a task at slot k, which is alone in them
+behind : (m : Machine) (k w places : ℕ) → places ≡ m .places → 0 < w → k + w ≤ m .places → ((i : ℕ) → k < i → i < k + w → running (at m i) ≡ false)
+    → Seeks m (k + 1) (w - 1) (nextSlot places (k + w - 1))
+behind m k w places same some fits quiet = record {
+  from-most = omega arith;
+  reached = λ few. rw same (by-below (k + w - 1 + 1) (m .places) (λ b. rw (lt-ltb (k + w - 1 + 1) (m .places) b) (inl (omega arith)))
+      (λ b. rw (le-ltb (k + w - 1 + 1) (m .places) b) (inr (omega arith))));
+  this-pass = λ i p q b. quiet i (omega arith) (omega arith);
   next-pass = λ i q. absurd (omega arith);
 }
 
@@ -301,6 +316,29 @@ module _ (cells : List ℕ) (words : List ℤ) where
         where
           found : nextPick m (head .from) ≡ k
           found = by-below (head .passed) (m .places) (λ few. finds (head .seeks) few below r) (λ all. clash r (none-runs (head .seeks) all k below))
+
+      -- an instruction of its task was issued, and the task runs on: the other slots of its places have no task
+      pub issued-alone : (m′ : Machine) (n w : ℕ) → running (at m k) ≡ true → m′ ≡ issued cells words m k → running (at m′ k) ≡ true → at m′ k .task .places ≡ w
+          → n ≡ nextSlot (m .places) (k + w - 1) → Head interval places first budget m′ n 0 (left - 1)
+      unfolding issued-there
+      issued-alone m′ n w r p on width e =
+          let there = issued-there m′ (nextSlot (m .places) k) r p refl in
+          let s = stand allowed words m′ k (there .fits) (head .slot-below) on in
+          let power : w ≡ 2 ^ s .height = sym width ∙ s .formed .has-places in
+          let P : places ≡ 2 ^ rank places = rank-power places (allowed .places-allowed) in
+          let same : m .places ≡ m′ .places = head .fits .its-places ∙ sym (there .fits .its-places) in
+          record {
+            fits = there .fits;
+            slot-below = rw e (rw (head .fits .its-places) (next-below places (k + w - 1) some-places));
+            from = k + 1;
+            passed = w - 1;
+            picks = there .picks;
+            counted = omega arith;
+            seeks = rw e (behind m′ k w (m .places) same (omega (arith, power, pow-pos (s .height))) (omega (arith, s .inside, power, P, there .fits .its-places))
+                (λ i x y. s .alone i x (omega (arith, power))));
+            all-picks = there .all-picks;
+            same = there .same;
+          }
 
 -- with a budget of 1, from a slot with a running task, a run is one pick
 pub one-pick : {cells : List ℕ} {interval places : ℕ} → Allowed cells interval places → (words : List ℤ) (m : Machine) → Fits cells interval places m → (k : ℕ)

@@ -1,5 +1,5 @@
 // The loop over the slots, which every pick and every run goes through. It keeps the state in a local and changes it in place: only a fork and an ended
-// side go through functions that copy it.
+// side go through functions that copy it. A task that runs on is alone in its places, so the loop goes on behind them.
 use crate::Driven;
 use crate::Machine;
 use crate::slots;
@@ -180,6 +180,7 @@ pub fn drive(cells: &[u64], words: &[i64], machine: Machine, slot: usize, budget
             let span = m.tasks[k].span;
             let forks = record.forks;
             let x = image::layout::instruction_of(cells, active.pc as usize);
+            let last = k + (active.places as usize) - 1;
             let base = 16 * k;
             let at_s = base + (x.s as usize);
             let left_register = m.bank[at_s];
@@ -216,7 +217,7 @@ pub fn drive(cells: &[u64], words: &[i64], machine: Machine, slot: usize, budget
                     m.work = m.work + 1;
                     idle = 0;
                     left = left - 1;
-                    k = next_slot(m.places, k);
+                    k = next_slot(m.places, last);
                 }
                 Kind::Goes => {
                     m.tasks[k] = Task {
@@ -231,7 +232,7 @@ pub fn drive(cells: &[u64], words: &[i64], machine: Machine, slot: usize, budget
                     m.work = m.work + 1;
                     idle = 0;
                     left = left - 1;
-                    k = next_slot(m.places, k);
+                    k = next_slot(m.places, last);
                 }
                 Kind::Waits => {
                     let t = m.tasks[k];

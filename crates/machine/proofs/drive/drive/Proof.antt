@@ -2,7 +2,10 @@
 use mathlib.Core.Path.{_≡_, refl, sym, ap, _∙_}
 use mathlib.Core.Bool.{true}
 use Prim.Native.Nat.{ℕ, _+_, _-_, _*_, _<_, _≤_}
-use lib.ListN.{getD}
+use mathlib.Core.List.{List}
+use lib.ListN.{getD, set}
+use lib.Pow.{pow-pos}
+use lib.Seq.{getD-set-same}
 use Rattle.machine.specs.Running.{Run}
 use Rattle.machine.specs.Driving.{goesOn, nextSlot}
 use Rattle.machine.specs.Slots.{at}
@@ -11,18 +14,21 @@ use Rattle.task.specs.declared.Value.{Value}
 use Rattle.task.specs.declared.Executed.{Executed}
 use Rattle.task.specs.declared.Frame.{Frame}
 use Rattle.task.specs.declared.Task.{Task}
-use Rattle.task.specs.Frames.{running, zeros}
+use Rattle.task.specs.Frames.{running, isRunning, noTask, zeros}
 use Rattle.machine.specs.declared.Machine.{Machine}
 use Rattle.machine.specs.Picking.{issued}
 use Rattle.machine.specs.Slots.{Sized}
 use Rattle.codes.proofs.Sizes.{length-by}
+use Rattle.task.specs.Execute.{after}
+use Rattle.machine.proofs.RankLaws.{rank-power}
+use Rattle.machine.proofs.Carrying.{stand}
 use Rattle.machine.proofs.Models.{Allowed}
 use Rattle.machine.proofs.ShapeLaws.{Fits, shape-allowed, shape-fits}
 use Rattle.machine.proofs.SettleSafety.{fits-safe}
 use Rattle.machine.proofs.Owning.{own-allowed, own-fits, places-most}
 use Rattle.machine.proofs.Readiness.{its-instruction, s-small, r-small, label-small, left-read, right-read, ready}
 use Rattle.machine.proofs.Issuing.{Fetched, ended-work, ended-places, stores-issued, goes-issued, waits-steps, halts-steps, faults-steps, ended-safe, ended-issued, forks-issued, forks-room}
-use Rattle.machine.proofs.Passing.{Goes, goes, Head, begins, passed-over, issued-there, stopped}
+use Rattle.machine.proofs.Passing.{Goes, goes, Head, begins, passed-over, issued-there, issued-alone, stopped}
 use Rattle.task.specs.Frames.{zeroRegister}
 use Rattle.machine.specs.Slots.{ticked}
 use borrow.Author.Needs.{needs}
@@ -88,6 +94,14 @@ runs-at c = sym (c .before .is-running .ensures) ∙ c .if2 .taken
 span-at : (c : Runs) → at (at-head c .loop .m) (at-head c .loop .k) .task .span < 4294967295
 span-at c = omega (arith, at-head c .loop .inv .fits .counts (at-head c .loop .k) .span-most, goes-at (turning c) .below-limit)
 
+-- the task's places are below P
+tile-at : (c : Runs) → (0 < at (at-head c .loop .m) (at-head c .loop .k) .task .places) × (at-head c .loop .k + at (at-head c .loop .m) (at-head c .loop .k) .task .places ≤ 64)
+tile-at c =
+    let s = stand (allowed-at c) (entry (at-head c) .args .words .now) (at-head c .loop .m) (at-head c .loop .k) (fits-at c) (below-at c) (runs-at c) in (
+      omega (arith, s .formed .has-places, pow-pos (s .height)),
+      omega (arith, s .formed .has-places, s .inside, rank-power (at-head c .loop .m .places) (allowed-at c .places-allowed), slots-most (entry (at-head c)), at-head c .loop .inv .fits .its-places),
+    )
+
 -- ---- an instruction that was carried out
 
 abbrev running-of : Done → Runs
@@ -135,6 +149,16 @@ again : (c : Done) (m′ : Machine) (n : ℕ) → m′ ≡ issued (args-of c .ar
 again c m′ n p e =
     issued-there (args-of c .args .cells .now) (args-of c .args .words .now) (job-allowed (args-of c)) (at-head (running-of c) .loop .inv) (test (turning (running-of c))) m′ n (runs-at (running-of c)) p e
 
+again-alone : (c : Done) (m′ : Machine) (n : ℕ) (t : Task) → m′ ≡ issued (args-of c .args .cells .now) (args-of c .args .words .now) (m-of c) (k-of c)
+    → m′ .tasks ≡ set (m-of c .tasks) (k-of c) t → isRunning (t .status) ≡ true → n ≡ nextSlot (m-of c .places) (k-of c + t .places - 1)
+    → Head (args-of c .args .cells .now) (args-of c .args .words .now) (args-of c .args .machine .interval) (args-of c .args .machine .places)
+    (record { machine = args-of c .args .machine; slot = args-of c .args .slot; picks = 0 }) (args-of c .args .budget) m′ n 0 (at-head (running-of c) .loop .left - 1)
+again-alone c m′ n t p q r e =
+    let here : getD (m′ .tasks) (k-of c) noTask ≡ t = ap (λ (l : List Task). getD l (k-of c) noTask) q
+    ∙ getD-set-same (m-of c .tasks) (k-of c) t noTask (omega (arith, slot-inside (at-head (running-of c)), at-head (running-of c) .loop .inv .fits .sized .of-tasks)) in
+    issued-alone (args-of c .args .cells .now) (args-of c .args .words .now) (job-allowed (args-of c)) (at-head (running-of c) .loop .inv) (test (turning (running-of c))) m′ n (t .places) (runs-at (running-of c)) p
+    (ap (λ (o : Task). isRunning (o .status)) here ∙ r) (ap (λ (o : Task). o .places) here) e
+
 loop-holds : tie.Need-loop-holds Inv-loop μ-loop
 loop-holds c =
     let sized : Sized (c .before .args .machine) = record { of-bank = search (needs, length-by); of-tasks = search (needs, length-by) } in
@@ -174,17 +198,17 @@ mul-execute c = omega (arith, slot-inside (c .before .before .before .before .be
 element-copy-out-execute : tie.Need-element-copy-out-execute Inv-loop μ-loop
 element-copy-out-execute c = omega (arith, slot-inside (c .before .before .before .before .before))
 
-mul-t53 : tie.Need-mul-t53 Inv-loop μ-loop
-mul-t53 c = omega (arith, slot-inside (c .before .before .before .before .before))
+mul-t54 : tie.Need-mul-t54 Inv-loop μ-loop
+mul-t54 c = omega (arith, slot-inside (c .before .before .before .before .before))
 
-element-copy-out-t56 : tie.Need-element-copy-out-t56 Inv-loop μ-loop
-element-copy-out-t56 c = omega (arith, slot-inside (c .before .before .before .before .before))
+element-copy-out-t57 : tie.Need-element-copy-out-t57 Inv-loop μ-loop
+element-copy-out-t57 c = omega (arith, slot-inside (c .before .before .before .before .before))
 
-mul-t57 : tie.Need-mul-t57 Inv-loop μ-loop
-mul-t57 c = omega (arith, slot-inside (c .before .before .before .before .before))
+mul-t58 : tie.Need-mul-t58 Inv-loop μ-loop
+mul-t58 c = omega (arith, slot-inside (c .before .before .before .before .before))
 
-element-copy-out-t60 : tie.Need-element-copy-out-t60 Inv-loop μ-loop
-element-copy-out-t60 c = omega (arith, slot-inside (c .before .before .before .before .before))
+element-copy-out-t61 : tie.Need-element-copy-out-t61 Inv-loop μ-loop
+element-copy-out-t61 c = omega (arith, slot-inside (c .before .before .before .before .before))
 
 mul-span : tie.Need-mul-span Inv-loop μ-loop
 mul-span c = omega (arith, slot-inside (c .before .before .before .before .before))
@@ -197,6 +221,12 @@ cast-instruction-of c = search needs
 
 instruction-of-requires : tie.Need-instruction-of-requires Inv-loop μ-loop
 instruction-of-requires c κs = omega (arith, its-instruction (allowed-at (c .before .before)) (entry (at-head (c .before .before)) .args .words .now) (fits-at (c .before .before)) (below-at (c .before .before)) (runs-at (c .before .before)) .is-stored, c .before .before .before .before .before .before .before .before .before .pre .1)
+
+add-last : tie.Need-add-last Inv-loop μ-loop
+add-last c = omega (arith, tile-at (c .before .before .before) .1)
+
+sub-last : tie.Need-sub-last Inv-loop μ-loop
+sub-last c = omega (arith, tile-at (c .before .before .before) .0)
 
 mul-base : tie.Need-mul-base Inv-loop μ-loop
 mul-base c = omega (arith, slot-inside (c .before .before .before .before .before .before .before .before))
@@ -237,14 +267,14 @@ add-at-r c = omega (arith, slot-inside (c .before .before .before .before .befor
 add-m : tie.Need-add-m Inv-loop μ-loop
 add-m c = omega (arith, span-at (running-of (c .before .before)))
 
-mul-t68 : tie.Need-mul-t68 Inv-loop μ-loop
-mul-t68 c = omega (arith, slot-inside (c .before .before .before .before .before .before .before .before .before .before .before .before .before .before .before))
+mul-t69 : tie.Need-mul-t69 Inv-loop μ-loop
+mul-t69 c = omega (arith, slot-inside (c .before .before .before .before .before .before .before .before .before .before .before .before .before .before .before))
 
 element-set-from-m : tie.Need-element-set-from-m Inv-loop μ-loop
 element-set-from-m c = omega (arith, slot-inside (c .before .before .before .before .before .before .before .before .before .before .before .before .before .before .before))
 
-mul-t68-2 : tie.Need-mul-t68-2 Inv-loop μ-loop
-mul-t68-2 c = omega (arith, slot-inside (c .before .before .before .before .before .before .before .before .before .before .before .before .before .before .before), r-inside (c .before .before))
+mul-t69-2 : tie.Need-mul-t69-2 Inv-loop μ-loop
+mul-t69-2 c = omega (arith, slot-inside (c .before .before .before .before .before .before .before .before .before .before .before .before .before .before .before), r-inside (c .before .before))
 
 element-set-from-m-2 : tie.Need-element-set-from-m-2 Inv-loop μ-loop
 element-set-from-m-2 c = omega (arith, slot-inside (c .before .before .before .before .before .before .before .before .before .before .before .before .before .before .before), r-inside (c .before .before))
@@ -256,13 +286,13 @@ sub-left : tie.Need-sub-left Inv-loop μ-loop
 sub-left c = omega (arith, goes-at (turning (c .before .before .before .before .before .before .before .before .before .before)))
 
 next-slot-requires : tie.Need-next-slot-requires Inv-loop μ-loop
-next-slot-requires c κs = slot-inside (c .before .before .before .before .before .before .before .before .before .before .before .before .before .before .before)
+next-slot-requires c κs = omega (arith, tile-at (c .before .before .before .before .before .before .before .before .before .before))
 
 loop-less : tie.Need-loop-less Inv-loop μ-loop
 loop-less c = omega (arith, goes-at (turning (c .before .before .before .before .before .before .before .before .before .before .before)))
 
 loop-again : tie.Need-loop-again Inv-loop μ-loop
-loop-again c = again (c .before .before .before) _ _ (stores-issued (allowed-at (running-of (c .before .before .before))) (fits-at (running-of (c .before .before .before))) (below-at (running-of (c .before .before .before))) (runs-at (running-of (c .before .before .before))) (fetched-at (c .before .before .before)) (search needs) (r-inside (c .before .before .before))) (c .next-slot .ensures)
+loop-again c = again-alone (c .before .before .before) _ _ (after (e-of (c .before .before .before)) (at (m-of (c .before .before .before)) (k-of (c .before .before .before)) .task)) (stores-issued (allowed-at (running-of (c .before .before .before))) (fits-at (running-of (c .before .before .before))) (below-at (running-of (c .before .before .before))) (runs-at (running-of (c .before .before .before))) (fetched-at (c .before .before .before)) (search needs) (r-inside (c .before .before .before))) refl (runs-at (running-of (c .before .before .before))) (c .next-slot .ensures)
 
 enum-told-2 : tie.Need-enum-told-2 Inv-loop μ-loop
 enum-told-2 c = search needs
@@ -270,8 +300,8 @@ enum-told-2 c = search needs
 add-m-3 : tie.Need-add-m-3 Inv-loop μ-loop
 add-m-3 c = omega (arith, span-at (running-of (c .before .before)))
 
-mul-t80 : tie.Need-mul-t80 Inv-loop μ-loop
-mul-t80 c = omega (arith, slot-inside (c .before .before .before .before .before .before .before .before .before .before .before .before .before .before .before))
+mul-t81 : tie.Need-mul-t81 Inv-loop μ-loop
+mul-t81 c = omega (arith, slot-inside (c .before .before .before .before .before .before .before .before .before .before .before .before .before .before .before))
 
 element-set-from-m-3 : tie.Need-element-set-from-m-3 Inv-loop μ-loop
 element-set-from-m-3 c = omega (arith, slot-inside (c .before .before .before .before .before .before .before .before .before .before .before .before .before .before .before))
@@ -283,13 +313,13 @@ sub-left-2 : tie.Need-sub-left-2 Inv-loop μ-loop
 sub-left-2 c = omega (arith, goes-at (turning (c .before .before .before .before .before .before .before .before .before .before)))
 
 next-slot-requires-2 : tie.Need-next-slot-requires-2 Inv-loop μ-loop
-next-slot-requires-2 c κs = slot-inside (c .before .before .before .before .before .before .before .before .before .before .before .before .before .before .before)
+next-slot-requires-2 c κs = omega (arith, tile-at (c .before .before .before .before .before .before .before .before .before .before))
 
 loop-less-2 : tie.Need-loop-less-2 Inv-loop μ-loop
 loop-less-2 c = omega (arith, goes-at (turning (c .before .before .before .before .before .before .before .before .before .before .before)))
 
 loop-again-2 : tie.Need-loop-again-2 Inv-loop μ-loop
-loop-again-2 c = again (c .before .before .before) _ _ (goes-issued (allowed-at (running-of (c .before .before .before))) (fits-at (running-of (c .before .before .before))) (below-at (running-of (c .before .before .before))) (runs-at (running-of (c .before .before .before))) (fetched-at (c .before .before .before)) (search needs)) (c .next-slot2 .ensures)
+loop-again-2 c = again-alone (c .before .before .before) _ _ (after (e-of (c .before .before .before)) (at (m-of (c .before .before .before)) (k-of (c .before .before .before)) .task)) (goes-issued (allowed-at (running-of (c .before .before .before))) (fits-at (running-of (c .before .before .before))) (below-at (running-of (c .before .before .before))) (runs-at (running-of (c .before .before .before))) (fetched-at (c .before .before .before)) (search needs)) refl (runs-at (running-of (c .before .before .before))) (c .next-slot2 .ensures)
 
 enum-told-3 : tie.Need-enum-told-3 Inv-loop μ-loop
 enum-told-3 c = search needs
@@ -451,14 +481,16 @@ drive-spec =
     element-copy-out-at-v
     mul-execute
     element-copy-out-execute
-    mul-t53
-    element-copy-out-t56
-    mul-t57
-    element-copy-out-t60
+    mul-t54
+    element-copy-out-t57
+    mul-t58
+    element-copy-out-t61
     mul-span
     element-copy-out-span
     cast-instruction-of
     instruction-of-requires
+    add-last
+    sub-last
     mul-base
     add-at-s
     mul-left-register
@@ -472,9 +504,9 @@ drive-spec =
     enum-told
     add-at-r
     add-m
-    mul-t68
+    mul-t69
     element-set-from-m
-    mul-t68-2
+    mul-t69-2
     element-set-from-m-2
     add-m-2
     sub-left
@@ -483,7 +515,7 @@ drive-spec =
     loop-again
     enum-told-2
     add-m-3
-    mul-t80
+    mul-t81
     element-set-from-m-3
     add-m-4
     sub-left-2
