@@ -25,19 +25,19 @@ pub enum End {
     Fault(u8),
 }
 
-// What start and pick hand back: 0 or the number of a refusal, and the state.
+// What start and pick hand back: the state, and 0 or the number of a refusal. The state comes first, so that it is copied aligned.
 pub struct Answered {
-    pub no: u8,
     pub machine: Machine,
+    pub no: u8,
 }
 
-// What a run hands back: 0 or the number of a refusal, whether the job has ended or the budget is spent, the picks carried out, and the
-// state.
+// What a run hands back: the state, the picks carried out, 0 or the number of a refusal, and whether the job has ended or the budget is
+// spent.
 pub struct Outcome {
+    pub machine: Machine,
+    pub picks: u64,
     pub no: u8,
     pub ended: bool,
-    pub picks: u64,
-    pub machine: Machine,
 }
 
 // What the loop over the slots leaves: the state, and the picks carried out.

@@ -5,8 +5,12 @@ use crate::Machine;
 use crate::drive;
 use crate::drive::is_running;
 use crate::shape;
+use task::Register;
 use task::Status;
+use task::Task;
 ghost use mathlib.Core.Path.{_≡_};
+ghost use mathlib.Core.List.{List};
+ghost use Prim.Native.Nat.{ℕ};
 ghost use Rattle.machine.specs.Ending.{endAt, ending, isEnd};
 ghost use Rattle.machine.specs.Picking.{slotNo, stateNoBy, pickNo, picked};
 
@@ -50,25 +54,27 @@ pub fn has_ended(end: End) -> bool
     }
 }
 
-// Questions 21 to 24. A state of the shape has at most 64 places.
-fn ask_slot(m: Machine, slot: u64) -> u8
-    ensures { λ r. ⌜ r ≡ slotNo m slot ⌝ }
+// Questions 21 to 24, of the parts of a state that they look at. A state of the shape has at most 64 places.
+fn ask_slot(places: u64, work: u32, tasks: [Task; 64], slot: u64) -> u8
+    ensures { λ r. ⌜ ((interval : ℕ) (bank : List Register) → r ≡ slotNo (record { places = places; interval = interval; work = work; bank = bank; tasks = tasks }) slot) ⌝ }
 {
-    if m.places <= slot {
+    if places <= slot {
         return 21;
     }
-    if has_ended(end_of(m)) {
+    let first = tasks[0];
+    let end = first.status;
+    if has_ended(end_at(first.depth, end)) {
         return 22;
     }
     if 64 <= slot {
         return 23;
     }
-    let t = m.tasks[slot as usize];
+    let t = tasks[slot as usize];
     let status = t.status;
     if !is_running(status) {
         return 23;
     }
-    if 4294967295 <= m.work {
+    if 4294967295 <= work {
         return 24;
     }
     0
@@ -103,7 +109,8 @@ impl Machine {
         if no != 0 {
             return Answered { no, machine: self };
         }
-        let last = ask_slot(self, slot);
+        let tasks = self.tasks;
+        let last = ask_slot(self.places, self.work, tasks, slot);
         if last != 0 {
             return Answered {
                 no: last,
