@@ -6,7 +6,8 @@ ghost use Prim.Native.Nat.{ℕ, _≤_};
 ghost use Rattle.task.specs.Formed.{isTarget, valueFits, isZero};
 ghost use Rattle.codes.specs.Codes.{Stored, gradeOf, GradedSlots};
 
-// Whether block b is a join target. The annotation of a block below B is in the buffer.
+// Whether block b is a join target. The annotation of a block below B is in the buffer: `machine` alone calls this crate, in the shape
+// test, and has put the program's questions and the one on the buffer's length, which ensure `Stored`.
 pub fn is_target(cells: &[u64], b: u32) -> bool
     requires { ⌜ Stored (now cells) ⌝ }
     ensures { λ r. ⌜ r ≡ isTarget (now (cells .entry)) b ⌝ }
@@ -62,7 +63,7 @@ fn larger(a: u8, b: u8) -> u8
     a
 }
 
-// The worst grade of each slot's 16 registers.
+// The worst grade of each slot's 16 registers. `Stored`: as above.
 pub fn grade_slots(cells: &[u64], bank: [Register; 1024]) -> [u8; 64]
     requires { ⌜ Stored (now cells) ⌝ }
     ensures { λ r. ⌜ GradedSlots (now (cells .entry)) bank r ⌝ }

@@ -91,7 +91,7 @@ fn code_of(cells: &[u64], rank: usize, t: Task, grade: u8) -> u8
     h as u8 + 9
 }
 
-// The code of each slot.
+// The code of each slot. `machine` alone calls it, with a rank that it has found to be at most 6; `Stored`: as in registers.rt.
 pub fn code_slots(cells: &[u64], rank: usize, tasks: [Task; 64], grades: [u8; 64]) -> [u8; 64]
     requires { ⌜ Stored (now cells) × (rank ≤ 6) ⌝ }
     ensures { λ r. ⌜ CodedTasks (now (cells .entry)) rank tasks grades r ⌝ }

@@ -29,7 +29,7 @@ fn fork_fits(cells: &[u64], is_open: bool, fork: Fork) -> bool
     fork.depth == 0
 }
 
-// The entries of a task at this depth: each of its open forks, and 0 past them.
+// The entries of a task at this depth: each of its open forks, and 0 past them. This crate alone calls it; `Stored`: as in registers.rt.
 pub fn forks_fit(cells: &[u64], depth: u32, forks: [Fork; 6]) -> bool
     requires { ⌜ Stored (now cells) ⌝ }
     ensures { λ r. ⌜ (r ≡ every (λ i. forkFits (now (cells .entry)) (ltb i depth) (getD forks i zeroFork)) 6 0) × (length forks ≡ 6) ⌝ }

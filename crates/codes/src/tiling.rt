@@ -3,7 +3,7 @@ ghost use mathlib.Core.Path.{_≡_};
 ghost use Prim.Native.Nat.{_+_, _-_, _^_, _≤_};
 ghost use Rattle.codes.specs.Codes.{stands, clear, tiled, tree};
 
-// 2 ^ h, the places of a task of height h.
+// 2 ^ h, the places of a task of height h. This crate alone calls it, with a height up to the rank.
 pub fn power(h: usize) -> u64
     requires { ⌜ h ≤ 6 ⌝ }
     ensures { λ r. ⌜ r ≡ 2 ^ h ⌝ }
@@ -86,7 +86,8 @@ fn is_tiled(codes: &[u8; 64], h: usize, base: usize) -> bool
     wide(codes[upper]) != h + 8
 }
 
-// Whether the slots are those of a job of 2 ^ rank places: its tasks tile them, and all others are vacant.
+// Whether the slots are those of a job of 2 ^ rank places: its tasks tile them, and all others are vacant. `machine` alone calls it, with a
+// rank that it has found to be at most 6.
 pub fn is_tree(codes: &[u8; 64], rank: usize) -> bool
     requires { ⌜ rank ≤ 6 ⌝ }
     ensures { λ r. ⌜ r ≡ tree (now (codes .entry)) rank ⌝ }

@@ -158,7 +158,7 @@ fn split(m: Machine, k: usize, t: Task, pc: u16) -> Machine
     )
 }
 
-// At most `budget` picks from `slot` on.
+// At most `budget` picks from `slot` on. Pick, run and `job` call it, after the questions that ensure its `requires`.
 pub fn drive(cells: &[u64], words: &[i64], machine: Machine, slot: usize, budget: u64) -> Driven
     requires { ⌜ (programNo (now cells) ≡ 0) × (length (now cells) ≡ programCells) × (shape (now cells) machine ≡ true) × (slot < machine .places) ⌝ }
     ensures { λ r. ⌜ r ≡ driven (now (cells .entry)) (now (words .entry)) machine slot budget ⌝ }

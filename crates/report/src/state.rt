@@ -83,7 +83,7 @@ fn write_slots(m: Machine, out: &mut [u8])
     }
 }
 
-// The whole state, into a buffer of its length.
+// The whole state. `job` calls it with a buffer of its length, after question 15.
 pub fn write_state(m: Machine, out: &mut [u8])
     requires { ⌜ length (now out) ≡ stateLength ⌝ }
     ensures { λ _. ⌜ now (out .exit) ≡ stateBytes m ⌝ }

@@ -94,7 +94,7 @@ fn write_results(out: &mut [u8], at: usize, span: u32, registers: [Register; 16]
     write_registers(out, next, registers)
 }
 
-// Answers the text's length; the bytes after it stay as they were. The run program, which prints it, lends a buffer of 1,024 bytes.
+// Answers the text's length; the bytes after it stay as they were. `job` calls it, with a buffer that it has found to have 1,024 bytes.
 pub fn write_text(r: Report, out: &mut [u8]) -> usize
     requires { ⌜ length (now out) ≡ textRoom ⌝ }
     ensures { λ n. ⌜ (n ≡ length (textOf r)) × (now (out .exit) ≡ sets (now (out .entry)) 0 (textOf r)) ⌝ }

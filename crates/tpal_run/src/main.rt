@@ -1,6 +1,7 @@
 // The run program: a job on standard input, and on standard output its report, or its refusal.
 ghost use Prim.Native.Nat.{_+_, _≤_};
 ghost use lib.ListN.{length};
+
 // What came of reading: so many bytes, or a read that failed.
 pub struct Input {
     pub failed: bool,
