@@ -3,6 +3,7 @@
 use crate::Driven;
 use crate::Machine;
 use crate::slots;
+use codes::tasks::is_running;
 use task::Active;
 use task::Fork;
 use task::Frame;
@@ -18,7 +19,7 @@ ghost use lib.ListN.{length};
 ghost use Rattle.agreement.specs.Slots.{settle};
 ghost use Rattle.image.specs.Layout.{programCells};
 ghost use Rattle.image.specs.Questions.{programNo};
-ghost use Rattle.task.specs.Frames.{isRunning, zeros};
+ghost use Rattle.task.specs.Frames.{zeros};
 ghost use Rattle.task.specs.Values.{recordOf};
 ghost use Rattle.task.specs.Step.{counted, movedTo, ended, side};
 ghost use Rattle.machine.specs.Slots.{at, put, slotsOf};
@@ -48,18 +49,6 @@ fn next_slot(places: u64, k: usize) -> usize
         return next;
     }
     0
-}
-
-pub fn is_running(status: Status) -> bool
-    ensures { λ r. ⌜ r ≡ isRunning status ⌝ }
-{
-    match status {
-        Status::Vacant => false,
-        Status::Running => true,
-        Status::Waiting => false,
-        Status::Halted => false,
-        Status::Faulted(_) => false,
-    }
 }
 
 // The record that a fork is opened under.
