@@ -37,6 +37,18 @@ pub struct Block {
     pub pairs: [u8; MAX_PAIRS],
 }
 
+impl Block {
+    /// A block at instruction 0 without an annotation.
+    pub const PLAIN: Block = Block {
+        first: 0,
+        annotation: 0,
+        policy: 0,
+        label: 0,
+        pair_count: 0,
+        pairs: [0; MAX_PAIRS],
+    };
+}
+
 #[derive(Clone, Copy, Debug, PartialEq, Eq)]
 pub struct Instruction {
     pub opcode: u8,

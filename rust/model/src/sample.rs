@@ -1,6 +1,6 @@
 //! Programs for the tests.
 
-use crate::image::{Block, Instruction, Program, MAX_PAIRS};
+use crate::image::{Block, Instruction, Program};
 use crate::opcode;
 
 #[derive(Clone, Copy)]
@@ -35,14 +35,7 @@ pub const HALT: Instruction = Instruction {
     operand: 0,
 };
 
-pub const PLAIN: Block = Block {
-    first: 0,
-    annotation: 0,
-    policy: 0,
-    label: 0,
-    pair_count: 0,
-    pairs: [0; MAX_PAIRS],
-};
+pub const PLAIN: Block = Block::PLAIN;
 
 /// Blocks with their annotations and code; the starts are counted here.
 pub fn program(blocks: &[(Block, &[Instruction])]) -> Program {

@@ -7,14 +7,7 @@ use crate::notation::{
 };
 use model::{Block, MAX_PAIRS};
 
-const PLAIN: Block = Block {
-    first: 0,
-    annotation: 0,
-    policy: 0,
-    label: 0,
-    pair_count: 0,
-    pairs: [0; MAX_PAIRS],
-};
+const PLAIN: Block = Block::PLAIN;
 
 impl Parser<'_> {
     /// The block record, but for the first instruction. No annotation is the empty one.

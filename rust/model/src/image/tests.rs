@@ -2,14 +2,7 @@
 
 use super::*;
 
-const PLAIN: Block = Block {
-    first: 0,
-    annotation: 0,
-    policy: 0,
-    label: 0,
-    pair_count: 0,
-    pairs: [0; MAX_PAIRS],
-};
+const PLAIN: Block = Block::PLAIN;
 
 const HALT: Instruction = Instruction {
     opcode: 14,
