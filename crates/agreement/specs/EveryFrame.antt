@@ -1,14 +1,13 @@
--- A fact of every frame, for which the work may be a bound, holds of every frame after a pick, and after an order.
+-- A fact of every frame, for which the work may be a bound, holds of every frame after a pick.
 use Prim.Native.Nat.{ℕ, suc, _+_}
 use mathlib.Core.Path.{_≡_, _∙_}
 use mathlib.Core.Bool.{true}
-use mathlib.Core.List.{List}
 use native.Mathlib.Numerals.{add-one}
 use Rattle.agreement.specs.Plain.{one, two}
 use Rattle.agreement.specs.Slots.{Slots, carry}
 use Rattle.agreement.specs.SlotLaws.{carry-all}
-use Rattle.agreement.specs.Picks.{Model, canPick, pick, play}
-use Rattle.agreement.specs.PickLaws.{can-parts, pick-has, play-has, carried-work}
+use Rattle.agreement.specs.Picks.{Model, canPick, pick}
+use Rattle.agreement.specs.PickLaws.{can-parts, pick-has, carried-work}
 
 module _ {F S : Type 0} (M : Model F S) where
   open Model M using (slots, step, work, tick)
@@ -42,6 +41,3 @@ module _ {F S : Type 0} (M : Model F S) where
 
     pub pick-all : (m : S) (k : ℕ) → ((i : ℕ) → P (work m) (at m i)) → (i : ℕ) → P (work (pick M m k)) (at (pick M m k) i)
     pick-all = pick-has M All carried-all
-
-    pub play-all : (ks : List ℕ) (m : S) → ((i : ℕ) → P (work m) (at m i)) → (i : ℕ) → P (work (play M m ks)) (at (play M m ks) i)
-    play-all = play-has M All carried-all

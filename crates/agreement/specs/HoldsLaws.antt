@@ -11,7 +11,7 @@ use Rattle.agreement.specs.Trees.{Tree, leaf, node, place, Evals, ended}
 use Rattle.agreement.specs.Slots.{Slots, sideEnded}
 use Rattle.agreement.specs.Picks.{Model, rules, jobEnded}
 use Rattle.agreement.specs.Laws.{Forms, Laws}
-use Rattle.agreement.specs.Holds.{endedTree, Settled, Holds, Shows}
+use Rattle.agreement.specs.Holds.{endedTree, Settled, Lone, Holds, Shows}
 
 module _ {F S : Type 0} (slots : Slots F S) (K : Forms F S) where
   open Slots slots using (at)
@@ -44,6 +44,10 @@ module _ {F S : Type 0} (M : Model F S) (K : Forms F S) (laws : Laws M K) where
     sound = sound;
     beyond = λ i p q. others i (omega (arith, pow-pos D)) q;
   }
+
+  -- the only running task of a stretch that is one task's stands in its first slot
+  pub first-slot : {m : S} {b h k : ℕ} {f : F} → Lone slots K m b h f → b ≤ k → k < b + 2 ^ h → running (at m k) ≡ true → k ≡ b
+  first-slot {m} {b} {h} {k} l p q r = by-below b k (λ x. clash r (laws .empty-idle (at m k) (l .empty k x q))) (λ x. omega arith)
 
   -- the first task of a stretch is at least as deep as the stretch
   pub holds-deep : (T : Tree F) (m : S) (b h : ℕ) → Holds slots K m b h T → D ≤ depth (at m b) + h

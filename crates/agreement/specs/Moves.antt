@@ -17,7 +17,7 @@ use Rattle.agreement.specs.SlotLaws.{settle-none, settle-go, settle-stop
 use Rattle.agreement.specs.Picks.{Model, rules}
 use Rattle.agreement.specs.Laws.{Forms, Laws}
 use Rattle.agreement.specs.Holds.{endedTree, Settled, Lone, Holds, Shows}
-use Rattle.agreement.specs.HoldsLaws.{holds-same, side-test}
+use Rattle.agreement.specs.HoldsLaws.{holds-same, first-slot, side-test}
 
 module _ {F S : Type 0} (M : Model F S) (K : Forms F S) (count : ℕ → ℕ) where
   open Model M using (slots, step)
@@ -187,11 +187,6 @@ module _ {F S : Type 0} (M : Model F S) (K : Forms F S) (count : ℕ → ℕ) wh
           subst⁻¹ (λ n. Moved (count b) m b n (leaf f) (carry slots step m b)) (t .1)
           (forks (t .0) (rw (t .1) at fits) (subst (λ n. Lone slots K m b n f) (t .1) l) p c e (t .2) (t .3) (t .4))
 
-    -- the only running task of a stretch that is one task's stands in its first slot
-    first-slot : {m : S} {b h k : ℕ} {f : F} → Lone slots K m b h f → b ≤ k → k < b + 2 ^ h → running (at m k) ≡ true → k ≡ b
-    first-slot {m} {b} {h} {k} l p q r =
-        by-below b k (λ x. clash r (laws .empty-idle (at m k) (l .empty k x q))) (λ x. omega arith)
-
     -- One side of a fork has moved, the side z at slot s: so has the fork, whose sides are x and y now
     module _ {n : ℕ} {m : S} {b j : ℕ} {T : Tree F} {final : S} (fits : b + 2 ^ suc j ≤ size) (inner : suc j ≤ D) (state : S)
         (sound : Sound state) (outside : (i : ℕ) → Outside b (b + 2 ^ suc j) i → at state i ≡ at m i) (x y : Tree F)
@@ -235,7 +230,7 @@ module _ {F S : Type 0} (M : Model F S) (K : Forms F S) (count : ℕ → ℕ) wh
     moved : (T : Tree F) (m : S) (b h : ℕ) → Sound m → Aligned b h → b + 2 ^ h ≤ size → h ≤ D → Settled running T → Held m b h T
         → (k : ℕ) → b ≤ k → k < b + 2 ^ h → running (at m k) ≡ true → Moved (count k) m b h T (carry slots step m k)
     moved (leaf f) m b h sound al fits top st l k p q r =
-        let e : k ≡ b = first-slot l p q r in
+        let e : k ≡ b = first-slot M K laws l p q r in
         subst⁻¹ (λ z. Moved (count z) m b h (leaf f) (carry slots step m z)) e
         (one-task m b f sound (rw (l .here) at (rw e at r)) h fits l (step f) refl)
     moved (node x y) m b zero sound al fits top st l k p q r = absurd l

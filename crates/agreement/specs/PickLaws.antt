@@ -1,6 +1,6 @@
 -- The equations of a pick; what picks and orders keep, and what they count. Nothing here speaks of trees.
 use Prim.Native.Nat.{ℕ, _+_, _≤_, _<_}
-use mathlib.Core.Path.{_≡_, refl, ap, _∙_}
+use mathlib.Core.Path.{_≡_, ap, _∙_}
 use mathlib.Core.Bool.{true, false, _&&_}
 use mathlib.Core.List.{List, [], _∷_}
 use native.Mathlib.Omega.{arith}
@@ -32,23 +32,6 @@ module _ {F S : Type 0} (M : Model F S) where
   unfolding pick
   pick-refused m k h = rw (h, pick)
 
-  pub play-none : (m : S) → play M m [] ≡ m
-  unfolding play
-  play-none m = refl
-
-  pub play-first : (m : S) (k : ℕ) (ks : List ℕ) → play M m (k ∷ ks) ≡ play M (pick M m k) ks
-  unfolding play
-  play-first m k ks = refl
-
-  pub carriedOut-none : (count : ℕ → ℕ) (m : S) → carriedOut M count m [] ≡ 0
-  unfolding carriedOut
-  carriedOut-none count m = refl
-
-  pub carriedOut-first : (count : ℕ → ℕ) (m : S) (k : ℕ) (ks : List ℕ)
-      → carriedOut M count m (k ∷ ks) ≡ ifPicked (canPick M m k) (count k) + carriedOut M count (pick M m k) ks
-  unfolding carriedOut
-  carriedOut-first count m k ks = refl
-
   -- what a pick keeps where it is carried out, every pick keeps, and every order
   module _ (P : S → Type 0) (carried-has : (m : S) (k : ℕ) → canPick M m k ≡ true → P m → P (tick (carry slots step m k))) where
     pub pick-has : (m : S) (k : ℕ) → P m → P (pick M m k)
@@ -58,12 +41,6 @@ module _ {F S : Type 0} (M : Model F S) where
     unfolding play
     play-has [] m h = h
     play-has (k ∷ ks) m h = play-has ks (pick M m k) (pick-has m k h)
-
-  -- what neither a put nor a tick changes, no order changes
-  module _ {A : Type 0} (of : S → A) (put-keeps : (m : S) (k : ℕ) (f : F) → of (put m k f) ≡ of m) (tick-keeps : (m : S) → of (tick m) ≡ of m) where
-    pub play-keeps : (ks : List ℕ) (m : S) → of (play M m ks) ≡ of m
-    play-keeps ks m =
-        play-has (λ n. of n ≡ of m) (λ n k c h. tick-keeps (carry slots step n k) ∙ carry-keeps slots of put-keeps step n k ∙ h) ks m refl
 
   module _ (put-work : (m : S) (k : ℕ) (f : F) → work (put m k f) ≡ work m) (tick-work : (m : S) → work (tick m) ≡ work m + 1) where
     pub carried-work : (m : S) (k : ℕ) → work (tick (carry slots step m k)) ≡ work m + 1

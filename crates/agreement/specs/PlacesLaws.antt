@@ -1,16 +1,14 @@
--- The places of all tasks add up to the job's, in every state that shows a tree, so after every order.
+-- The places of all tasks add up to the job's, in every state that shows a tree.
 use Prim.Native.Nat.{ℕ, zero, suc, _+_, _-_, _^_, _≤_, _<_}
 use mathlib.Core.Path.{_≡_, refl, sym, ap, _∙_}
-use mathlib.Core.List.{List}
 use native.Mathlib.Omega.{arith}
 use native.Mathlib.Nat.{add-zero}
 use lib.Pow.{pow-pos, suc-ones}
 use Rattle.agreement.specs.Trees.{Tree, leaf, node}
 use Rattle.agreement.specs.Slots.{Slots}
-use Rattle.agreement.specs.Picks.{Model, once, play}
+use Rattle.agreement.specs.Picks.{Model}
 use Rattle.agreement.specs.Laws.{Forms, Laws}
 use Rattle.agreement.specs.Holds.{Holds, Shows}
-use Rattle.agreement.specs.OrderLaws.{play-shows}
 use Rattle.agreement.specs.Places.{heldFrom}
 
 module _ {F S : Type 0} (at : S → ℕ → F) (held : F → ℕ) where
@@ -60,6 +58,3 @@ module _ {F S : Type 0} (M : Model F S) (K : Forms F S) (laws : Laws M K) (held 
       held-none at held (size - 2 ^ D) m (0 + 2 ^ D) (λ i p q. held-empty (at m i) (s .beyond i (omega arith) (omega arith))) in
       ap (λ n. heldFrom at held n m 0) e
       ∙ held-split at held (2 ^ D) (size - 2 ^ D) m 0 ∙ omega (arith, holds-places T m 0 D (s .holds), laws .places-power)
-
-  pub play-places : (m₀ : S) (T : Tree F) → Shows slots K m₀ T → (ks : List ℕ) → heldFrom at held size (play M m₀ ks) 0 ≡ jobPlaces
-  play-places m₀ T s ks = let l = play-shows M K laws once ks m₀ T s in places-add-up (play M m₀ ks) (l .tree) (l .shows)

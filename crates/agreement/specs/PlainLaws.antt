@@ -3,13 +3,13 @@ use Prim.Native.Nat.{ℕ, zero, suc, _+_}
 use mathlib.Core.Path.{_≡_, refl}
 use mathlib.Core.Bool.{true, false}
 use native.Mathlib.Omega.{arith}
-use Rattle.agreement.specs.Plain.{one, two, Rules, Ran, out, ran, tally, gather, sides, eval}
+use Rattle.agreement.specs.Plain.{Rules, Ran, out, ran, tally, gather, sides, eval}
 
 pub out-not-ran : {F A : Type 0} {e : F} {w : ℕ} → out ≡ ran e w → A
 out-not-ran q = let z : _≡_ {A = ℕ} 0 1 = cc in absurd (omega arith)
 
 module _ {F : Type 0} (R : Rules F) where
-  open Rules R using (running, step, join)
+  open Rules R using (running, step)
 
   pub eval-ended : (n : ℕ) (f : F) → running f ≡ false → eval R n f ≡ ran f 0
   unfolding eval
@@ -23,14 +23,6 @@ module _ {F : Type 0} (R : Rules F) where
   pub eval-issue : (n : ℕ) (f : F) → running f ≡ true → eval R (suc n) f ≡ tally 1 (sides R (λ g. eval R n g) (step f))
   unfolding eval
   eval-issue n f r = rw (r, eval)
-
-  -- as a reader would write it
-  pub eval-one : (n : ℕ) (f g : F) → running f ≡ true → step f ≡ one g → eval R (suc n) f ≡ tally 1 (eval R n g)
-  eval-one n f g r e = rw (eval-issue n f r, e)
-
-  pub eval-two : (n : ℕ) (f p c : F) → running f ≡ true → step f ≡ two p c
-      → eval R (suc n) f ≡ tally 1 (gather (eval R n p) (eval R n c) λ a b. eval R n (join a b))
-  eval-two n f p c r e = rw (eval-issue n f r, e)
 
 pub tally-ran : {F : Type 0} (n : ℕ) (o : Ran F) (e : F) (w : ℕ) → tally n o ≡ ran e w → (v : ℕ) × (o ≡ ran e v) × (w ≡ n + v)
 tally-ran n out e w q = out-not-ran q

@@ -2,19 +2,19 @@
 use Prim.Native.Nat.{ℕ, zero, suc, _+_, _*_, _-_, _/_, _%_, _^_, _≤_, _<_}
 use mathlib.Core.Path.{_≡_, refl, sym, ap, _∙_, subst}
 use mathlib.Core.Logic.{_⊎_, inl, inr}
-use mathlib.Core.Bool.{Bool, true, false, not, _&&_, and-false}
+use mathlib.Core.Bool.{Bool, true, false, _&&_, and-false}
 use native.Mathlib.Omega.{arith}
 use native.Mathlib.Nat.{two-pow-succ}
 use lib.Dec.{eqb, ltb}
 use lib.Pow.{pow-pos}
-use borrow.Author.Tests.{ltb-true, ltb-false}
-use Rattle.agreement.specs.Facts.{clash, by-below, by-test}
+use Rattle.agreement.specs.Facts.{by-below}
 use Rattle.agreement.specs.Slots.{Slots, sideEnded, due, settle}
 use Rattle.agreement.specs.SlotLaws.{settle-none, settle-stop}
 use Rattle.agreement.specs.Picks.{Model}
 use Rattle.agreement.specs.Trees.{Tree, leaf, node}
 use Rattle.agreement.specs.Laws.{Forms, Laws}
-use Rattle.agreement.specs.Holds.{Lone, Holds, Shows}
+use Rattle.agreement.specs.Holds.{Holds, Shows}
+use Rattle.agreement.specs.HoldsLaws.{first-slot}
 use Rattle.agreement.specs.Halves.{Aligned, aligned-zero, aligned-lower, aligned-upper, fork-from-lower, fork-from-upper}
 
 module _ {F S : Type 0} (slots : Slots F S) where
@@ -78,13 +78,10 @@ module _ {F S : Type 0} (M : Model F S) (K : Forms F S) (laws : Laws M K) where
     pub alone : (i : ℕ) → k < i → i < k + 2 ^ height → running (at m i) ≡ false
     pub inside : k + 2 ^ height ≤ 2 ^ D
 
-  first-slot : {m : S} {b h k : ℕ} {f : F} → Lone slots K m b h f → b ≤ k → k < b + 2 ^ h → running (at m k) ≡ true → k ≡ b
-  first-slot {m} {b} {h} {k} l p q r = by-below b k (λ x. clash r (laws .empty-idle (at m k) (l .empty k x q))) (λ x. omega arith)
-
   stands-in : (T : Tree F) (m : S) (b h : ℕ) → Aligned b h → h ≤ D → b + 2 ^ h ≤ 2 ^ D → Holds slots K m b h T → (k : ℕ) → b ≤ k → k < b + 2 ^ h
       → running (at m k) ≡ true → Stands m k
   stands-in (leaf f) m b h a top end l k p q r =
-      let e : k ≡ b = first-slot l p q r in
+      let e : k ≡ b = first-slot M K laws l p q r in
       record {
         height = h;
         aligned = subst (λ (n : ℕ). Aligned n h) (sym e) a;

@@ -1,4 +1,4 @@
--- The shape test passes just where the slots are a tree's. A pick keeps the shape, and a job of the shape that has not ended has a running task.
+-- The shape test passes just where the slots are a tree's. A pick keeps the shape.
 use Prim.Native.Nat.{ℕ, zero, suc, _+_, _-_, _^_, _≤_, _<_}
 use mathlib.Core.Path.{_≡_, refl, sym, _∙_}
 use mathlib.Core.Logic.{_≢_}
@@ -10,10 +10,10 @@ use borrow.Author.Tests.{eq-eqb, ne-eqb, not-true}
 use Rattle.agreement.specs.Facts.{both-true, true-both, false-not, by-test, by-below}
 use Rattle.agreement.specs.Trees.{Tree, leaf, node}
 use Rattle.agreement.specs.Slots.{Slots, sideEnded}
-use Rattle.agreement.specs.Picks.{Model, once, jobEnded, pick}
+use Rattle.agreement.specs.Picks.{Model, once, pick}
 use Rattle.agreement.specs.Laws.{Forms, Laws}
 use Rattle.agreement.specs.Holds.{endedTree, Settled, Holds, Shows}
-use Rattle.agreement.specs.HoldsLaws.{holds-deep, side-test, open-runs, ended-idle}
+use Rattle.agreement.specs.HoldsLaws.{holds-deep, side-test}
 use Rattle.agreement.specs.OrderLaws.{pick-shows}
 use Rattle.agreement.specs.Shape.{Tests, hollow, lone, tiles, shaped}
 
@@ -63,7 +63,7 @@ module _ {F S : Type 0} (M : Model F S) (K : Forms F S) (laws : Laws M K) (tests
   open Model M using (slots)
   open Slots slots using (running, depth, at, size)
   open Tests tests using (isFormed)
-  open Forms K using (D, Sound, Empty)
+  open Forms K using (D, Sound)
 
   abbrev Held : S → ℕ → ℕ → Tree F → Type 0
   Held = Holds slots K
@@ -143,16 +143,9 @@ module _ {F S : Type 0} (M : Model F S) (K : Forms F S) (laws : Laws M K) (tests
       true-both (holds-tiles T D m 0 (omega arith) (s .holds) (s .settled))
       (each-hollow slots tests (size - 2 ^ D) m (2 ^ D) (λ i a b. test-laws .empty-test (at m i) (s .beyond i a (omega arith))))
 
-  -- For every state of the shape, reached or not:
+  -- for every state of the shape, reached or not
   pub pick-shaped : (m : S) (k : ℕ) → Sound m → shaped slots tests D m ≡ true → (shaped slots tests D (pick M m k) ≡ true) × Sound (pick M m k)
   pick-shaped m k sound t =
       let s = shaped-shows m sound t in
       let l = pick-shows M K laws once m (s .0) k (s .1) in
       (shows-shaped (pick M m k) (l .tree) (l .shows), l .shows .sound)
-
-  pub shaped-runs : (m : S) → Sound m → shaped slots tests D m ≡ true → jobEnded M m ≡ false
-      → (k : ℕ) × (k < 2 ^ D) × (running (at m k) ≡ true)
-  shaped-runs m sound t o = let s = shaped-shows m sound t in open-runs M K laws (s .0) m (s .1) o
-
-  pub shaped-idle : (m : S) → Sound m → shaped slots tests D m ≡ true → jobEnded M m ≡ true → (k : ℕ) → k < size → running (at m k) ≡ false
-  shaped-idle m sound t o = let s = shaped-shows m sound t in ended-idle M K laws (s .0) m (s .1) o
