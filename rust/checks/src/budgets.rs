@@ -1,7 +1,7 @@
 //! Jobs with budgets of picks put to the engine's job run and job text, and to the model.
 
 use crate::budgets_coverage::BudgetsCoverage;
-use crate::jobs::{job, refused};
+use crate::jobs::{difference, job, refused};
 use crate::lent::Lent;
 use crate::random::Random;
 use crate::{numbers, report, shares};
@@ -189,27 +189,15 @@ fn compare_text(
 pub fn run_case(seed: u64, number: u64, coverage: &mut BudgetsCoverage) -> Result<(), String> {
     let case = case(seed, number);
     let salt = Random::new(seed.rotate_left(16), number).bits();
-    match compare(&case, salt) {
-        Ok(report) => {
-            coverage.count(&case, &report);
-            Ok(())
-        }
-        Err(what) => Err(format!(
-            "seed {} job {}: {}\n\
-             budget {}, report of {} bytes, text of {} bytes\n\
-             job begins {:02x?}\n\
-             again: cargo run --release --bin soak_jobs -- 1 {} {}",
-            seed,
-            number,
-            what,
-            case.budget,
-            case.report_len,
-            case.text_len,
-            &case.job[..case.job.len().min(400)],
-            seed,
-            number
-        )),
-    }
+    let report = compare(&case, salt).map_err(|what| {
+        let beside = format!(
+            "budget {}, report of {} bytes, text of {} bytes",
+            case.budget, case.report_len, case.text_len
+        );
+        difference("soak_jobs", seed, number, &what, &beside, &case.job)
+    })?;
+    coverage.count(&case, &report);
+    Ok(())
 }
 
 /// Runs the cases of these numbers. What differs ends it.

@@ -69,6 +69,25 @@ pub fn job(seed: u64, number: u64) -> JobCase {
     JobCase { make, input }
 }
 
+/// Says in which job engine and model differ and how, what they were handed beside it, and how the
+/// program `soak` runs it again.
+pub(crate) fn difference(
+    soak: &str,
+    seed: u64,
+    number: u64,
+    what: &str,
+    beside: &str,
+    job: &[u8],
+) -> String {
+    let begin = &job[..job.len().min(400)];
+    format!(
+        "seed {seed} job {number}: {what}\n\
+         {beside}\n\
+         job begins {begin:02x?}\n\
+         again: cargo run --release --bin {soak} -- 1 {seed} {number}"
+    )
+}
+
 /// Small ones mostly, with the ends of the range.
 fn integer(random: &mut Random) -> i64 {
     match random.below(8) {

@@ -1,6 +1,6 @@
 //! Jobs and orders of picks put to the engine's replay and to the model's machine.
 
-use crate::jobs::{job, refused};
+use crate::jobs::{difference, job, refused};
 use crate::lent::Lent;
 use crate::orders::{any_number, MANNERS};
 use crate::random::Random;
@@ -161,26 +161,12 @@ pub fn compare(case: &ReplayCase, salt: u64) -> Result<Result<Replayed, u8>, Str
 pub fn run_case(seed: u64, number: u64, coverage: &mut ReplayCoverage) -> Result<(), String> {
     let case = case(seed, number);
     let salt = Random::new(seed.rotate_left(16), number).bits();
-    match compare(&case, salt) {
-        Ok(answer) => {
-            coverage.count(&case, &answer);
-            Ok(())
-        }
-        Err(what) => Err(format!(
-            "seed {} job {}: {}\n\
-             order {:?}, state of {} bytes\n\
-             job begins {:02x?}\n\
-             again: cargo run --release --bin soak_replay -- 1 {} {}",
-            seed,
-            number,
-            what,
-            case.order,
-            case.state_len,
-            &case.job[..case.job.len().min(400)],
-            seed,
-            number
-        )),
-    }
+    let answer = compare(&case, salt).map_err(|what| {
+        let beside = format!("order {:?}, state of {} bytes", case.order, case.state_len);
+        difference("soak_replay", seed, number, &what, &beside, &case.job)
+    })?;
+    coverage.count(&case, &answer);
+    Ok(())
 }
 
 /// Runs the cases of these numbers. What differs ends it.
