@@ -49,11 +49,7 @@ pub last-of-all : (cells : List ℕ) (i : ℕ) → i + 1 ≡ instructionCount ce
 unfolding lastInBlock
 last-of-all cells i e = rw (eq-eqb (i + 1) (instructionCount cells) e)
 
-flag-is : (t : Bool) → eqb (flag t) 1 ≡ t
-flag-is true = refl
-flag-is false = refl
-
-pub last-by-mark : (cells marks : List ℕ) (i : ℕ) → (i + 1 ≡ instructionCount cells → ⊥) → i + 1 < 1024
-    → Marked cells (blockCount cells) marks → eqb (getD marks (i + 1) 0) 1 ≡ lastInBlock cells i
+pub marked-last : (cells marks : List ℕ) (i : ℕ) → (i + 1 ≡ instructionCount cells → ⊥) → i + 1 < 1024
+    → Marked cells (blockCount cells) marks → getD marks (i + 1) 0 ≡ flag (lastInBlock cells i)
 unfolding lastInBlock
-last-by-mark cells marks i e h m = rw (ne-eqb (i + 1) (instructionCount cells) e, m .marked (i + 1) h) (flag-is (startsAt cells (blockCount cells) (i + 1)))
+marked-last cells marks i e h m = rw (ne-eqb (i + 1) (instructionCount cells) e) (m .marked (i + 1) h)
