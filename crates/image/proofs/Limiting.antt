@@ -1,18 +1,17 @@
 -- Question 8 by limits: a field is as laid out when it does not pass its limit.
 use mathlib.Core.Path.{_≡_, refl, sym, ap, _∙_}
-use mathlib.Core.Bool.{Bool, true, false, _&&_}
+use mathlib.Core.Bool.{Bool, true, false}
 use mathlib.Core.List.{List, [], _∷_}
 use Prim.Native.Nat.{ℕ, zero, suc, _+_, _-_, _*_, _/_, _%_, _<_, _≤_}
 use native.Mathlib.Omega.{arith}
 use lib.ListN.{length, getD, set}
 use lib.Seq.{sets}
 use lib.Dec.{eqb, ltb, leb}
-use borrow.Author.Tests.{le-leb, lt-leb, eq-eqb, ne-eqb, eqb-true, eqb-false, leb-true, lt-ltb, le-ltb, ltb-true, ltb-false}
+use borrow.Author.Tests.{le-leb, lt-leb, ne-eqb, ltb-true, ltb-false}
 use Rattle.image.specs.declared.Instruction.{Instruction}
 use Rattle.image.specs.Layout.{rows, blockCount}
-use Rattle.image.specs.Questions.{fields, hasR, hasS, hasV, has, register, operandFits, laidOut, same, instructionNo}
-use Rattle.image.specs.Marks.{flag}
-use Rattle.image.specs.Limits.{limitRow, limitRows, largestOf, Limited}
+use Rattle.image.specs.Questions.{fields, hasR, hasS, hasV, has, register, operandFits, laidOut, instructionNo}
+use Rattle.image.specs.Limits.{limitRow, limitsAt, limitRows, largestOf, Limited}
 use Rattle.image.proofs.Rows.{placed, length-rows, getD-rows, row-placed}
 use Rattle.image.proofs.Written.{sets-whole}
 
@@ -76,23 +75,24 @@ row-put l at flags r s v p q e =
     let three = placed l _ _ at (at + 2) (a ∷ b ∷ []) (d ∷ []) two refl refl in
     rw (p, q, e) (placed l _ _ at (at + 3) (a ∷ b ∷ d ∷ []) (3 * d ∷ []) three refl refl)
 
-pub row-filled : (table l l₁ l₂ : List ℕ) (n : ℕ) → table ≡ fields → l₁ ≡ sets l 0 (rows (λ b. limitRow (getD fields b 0)) n)
-    → l₂ ≡ sets l₁ (4 * n) (limitRow (getD table n 0)) → l₂ ≡ sets l 0 (rows (λ b. limitRow (getD fields b 0)) (n + 1))
+pub row-filled : (table l l₁ l₂ : List ℕ) (n : ℕ) → table ≡ fields → l₁ ≡ sets l 0 (rows limitsAt n)
+    → l₂ ≡ sets l₁ (4 * n) (limitRow (getD table n 0)) → l₂ ≡ sets l 0 (rows limitsAt (n + 1))
 row-filled table l l₁ l₂ n e p q =
     let z : 4 * n ≡ 0 + 4 * n = omega arith in
-    row-placed (λ b. limitRow (getD fields b 0)) 4 (λ b. refl) l l₁ l₂ 0 n p
+    row-placed limitsAt 4 (λ b. refl) l l₁ l₂ 0 n p
     (q ∙ ap (λ (t : List ℕ). sets l₁ (4 * n) (limitRow (getD t n 0))) e ∙ ap (λ (k : ℕ). sets l₁ k (limitRow (getD fields n 0))) z)
 
 pub limits-length : length limitRows ≡ 60
 unfolding limitRows
-limits-length = length-rows (λ b. limitRow (getD fields b 0)) 4 (λ b. refl) 15
+limits-length = length-rows limitsAt 4 (λ b. refl) 15
 
-pub limits-filled : (l l′ : List ℕ) → length l ≡ 60 → l′ ≡ sets l 0 (rows (λ b. limitRow (getD fields b 0)) 15) → l′ ≡ limitRows
+pub limits-filled : (l l′ : List ℕ) → length l ≡ 60 → l′ ≡ sets l 0 (rows limitsAt 15) → l′ ≡ limitRows
 unfolding limitRows
-limits-filled l l′ e p = p ∙ sets-whole l (rows (λ b. limitRow (getD fields b 0)) 15) (limits-length ∙ sym e)
+limits-filled l l′ e p = p ∙ sets-whole l (rows limitsAt 15) (limits-length ∙ sym e)
 
 -- ---- an instruction
 
+-- one that a short buffer lacks
 pub not-held : (cells : List ℕ) (i : ℕ) → length cells < 770 + 5 * i + 5 → instructionNo cells i ≡ 8
 unfolding instructionNo
 not-held cells i h = rw (lt-leb (770 + 5 * i + 5) (length cells) h)
@@ -113,7 +113,7 @@ module _ (cells limits largest : List ℕ) (L : Limited cells limits largest) (x
   unfolding limitRows
   at-limit k j e q =
       ap (λ (l : List ℕ). getD l k 0) (L .limits-are) ∙ ap (λ (n : ℕ). getD limitRows n 0) e
-      ∙ getD-rows (λ b. limitRow (getD fields b 0)) 4 (λ b. refl) 15 (x .opcode - 1) j (omega arith) q
+      ∙ getD-rows limitsAt 4 (λ b. refl) 15 (x .opcode - 1) j (omega arith) q
 
   most-r : getD limits row 0 ≡ 15 * has (x .opcode) hasR
   most-r = at-limit row 0 (omega arith) (omega arith)
@@ -171,17 +171,3 @@ module _ (cells limits largest : List ℕ) (L : Limited cells limits largest) (x
 
   pub kind-known : x .kind ≤ getD limits (row + 3) 0 → x .kind < 4
   kind-known h = omega (arith, most-kind)
-
--- ---- the mark of the last in a block
-
-pub marks-differ : (a b : Bool) (m n : ℕ) → m ≡ flag a → n ≡ flag b → (m ≡ n → ⊥) → same a b ≡ false
-marks-differ true true m n p q h = absurd (h (p ∙ sym q))
-marks-differ true false m n p q h = refl
-marks-differ false true m n p q h = refl
-marks-differ false false m n p q h = absurd (h (p ∙ sym q))
-
-pub marks-agree : (a b : Bool) (m n : ℕ) → m ≡ flag a → n ≡ flag b → m ≡ n → same a b ≡ true
-marks-agree true true m n p q h = refl
-marks-agree true false m n p q h = absurd (omega arith)
-marks-agree false true m n p q h = absurd (omega arith)
-marks-agree false false m n p q h = refl

@@ -10,7 +10,7 @@ use lib.Seq.{getD-set-same, getD-set-other}
 use lib.Dec.{eqb, ltb, leb}
 use borrow.Author.Tests.{eq-eqb, ne-eqb, eqb-true, eqb-false, ltb-true, leb-true}
 use Rattle.image.specs.Layout.{blockCount, instructionCount, blockOf}
-use Rattle.image.specs.Questions.{ask, starts, startsAt, lastInBlock, annotated, blockNo}
+use Rattle.image.specs.Questions.{ask, starts, startsAt, lastInBlock, same, annotated, blockNo}
 use Rattle.image.specs.Marks.{flag, Marked}
 use Rattle.image.proofs.Asked.{ask-yes}
 use Rattle.image.proofs.Booleans.{both-true}
@@ -53,3 +53,16 @@ pub marked-last : (cells marks : List ℕ) (i : ℕ) → (i + 1 ≡ instructionC
     → Marked cells (blockCount cells) marks → getD marks (i + 1) 0 ≡ flag (lastInBlock cells i)
 unfolding lastInBlock
 marked-last cells marks i e h m = rw (ne-eqb (i + 1) (instructionCount cells) e) (m .marked (i + 1) h)
+
+-- question 9 by marks
+pub marks-differ : (a b : Bool) (m n : ℕ) → m ≡ flag a → n ≡ flag b → (m ≡ n → ⊥) → same a b ≡ false
+marks-differ true true m n p q h = absurd (h (p ∙ sym q))
+marks-differ true false m n p q h = refl
+marks-differ false true m n p q h = refl
+marks-differ false false m n p q h = absurd (h (p ∙ sym q))
+
+pub marks-agree : (a b : Bool) (m n : ℕ) → m ≡ flag a → n ≡ flag b → m ≡ n → same a b ≡ true
+marks-agree true true m n p q h = refl
+marks-agree true false m n p q h = absurd (omega arith)
+marks-agree false true m n p q h = absurd (omega arith)
+marks-agree false false m n p q h = refl

@@ -1,7 +1,7 @@
 -- What the fields of an instruction record are compared with, worked out once for all instructions.
 use mathlib.Core.Path.{_≡_}
 use mathlib.Core.List.{List, [], _∷_}
-use Prim.Native.Nat.{ℕ, _+_, _-_, _*_, _/_, _%_, _≤_}
+use Prim.Native.Nat.{ℕ, _-_, _*_, _/_, _%_, _≤_}
 use lib.ListN.{getD}
 use Rattle.image.specs.Layout.{rows, blockCount}
 use Rattle.image.specs.Questions.{fields, hasR, hasS, hasV}
@@ -11,8 +11,11 @@ abbrev pub limitRow : ℕ → List ℕ
 limitRow flags = 15 * (flags / hasR % 2) ∷ 15 * (flags / hasS % 2) ∷ (flags / hasV % 2) ∷ 3 * (flags / hasV % 2) ∷ []
 
 -- the rows of the fifteen opcodes
+abbrev pub limitsAt : ℕ → List ℕ
+limitsAt n = limitRow (getD fields n 0)
+
 unfoldable pub limitRows : List ℕ
-limitRows = rows (λ b. limitRow (getD fields b 0)) 15
+limitRows = rows limitsAt 15
 
 -- the largest operand of each kind: absent, register, label, integer
 abbrev pub largestOf : ℕ → List ℕ

@@ -1,11 +1,10 @@
 // The questions put to a program. Each function of a record is shared by the reader, the writer and every later door.
 use crate::Block;
-use crate::Instruction;
 use crate::layout;
 ghost use mathlib.Core.Path.{_≡_};
 ghost use Prim.Native.Nat.{ℕ, _+_, _*_, _<_, _≤_};
 ghost use lib.Dec.{leb};
-ghost use lib.ListN.{length, getD};
+ghost use lib.ListN.{length};
 ghost use lib.Seq.{sets};
 ghost use Rattle.image.specs.Layout.{blockCount, instructionCount, instructionOf};
 ghost use Rattle.image.specs.Questions.{countsNo, starts, rising, unjoined, joined, annotated, blockNo, firstNo, fields, laidOut, lastInBlock, instructionNo, recordsNo, programNo};
@@ -158,7 +157,7 @@ fn ask_block(cells: &[u64], b: usize) -> u8
     0
 }
 
-// The row of an opcode with these flags.
+// The limits of an opcode's fields, by its flags: the largest r and s, the least and the largest kind.
 fn put_limits(limits: &mut [u64], at: usize, flags: u8)
     requires { ⌜ at + 4 ≤ length (now limits) ⌝ }
     ensures { λ _. ⌜ now (limits .exit) ≡ sets (now (limits .entry)) at (limitRow flags) ⌝ }
@@ -172,7 +171,7 @@ fn put_limits(limits: &mut [u64], at: usize, flags: u8)
     limits[at + 3] = 3 * v;
 }
 
-// The rows of all opcodes. The table is lent, since a constant is built anew where it is used.
+// The limits of all opcodes. The table is lent, since a constant is built anew where it is used.
 fn fill_limits(table: &[u8], limits: &mut [u64])
     requires { ⌜ (now table ≡ fields) × (length (now limits) ≡ 60) ⌝ }
     ensures { λ _. ⌜ now (limits .exit) ≡ limitRows ⌝ }
@@ -258,7 +257,7 @@ fn ask_instruction(limits: &[u64], largest: &[u64], cells: &[u64], last: u8, i: 
     0
 }
 
-// How many instructions before the last one the buffer has.
+// How many instructions before the last one the buffer has, so that the loop need not ask at each.
 fn held_before_last(cells: &[u64]) -> usize
     requires { ⌜ (1 < length (now cells)) × (1 ≤ instructionCount (now cells)) × (instructionCount (now cells) ≤ 1024) ⌝ }
     ensures { λ r. ⌜ (r < instructionCount (now (cells .entry))) × ((i : ℕ) → i < r → 770 + 5 * i + 5 ≤ length (now (cells .entry))) × (770 + 5 * r + 5 ≤ length (now (cells .entry)) → r + 1 ≡ instructionCount (now (cells .entry))) ⌝ }
@@ -306,6 +305,7 @@ pub fn ask_records(cells: &[u64]) -> u8
     let table = FIELDS;
     let mut limits = [0u64; 60];
     fill_limits(&table, &mut limits);
+    // Of each kind of operand: absent, register, label, integer.
     let largest = [0, 15, cells[0] - 1, 18446744073709551615];
     ask_instructions(&limits, &largest, cells, &marks)
 }

@@ -1,7 +1,7 @@
 -- `ask_instruction` meets its contract.
 use borrow.Author.Tests.{le-leb, not-true, not-false}
 use Rattle.image.specs.Questions.{instructionNo}
-use Rattle.image.proofs.Limiting.{marks-differ, marks-agree}
+use Rattle.image.proofs.Marking.{marks-differ, marks-agree}
 use borrow.Author.Needs.{needs}
 use Rattle.image.proofs.questions.ask_instruction.Statement.{statement}
 use Rattle.image.proofs.questions.ask_instruction.Tie as tie

@@ -2,18 +2,17 @@
 use mathlib.Core.Path.{_≡_, refl, ap, _∙_}
 use mathlib.Core.List.{List}
 use Prim.Native.Nat.{ℕ, _+_, _-_, _*_, _≤_}
-use lib.ListN.{length, getD}
+use lib.ListN.{length}
 use lib.Seq.{sets}
 use Rattle.image.specs.Layout.{rows}
-use Rattle.image.specs.Questions.{fields}
-use Rattle.image.specs.Limits.{limitRow}
+use Rattle.image.specs.Limits.{limitsAt}
 use Rattle.image.proofs.Limiting.{row-filled, limits-filled}
 use native.Mathlib.Omega.{arith}
 use Rattle.image.proofs.questions.fill_limits.Statement.{statement}
 use Rattle.image.proofs.questions.fill_limits.Tie as tie
 
 abbrev Inv-loop : tie.InvT-loop
-Inv-loop table limits₀ row₀ limits row = (row ≤ 15) × (length limits ≡ length limits₀) × (limits ≡ sets limits₀ 0 (rows (λ (b : ℕ). limitRow (getD fields b 0)) row))
+Inv-loop table limits₀ row₀ limits row = (row ≤ 15) × (length limits ≡ length limits₀) × (limits ≡ sets limits₀ 0 (rows limitsAt row))
 
 abbrev μ-loop : tie.MeasureT-loop
 μ-loop table limits₀ row₀ limits row = 15 - row
@@ -44,7 +43,7 @@ same-length : tie.Need-same-length Inv-loop μ-loop
 same-length c = c .before .loop .inv .1
 
 returns : tie.Need-returns Inv-loop μ-loop
-returns c = limits-filled _ _ (c .before .before .before .before .pre .1) (c .before .loop .inv .2 ∙ ap (λ (n : ℕ). sets (c .before .before .before .before .args .limits .now) 0 (rows (λ (b : ℕ). limitRow (getD fields b 0)) n)) (omega arith))
+returns c = limits-filled _ _ (c .before .before .before .before .pre .1) (c .before .loop .inv .2 ∙ ap (λ (n : ℕ). sets (c .before .before .before .before .args .limits .now) 0 (rows limitsAt n)) (omega arith))
 
 pub fill-limits-spec : {M : Type 1} → statement M
 fill-limits-spec =
