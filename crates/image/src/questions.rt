@@ -306,7 +306,7 @@ pub fn ask_records(cells: &[u64]) -> u8
     let mut limits = [0u64; 60];
     fill_limits(&table, &mut limits);
     // Of each kind of operand: absent, register, label, integer.
-    let largest = [0, 15, cells[0] - 1, 18446744073709551615];
+    let largest = [0, 15, cells[0] - 1, u64::MAX];
     ask_instructions(&limits, &largest, cells, &marks)
 }
 
