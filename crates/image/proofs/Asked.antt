@@ -20,6 +20,11 @@ pub or-else-yes : (a b : ℕ) → a ≡ 0 → orElse a b ≡ b
 unfolding orElse
 or-else-yes a b h = rw (eq-eqb a 0 h)
 
+or-else-none : (a : ℕ) → orElse a 0 ≡ a
+unfolding orElse
+or-else-none zero = refl
+or-else-none (suc a) = or-else-no (suc a) 0 (λ e. (omega arith))
+
 pub or-else-both : (a b : ℕ) → orElse a b ≡ 0 → (a ≡ 0) × (b ≡ 0)
 unfolding orElse
 or-else-both zero b h = (refl, h)
@@ -53,11 +58,19 @@ module _ (f : ℕ → ℕ) (to i : ℕ) where
   none : to ≤ i → to - i ≡ 0
   none h = omega arith
 
+  one : i + 1 ≡ to → to - i ≡ 1
+  one h = omega arith
+
   pub goes-on : i < to → f i ≡ 0 → firstNo f (to - i) i ≡ firstNo f (to - (i + 1)) (i + 1)
   goes-on h e = first-no-skips f (to - i) i (omega arith) e ∙ ap (λ (n : ℕ). firstNo f n (i + 1)) (rest h)
 
   pub decides : i < to → (f i ≡ 0 → ⊥) → firstNo f (to - i) i ≡ f i
   decides h e = first-no-stops f (to - i) i (omega arith) e
+
+  -- the last one
+  pub closes : i + 1 ≡ to → firstNo f (to - i) i ≡ f i
+  unfolding firstNo
+  closes h = rw (one h) (or-else-none (f i))
 
   pub no-more : to ≤ i → firstNo f (to - i) i ≡ 0
   unfolding firstNo

@@ -9,6 +9,7 @@ pub mod Header
 pub mod Copying
 pub mod Accepted
 pub mod Written
+pub mod Limiting
 pub mod SmallBytes
 pub mod Chunks
 pub mod WrittenBack

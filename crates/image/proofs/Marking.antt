@@ -10,7 +10,7 @@ use lib.Seq.{getD-set-same, getD-set-other}
 use lib.Dec.{eqb, ltb, leb}
 use borrow.Author.Tests.{eq-eqb, ne-eqb, eqb-true, eqb-false, ltb-true, leb-true}
 use Rattle.image.specs.Layout.{blockCount, instructionCount, blockOf}
-use Rattle.image.specs.Questions.{ask, starts, startsAt, lastInBlock, annotated, blockNo}
+use Rattle.image.specs.Questions.{ask, starts, startsAt, lastInBlock, same, annotated, blockNo}
 use Rattle.image.specs.Marks.{flag, Marked}
 use Rattle.image.proofs.Asked.{ask-yes}
 use Rattle.image.proofs.Booleans.{both-true}
@@ -49,11 +49,20 @@ pub last-of-all : (cells : List ℕ) (i : ℕ) → i + 1 ≡ instructionCount ce
 unfolding lastInBlock
 last-of-all cells i e = rw (eq-eqb (i + 1) (instructionCount cells) e)
 
-flag-is : (t : Bool) → eqb (flag t) 1 ≡ t
-flag-is true = refl
-flag-is false = refl
-
-pub last-by-mark : (cells marks : List ℕ) (i : ℕ) → (i + 1 ≡ instructionCount cells → ⊥) → i + 1 < 1024
-    → Marked cells (blockCount cells) marks → eqb (getD marks (i + 1) 0) 1 ≡ lastInBlock cells i
+pub marked-last : (cells marks : List ℕ) (i : ℕ) → (i + 1 ≡ instructionCount cells → ⊥) → i + 1 < 1024
+    → Marked cells (blockCount cells) marks → getD marks (i + 1) 0 ≡ flag (lastInBlock cells i)
 unfolding lastInBlock
-last-by-mark cells marks i e h m = rw (ne-eqb (i + 1) (instructionCount cells) e, m .marked (i + 1) h) (flag-is (startsAt cells (blockCount cells) (i + 1)))
+marked-last cells marks i e h m = rw (ne-eqb (i + 1) (instructionCount cells) e) (m .marked (i + 1) h)
+
+-- question 9 by marks
+pub marks-differ : (a b : Bool) (m n : ℕ) → m ≡ flag a → n ≡ flag b → (m ≡ n → ⊥) → same a b ≡ false
+marks-differ true true m n p q h = absurd (h (p ∙ sym q))
+marks-differ true false m n p q h = refl
+marks-differ false true m n p q h = refl
+marks-differ false false m n p q h = absurd (h (p ∙ sym q))
+
+pub marks-agree : (a b : Bool) (m n : ℕ) → m ≡ flag a → n ≡ flag b → m ≡ n → same a b ≡ true
+marks-agree true true m n p q h = refl
+marks-agree true false m n p q h = absurd (omega arith)
+marks-agree false true m n p q h = absurd (omega arith)
+marks-agree false false m n p q h = refl

@@ -10,7 +10,7 @@ use Rattle.image.specs.Layout.{rows, imageLength, blockCount, instructio
 use Rattle.image.proofs.Rows.{placed, length-rows}
 
 -- a list that is overwritten whole
-sets-whole : (l xs : List ℕ) → length xs ≡ length l → sets l 0 xs ≡ xs
+pub sets-whole : (l xs : List ℕ) → length xs ≡ length l → sets l 0 xs ≡ xs
 sets-whole l xs e =
     sets-eq xs l 0 (omega arith)
     ∙ ap (λ (r : List ℕ). xs ++ r) (drop-of-length-le l {i = 0 + length xs} (omega arith)) ∙ append-nil xs

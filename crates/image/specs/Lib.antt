@@ -1,5 +1,6 @@
 pub mod Layout
 pub mod Questions
 pub mod Marks
+pub mod Limits
 pub mod Doors
 pub mod RoundTrip

@@ -1,13 +1,15 @@
 // The questions put to a program. Each function of a record is shared by the reader, the writer and every later door.
 use crate::Block;
-use crate::Instruction;
 use crate::layout;
 ghost use mathlib.Core.Path.{_≡_};
 ghost use Prim.Native.Nat.{ℕ, _+_, _*_, _<_, _≤_};
-ghost use lib.ListN.{length, getD};
-ghost use Rattle.image.specs.Layout.{blockCount, instructionCount};
-ghost use Rattle.image.specs.Questions.{countsNo, starts, rising, unjoined, joined, annotated, blockNo, firstNo, fields, has, register, operandFits, laidOut, startsAt, lastInBlock, instructionNo, recordsNo, programNo};
-ghost use Rattle.image.specs.Marks.{Marked};
+ghost use lib.Dec.{leb};
+ghost use lib.ListN.{length};
+ghost use lib.Seq.{sets};
+ghost use Rattle.image.specs.Layout.{blockCount, instructionCount, instructionOf};
+ghost use Rattle.image.specs.Questions.{countsNo, starts, rising, unjoined, joined, annotated, blockNo, firstNo, fields, laidOut, lastInBlock, instructionNo, recordsNo, programNo};
+ghost use Rattle.image.specs.Marks.{flag, Marked};
+ghost use Rattle.image.specs.Limits.{limitRow, limitRows, Limited};
 
 // The flags of the table's rows: an opcode has r, s, v.
 const R: u8 = 4;
@@ -155,46 +157,38 @@ fn ask_block(cells: &[u64], b: usize) -> u8
     0
 }
 
-// Whether an opcode has a field. The table is lent, since a constant is built anew where it is used.
-fn field_of(table: &[u8], opcode: u64, field: u8) -> u8
-    requires { ⌜ (now table ≡ fields) × (1 ≤ opcode) × (opcode ≤ 15) × (0 < field) ⌝ }
-    ensures { λ r. ⌜ r ≡ has opcode field ⌝ }
+// The limits of an opcode's fields, by its flags: the largest r and s, the least and the largest kind.
+fn put_limits(limits: &mut [u64], at: usize, flags: u8)
+    requires { ⌜ at + 4 ≤ length (now limits) ⌝ }
+    ensures { λ _. ⌜ now (limits .exit) ≡ sets (now (limits .entry)) at (limitRow flags) ⌝ }
 {
-    table[(opcode - 1) as usize] / field % 2
+    let r = layout::wide(flags / R % 2);
+    let s = layout::wide(flags / S % 2);
+    let v = layout::wide(flags / V % 2);
+    limits[at] = 15 * r;
+    limits[at + 1] = 15 * s;
+    limits[at + 2] = v;
+    limits[at + 3] = 3 * v;
 }
 
-fn is_register(has: u8, x: u64) -> bool
-    ensures { λ r. ⌜ r ≡ register has x ⌝ }
+// The limits of all opcodes. The table is lent, since a constant is built anew where it is used.
+fn fill_limits(table: &[u8], limits: &mut [u64])
+    requires { ⌜ (now table ≡ fields) × (length (now limits) ≡ 60) ⌝ }
+    ensures { λ _. ⌜ now (limits .exit) ≡ limitRows ⌝ }
 {
-    if has == 0 {
-        return x == 0;
+    let mut row = 0;
+    while row < 15 {
+        put_limits(limits, 4 * row, table[row]);
+        row = row + 1;
     }
-    x <= 15
 }
 
-fn is_operand(blocks: u64, has: u8, kind: u64, operand: u64) -> bool
-    ensures { λ r. ⌜ r ≡ operandFits blocks has kind operand ⌝ }
+// Question 8 of instruction i, by comparing each field with its limit: no branch depends on which opcode it is.
+fn is_laid_out(limits: &[u64], largest: &[u64], cells: &[u64], i: usize) -> bool
+    requires { ⌜ Limited (now cells) (now limits) (now largest) × (770 + 5 * i + 5 ≤ length (now cells)) ⌝ }
+    ensures { λ r. ⌜ r ≡ laidOut (blockCount (now (cells .entry))) (instructionOf (now (cells .entry)) i) ⌝ }
 {
-    if has == 0 {
-        if kind != 0 {
-            return false;
-        }
-        return operand == 0;
-    }
-    if kind == 1 {
-        return operand <= 15;
-    }
-    if kind == 2 {
-        return operand < blocks;
-    }
-    kind == 3
-}
-
-// Question 8.
-fn is_laid_out(table: &[u8], blocks: u64, x: Instruction) -> bool
-    requires { ⌜ now table ≡ fields ⌝ }
-    ensures { λ r. ⌜ r ≡ laidOut blocks x ⌝ }
-{
+    let x = layout::instruction_of(cells, i);
     let opcode = x.opcode;
     if opcode < 1 {
         return false;
@@ -202,13 +196,21 @@ fn is_laid_out(table: &[u8], blocks: u64, x: Instruction) -> bool
     if 15 < opcode {
         return false;
     }
-    if !is_register(field_of(table, opcode, R), x.r) {
+    let row = 4 * (opcode - 1) as usize;
+    if limits[row] < x.r {
         return false;
     }
-    if !is_register(field_of(table, opcode, S), x.s) {
+    if limits[row + 1] < x.s {
         return false;
     }
-    is_operand(blocks, field_of(table, opcode, V), x.kind, x.operand)
+    let kind = x.kind;
+    if kind < limits[row + 2] {
+        return false;
+    }
+    if limits[row + 3] < kind {
+        return false;
+    }
+    x.operand <= largest[kind as usize]
 }
 
 // Questions 6 and 7 of all blocks. Where all are answered with yes, marks the instructions that start a block.
@@ -231,58 +233,63 @@ fn ask_blocks(cells: &[u64], marks: &mut [u8]) -> u8
     0
 }
 
-// Whether instruction i is the last of its block.
-fn ends_block(cells: &[u64], marks: &[u8], i: usize) -> bool
-    requires { ⌜ (1 < length (now cells)) × (i < instructionCount (now cells)) × (instructionCount (now cells) ≤ 1024) × Marked (now cells) (blockCount (now cells)) (now marks) ⌝ }
-    ensures { λ r. ⌜ r ≡ lastInBlock (now (cells .entry)) i ⌝ }
+// Whether an opcode ends a block, as a mark.
+fn end_mark(opcode: u64) -> u8
+    ensures { λ r. ⌜ r ≡ flag (leb 13 opcode) ⌝ }
 {
-    let next = i + 1;
-    let instructions = cells[1] as usize;
-    if next == instructions {
-        return true;
-    }
-    marks[next] == 1
-}
-
-// Questions 8 and 9 of instruction i.
-fn ask_instruction(table: &[u8], cells: &[u64], marks: &[u8], i: usize) -> u8
-    requires { ⌜ (now table ≡ fields) × (1 < length (now cells)) × (i < instructionCount (now cells)) × (instructionCount (now cells) ≤ 1024) × Marked (now cells) (blockCount (now cells)) (now marks) ⌝ }
-    ensures { λ r. ⌜ r ≡ instructionNo (now (cells .entry)) i ⌝ }
-{
-    if cells.len() < 770 + 5 * i + 5 {
-        return 8;
-    }
-    let x = layout::instruction_of(cells, i);
-    if !is_laid_out(table, cells[0], x) {
-        return 8;
-    }
-    if ends_block(cells, marks, i) {
-        if x.opcode < 13 {
-            return 9;
-        }
+    if opcode < 13 {
         return 0;
     }
-    if 13 <= x.opcode {
+    1
+}
+
+// Questions 8 and 9 of instruction i, which the buffer has; `last` marks the last of a block.
+fn ask_instruction(limits: &[u64], largest: &[u64], cells: &[u64], last: u8, i: usize) -> u8
+    requires { ⌜ Limited (now cells) (now limits) (now largest) × (770 + 5 * i + 5 ≤ length (now cells)) × (last ≡ flag (lastInBlock (now cells) i)) ⌝ }
+    ensures { λ r. ⌜ r ≡ instructionNo (now (cells .entry)) i ⌝ }
+{
+    if !is_laid_out(limits, largest, cells, i) {
+        return 8;
+    }
+    if end_mark(cells[770 + 5 * i]) != last {
         return 9;
     }
     0
 }
 
+// How many instructions before the last one the buffer has, so that the loop need not ask at each.
+fn held_before_last(cells: &[u64]) -> usize
+    requires { ⌜ (1 < length (now cells)) × (1 ≤ instructionCount (now cells)) × (instructionCount (now cells) ≤ 1024) ⌝ }
+    ensures { λ r. ⌜ (r < instructionCount (now (cells .entry))) × ((i : ℕ) → i < r → 770 + 5 * i + 5 ≤ length (now (cells .entry))) × (770 + 5 * r + 5 ≤ length (now (cells .entry)) → r + 1 ≡ instructionCount (now (cells .entry))) ⌝ }
+{
+    let last = cells[1] as usize - 1;
+    if 770 + 5 * last <= cells.len() {
+        return last;
+    }
+    if cells.len() < 770 {
+        return 0;
+    }
+    (cells.len() - 770) / 5
+}
+
 // Questions 8 and 9 of all instructions.
-fn ask_instructions(table: &[u8], cells: &[u64], marks: &[u8]) -> u8
-    requires { ⌜ (now table ≡ fields) × (1 < length (now cells)) × (instructionCount (now cells) ≤ 1024) × Marked (now cells) (blockCount (now cells)) (now marks) ⌝ }
+fn ask_instructions(limits: &[u64], largest: &[u64], cells: &[u64], marks: &[u8]) -> u8
+    requires { ⌜ Limited (now cells) (now limits) (now largest) × (1 < length (now cells)) × (1 ≤ instructionCount (now cells)) × (instructionCount (now cells) ≤ 1024) × Marked (now cells) (blockCount (now cells)) (now marks) ⌝ }
     ensures { λ r. ⌜ r ≡ firstNo (instructionNo (now (cells .entry))) (instructionCount (now (cells .entry))) 0 ⌝ }
 {
-    let instructions = cells[1] as usize;
+    let held = held_before_last(cells);
     let mut i = 0;
-    while i < instructions {
-        let no = ask_instruction(table, cells, marks, i);
+    while i < held {
+        let no = ask_instruction(limits, largest, cells, marks[i + 1], i);
         if no != 0 {
             return no;
         }
         i = i + 1;
     }
-    0
+    if cells.len() < 770 + 5 * held + 5 {
+        return 8;
+    }
+    ask_instruction(limits, largest, cells, 1, held)
 }
 
 // Questions 6 to 9. The caller has put question 4.
@@ -296,7 +303,11 @@ pub fn ask_records(cells: &[u64]) -> u8
         return no;
     }
     let table = FIELDS;
-    ask_instructions(&table, cells, &marks)
+    let mut limits = [0u64; 60];
+    fill_limits(&table, &mut limits);
+    // Of each kind of operand: absent, register, label, integer.
+    let largest = [0, 15, cells[0] - 1, u64::MAX];
+    ask_instructions(&limits, &largest, cells, &marks)
 }
 
 // Questions 4 and 6 to 9: what the writer, start, pick and run put to their program.

@@ -6,6 +6,7 @@ use Rattle.image.proofs.Asked.{or-else-no, or-else-yes}
 use Rattle.image.proofs.Marking.{marked-none}
 use Rattle.image.proofs.Counts.{counted, two-cells}
 use borrow.Author.Needs.{needs}
+use native.Mathlib.Omega.{arith}
 use Rattle.image.proofs.questions.ask_records.Statement.{statement}
 use Rattle.image.proofs.questions.ask_records.Tie as tie
 
@@ -19,18 +20,36 @@ returns : tie.Need-returns
 unfolding recordsNo
 returns c = c .before .before .ask-blocks .ensures .0 ∙ sym (or-else-no (firstNo (blockNo (c .before .before .before .before .before .args .cells .now)) (blockCount (c .before .before .before .before .before .args .cells .now)) 0) (firstNo (instructionNo (c .before .before .before .before .before .args .cells .now)) (instructionCount (c .before .before .before .before .before .args .cells .now)) 0) (λ e. c .if1 .taken (c .before .before .ask-blocks .ensures .0 ∙ e)))
 
+slice-aggregate-fill-limits : tie.Need-slice-aggregate-fill-limits
+slice-aggregate-fill-limits c = search needs
+
+slice-aggregate-fill-limits-2 : tie.Need-slice-aggregate-fill-limits-2
+slice-aggregate-fill-limits-2 c = search needs
+
+fill-limits-requires : tie.Need-fill-limits-requires
+fill-limits-requires c κs = (refl, refl)
+
+shared-slice-read-t17 : tie.Need-shared-slice-read-t17
+shared-slice-read-t17 c = omega (arith, two-cells (c .before .before .before .before .before .before .before .before .before .before .args .cells .now) (c .before .before .before .before .before .before .before .before .before .before .pre))
+
+sub-t18 : tie.Need-sub-t18
+sub-t18 c = counted (blockCount (c .before .before .before .before .before .before .before .before .before .before .args .cells .now)) (instructionCount (c .before .before .before .before .before .before .before .before .before .before .args .cells .now)) (c .before .before .before .before .before .before .before .before .before .before .pre) .some-block
+
 slice-aggregate-ask-instructions : tie.Need-slice-aggregate-ask-instructions
 slice-aggregate-ask-instructions c = search needs
 
 slice-aggregate-ask-instructions-2 : tie.Need-slice-aggregate-ask-instructions-2
 slice-aggregate-ask-instructions-2 c = search needs
 
+slice-aggregate-ask-instructions-3 : tie.Need-slice-aggregate-ask-instructions-3
+slice-aggregate-ask-instructions-3 c = search needs
+
 ask-instructions-requires : tie.Need-ask-instructions-requires
-ask-instructions-requires c κs = let k = counted (blockCount (c .before .before .before .before .before .before .before .args .cells .now)) (instructionCount (c .before .before .before .before .before .before .before .args .cells .now)) (c .before .before .before .before .before .before .before .pre) in (refl, two-cells (c .before .before .before .before .before .before .before .args .cells .now) (c .before .before .before .before .before .before .before .pre), k .instructions-fit, c .before .before .before .before .ask-blocks .ensures .1 (c .before .before .if1 .left))
+ask-instructions-requires c κs = let k = counted (blockCount (c .before .before .before .before .before .before .before .before .before .before .before .before .before .args .cells .now)) (instructionCount (c .before .before .before .before .before .before .before .before .before .before .before .before .before .args .cells .now)) (c .before .before .before .before .before .before .before .before .before .before .before .before .before .pre) in (record { some-block = k .some-block; limits-are = c .before .before .before .before .before .fill-limits .ensures; largest-are = refl }, two-cells (c .before .before .before .before .before .before .before .before .before .before .before .before .before .args .cells .now) (c .before .before .before .before .before .before .before .before .before .before .before .before .before .pre), k .some-instruction, k .instructions-fit, c .before .before .before .before .before .before .before .before .before .before .ask-blocks .ensures .1 (c .before .before .before .before .before .before .before .before .if1 .left))
 
 returns-2 : tie.Need-returns-2
 unfolding recordsNo
-returns-2 c = c .ask-instructions .ensures ∙ sym (or-else-yes (firstNo (blockNo (c .before .before .before .before .before .before .before .before .args .cells .now)) (blockCount (c .before .before .before .before .before .before .before .before .args .cells .now)) 0) (firstNo (instructionNo (c .before .before .before .before .before .before .before .before .args .cells .now)) (instructionCount (c .before .before .before .before .before .before .before .before .args .cells .now)) 0) (sym (c .before .before .before .before .before .ask-blocks .ensures .0) ∙ c .before .before .before .if1 .left))
+returns-2 c = c .ask-instructions .ensures ∙ sym (or-else-yes (firstNo (blockNo (c .before .before .before .before .before .before .before .before .before .before .before .before .before .before .args .cells .now)) (blockCount (c .before .before .before .before .before .before .before .before .before .before .before .before .before .before .args .cells .now)) 0) (firstNo (instructionNo (c .before .before .before .before .before .before .before .before .before .before .before .before .before .before .args .cells .now)) (instructionCount (c .before .before .before .before .before .before .before .before .before .before .before .before .before .before .args .cells .now)) 0) (sym (c .before .before .before .before .before .before .before .before .before .before .before .ask-blocks .ensures .0) ∙ c .before .before .before .before .before .before .before .before .before .if1 .left))
 
 pub ask-records-spec : {M : Type 1} → statement M
 ask-records-spec =
@@ -39,7 +58,13 @@ ask-records-spec =
     slice-aggregate-ask-blocks
     ask-blocks-requires
     returns
+    slice-aggregate-fill-limits
+    slice-aggregate-fill-limits-2
+    fill-limits-requires
+    shared-slice-read-t17
+    sub-t18
     slice-aggregate-ask-instructions
     slice-aggregate-ask-instructions-2
+    slice-aggregate-ask-instructions-3
     ask-instructions-requires
     returns-2)

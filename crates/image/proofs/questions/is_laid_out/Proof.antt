@@ -1,61 +1,102 @@
 -- `is_laid_out` meets its contract.
-use borrow.Author.Tests.{le-leb, lt-leb, not-true, not-false}
+use mathlib.Core.Path.{sym, ap, _∙_}
+use Rattle.image.specs.Layout.{blockCount}
 use Rattle.image.specs.Questions.{laidOut}
+use Rattle.image.proofs.Limiting.{no-opcode, past-opcodes, beyond-r, beyond-s, below-kind, beyond-kind, operand-decides, kind-known, row-inside, four-largest}
 use borrow.Author.Needs.{needs}
 use native.Mathlib.Omega.{arith}
 use Rattle.image.proofs.questions.is_laid_out.Statement.{statement}
 use Rattle.image.proofs.questions.is_laid_out.Tie as tie
 
+instruction-of-requires : tie.Need-instruction-of-requires
+instruction-of-requires c κs = search needs
+
 returns : tie.Need-returns
-unfolding laidOut
-returns c = rw (lt-leb _ _ (c .if1 .taken))
+returns c = sym (ap (laidOut (blockCount (c .before .before .before .before .before .args .cells .now))) (sym (c .before .instruction-of .ensures)) ∙ no-opcode (blockCount (c .before .before .before .before .before .args .cells .now)) (c .before .instruction-of .result) (c .if1 .taken))
 
 returns-2 : tie.Need-returns-2
-unfolding laidOut
-returns-2 c = rw (le-leb _ _ (c .before .if1 .left), lt-leb _ _ (c .if2 .taken))
+returns-2 c = sym (ap (laidOut (blockCount (c .before .before .before .before .before .before .args .cells .now))) (sym (c .before .before .instruction-of .ensures)) ∙ past-opcodes (blockCount (c .before .before .before .before .before .before .args .cells .now)) (c .before .before .instruction-of .result) (c .if2 .taken))
 
-field-of-requires : tie.Need-field-of-requires
-field-of-requires c κs = (c .before .before .before .pre, c .before .if1 .left, c .if2 .left, omega arith)
+mul-row : tie.Need-mul-row
+mul-row c = search needs
 
-is-register-requires : tie.Need-is-register-requires
-is-register-requires c κs = search needs
+mul-if3 : tie.Need-mul-if3
+mul-if3 c = search needs
+
+shared-slice-read-if3 : tie.Need-shared-slice-read-if3
+shared-slice-read-if3 c = omega (arith, row-inside (c .before .before .before .before .before .before .before .args .cells .now) (c .before .before .before .before .before .before .before .args .limits .now) (c .before .before .before .before .before .before .before .args .largest .now) (c .before .before .before .before .before .before .before .pre .0) (c .before .before .before .instruction-of .result) (c .before .before .if1 .left) (c .before .if2 .left))
 
 returns-3 : tie.Need-returns-3
-unfolding laidOut
-returns-3 c = rw (le-leb _ _ (c .before .before .before .before .if1 .left), le-leb _ _ (c .before .before .before .if2 .left), ← (c .before .before .field-of .ensures), ← (c .before .is-register .ensures), not-true (c .before .is-register .result) (c .if3 .taken))
+returns-3 c = sym (ap (laidOut (blockCount (c .before .before .before .before .before .before .before .before .before .args .cells .now))) (sym (c .before .before .before .before .before .instruction-of .ensures)) ∙ beyond-r (c .before .before .before .before .before .before .before .before .before .args .cells .now) (c .before .before .before .before .before .before .before .before .before .args .limits .now) (c .before .before .before .before .before .before .before .before .before .args .largest .now) (c .before .before .before .before .before .before .before .before .before .pre .0) (c .before .before .before .before .before .instruction-of .result) (c .before .before .before .before .if1 .left) (c .before .before .before .if2 .left) (c .if3 .taken))
 
-field-of-requires-2 : tie.Need-field-of-requires-2
-field-of-requires-2 c κs = (c .before .before .before .before .before .before .pre, c .before .before .before .before .if1 .left, c .before .before .before .if2 .left, omega arith)
+add-if4 : tie.Need-add-if4
+add-if4 c = search needs
 
-is-register-requires-2 : tie.Need-is-register-requires-2
-is-register-requires-2 c κs = search needs
+mul-if4 : tie.Need-mul-if4
+mul-if4 c = search needs
+
+shared-slice-read-if4 : tie.Need-shared-slice-read-if4
+shared-slice-read-if4 c = omega (arith, row-inside (c .before .before .before .before .before .before .before .before .before .before .args .cells .now) (c .before .before .before .before .before .before .before .before .before .before .args .limits .now) (c .before .before .before .before .before .before .before .before .before .before .args .largest .now) (c .before .before .before .before .before .before .before .before .before .before .pre .0) (c .before .before .before .before .before .before .instruction-of .result) (c .before .before .before .before .before .if1 .left) (c .before .before .before .before .if2 .left))
 
 returns-4 : tie.Need-returns-4
-unfolding laidOut
-returns-4 c = rw (le-leb _ _ (c .before .before .before .before .before .before .before .if1 .left), le-leb _ _ (c .before .before .before .before .before .before .if2 .left), ← (c .before .before .before .before .before .field-of .ensures), ← (c .before .before .before .before .is-register .ensures), not-false (c .before .before .before .before .is-register .result) (c .before .before .before .if3 .left), ← (c .before .before .field-of2 .ensures), ← (c .before .is-register2 .ensures), not-true (c .before .is-register2 .result) (c .if4 .taken))
+returns-4 c = sym (ap (laidOut (blockCount (c .before .before .before .before .before .before .before .before .before .before .before .before .args .cells .now))) (sym (c .before .before .before .before .before .before .before .before .instruction-of .ensures)) ∙ beyond-s (c .before .before .before .before .before .before .before .before .before .before .before .before .args .cells .now) (c .before .before .before .before .before .before .before .before .before .before .before .before .args .limits .now) (c .before .before .before .before .before .before .before .before .before .before .before .before .args .largest .now) (c .before .before .before .before .before .before .before .before .before .before .before .before .pre .0) (c .before .before .before .before .before .before .before .before .instruction-of .result) (c .before .before .before .before .before .before .before .if1 .left) (c .before .before .before .before .before .before .if2 .left) (c .before .before .before .if3 .left) (c .if4 .taken))
 
-field-of-requires-3 : tie.Need-field-of-requires-3
-field-of-requires-3 c κs = (c .before .before .before .before .before .before .before .before .before .pre, c .before .before .before .before .before .before .before .if1 .left, c .before .before .before .before .before .before .if2 .left, omega arith)
+add-if5 : tie.Need-add-if5
+add-if5 c = search needs
 
-is-operand-requires : tie.Need-is-operand-requires
-is-operand-requires c κs = search needs
+mul-if5 : tie.Need-mul-if5
+mul-if5 c = search needs
+
+shared-slice-read-if5 : tie.Need-shared-slice-read-if5
+shared-slice-read-if5 c = omega (arith, row-inside (c .before .before .before .before .before .before .before .before .before .before .before .before .before .args .cells .now) (c .before .before .before .before .before .before .before .before .before .before .before .before .before .args .limits .now) (c .before .before .before .before .before .before .before .before .before .before .before .before .before .args .largest .now) (c .before .before .before .before .before .before .before .before .before .before .before .before .before .pre .0) (c .before .before .before .before .before .before .before .before .before .instruction-of .result) (c .before .before .before .before .before .before .before .before .if1 .left) (c .before .before .before .before .before .before .before .if2 .left))
 
 returns-5 : tie.Need-returns-5
-unfolding laidOut
-returns-5 c = rw (le-leb _ _ (c .before .before .before .before .before .before .before .before .before .if1 .left), le-leb _ _ (c .before .before .before .before .before .before .before .before .if2 .left), ← (c .before .before .before .before .before .before .before .field-of .ensures), ← (c .before .before .before .before .before .before .is-register .ensures), not-false (c .before .before .before .before .before .before .is-register .result) (c .before .before .before .before .before .if3 .left), ← (c .before .before .before .before .field-of2 .ensures), ← (c .before .before .before .is-register2 .ensures), not-false (c .before .before .before .is-register2 .result) (c .before .before .if4 .left), ← (c .before .field-of3 .ensures), c .is-operand .ensures)
+returns-5 c = sym (ap (laidOut (blockCount (c .before .before .before .before .before .before .before .before .before .before .before .before .before .before .args .cells .now))) (sym (c .before .before .before .before .before .before .before .before .before .before .instruction-of .ensures)) ∙ below-kind (c .before .before .before .before .before .before .before .before .before .before .before .before .before .before .args .cells .now) (c .before .before .before .before .before .before .before .before .before .before .before .before .before .before .args .limits .now) (c .before .before .before .before .before .before .before .before .before .before .before .before .before .before .args .largest .now) (c .before .before .before .before .before .before .before .before .before .before .before .before .before .before .pre .0) (c .before .before .before .before .before .before .before .before .before .before .instruction-of .result) (c .before .before .before .before .before .before .before .before .before .if1 .left) (c .before .before .before .before .before .before .before .before .if2 .left) (c .before .before .before .before .before .if3 .left) (c .before .before .if4 .left) (c .if5 .taken))
+
+add-if6 : tie.Need-add-if6
+add-if6 c = search needs
+
+mul-if6 : tie.Need-mul-if6
+mul-if6 c = search needs
+
+shared-slice-read-if6 : tie.Need-shared-slice-read-if6
+shared-slice-read-if6 c = omega (arith, row-inside (c .before .before .before .before .before .before .before .before .before .before .before .before .before .before .before .args .cells .now) (c .before .before .before .before .before .before .before .before .before .before .before .before .before .before .before .args .limits .now) (c .before .before .before .before .before .before .before .before .before .before .before .before .before .before .before .args .largest .now) (c .before .before .before .before .before .before .before .before .before .before .before .before .before .before .before .pre .0) (c .before .before .before .before .before .before .before .before .before .before .before .instruction-of .result) (c .before .before .before .before .before .before .before .before .before .before .if1 .left) (c .before .before .before .before .before .before .before .before .before .if2 .left))
+
+returns-6 : tie.Need-returns-6
+returns-6 c = sym (ap (laidOut (blockCount (c .before .before .before .before .before .before .before .before .before .before .before .before .before .before .before .before .args .cells .now))) (sym (c .before .before .before .before .before .before .before .before .before .before .before .before .instruction-of .ensures)) ∙ beyond-kind (c .before .before .before .before .before .before .before .before .before .before .before .before .before .before .before .before .args .cells .now) (c .before .before .before .before .before .before .before .before .before .before .before .before .before .before .before .before .args .limits .now) (c .before .before .before .before .before .before .before .before .before .before .before .before .before .before .before .before .args .largest .now) (c .before .before .before .before .before .before .before .before .before .before .before .before .before .before .before .before .pre .0) (c .before .before .before .before .before .before .before .before .before .before .before .before .instruction-of .result) (c .before .before .before .before .before .before .before .before .before .before .before .if1 .left) (c .before .before .before .before .before .before .before .before .before .before .if2 .left) (c .before .before .before .before .before .before .before .if3 .left) (c .before .before .before .before .if4 .left) (c .if6 .taken))
+
+mul-result : tie.Need-mul-result
+mul-result c = omega (arith, kind-known (c .before .before .before .before .before .before .before .before .before .before .before .before .before .before .before .before .args .cells .now) (c .before .before .before .before .before .before .before .before .before .before .before .before .before .before .before .before .args .limits .now) (c .before .before .before .before .before .before .before .before .before .before .before .before .before .before .before .before .args .largest .now) (c .before .before .before .before .before .before .before .before .before .before .before .before .before .before .before .before .pre .0) (c .before .before .before .before .before .before .before .before .before .before .before .before .instruction-of .result) (c .before .before .before .before .before .before .before .before .before .before .before .if1 .left) (c .before .before .before .before .before .before .before .before .before .before .if2 .left) (c .if6 .left))
+
+shared-slice-read-result : tie.Need-shared-slice-read-result
+shared-slice-read-result c = omega (arith, kind-known (c .before .before .before .before .before .before .before .before .before .before .before .before .before .before .before .before .before .args .cells .now) (c .before .before .before .before .before .before .before .before .before .before .before .before .before .before .before .before .before .args .limits .now) (c .before .before .before .before .before .before .before .before .before .before .before .before .before .before .before .before .before .args .largest .now) (c .before .before .before .before .before .before .before .before .before .before .before .before .before .before .before .before .before .pre .0) (c .before .before .before .before .before .before .before .before .before .before .before .before .before .instruction-of .result) (c .before .before .before .before .before .before .before .before .before .before .before .before .if1 .left) (c .before .before .before .before .before .before .before .before .before .before .before .if2 .left) (c .before .if6 .left), four-largest (c .before .before .before .before .before .before .before .before .before .before .before .before .before .before .before .before .before .args .cells .now) (c .before .before .before .before .before .before .before .before .before .before .before .before .before .before .before .before .before .args .limits .now) (c .before .before .before .before .before .before .before .before .before .before .before .before .before .before .before .before .before .args .largest .now) (c .before .before .before .before .before .before .before .before .before .before .before .before .before .before .before .before .before .pre .0) (c .before .before .before .before .before .before .before .before .before .before .before .before .before .instruction-of .result) (c .before .before .before .before .before .before .before .before .before .before .before .before .if1 .left) (c .before .before .before .before .before .before .before .before .before .before .before .if2 .left))
+
+returns-7 : tie.Need-returns-7
+returns-7 c = sym (ap (laidOut (blockCount (c .before .before .before .before .before .before .before .before .before .before .before .before .before .before .before .before .before .before .args .cells .now))) (sym (c .before .before .before .before .before .before .before .before .before .before .before .before .before .before .instruction-of .ensures)) ∙ operand-decides (c .before .before .before .before .before .before .before .before .before .before .before .before .before .before .before .before .before .before .args .cells .now) (c .before .before .before .before .before .before .before .before .before .before .before .before .before .before .before .before .before .before .args .limits .now) (c .before .before .before .before .before .before .before .before .before .before .before .before .before .before .before .before .before .before .args .largest .now) (c .before .before .before .before .before .before .before .before .before .before .before .before .before .before .before .before .before .before .pre .0) (c .before .before .before .before .before .before .before .before .before .before .before .before .before .before .instruction-of .result) (c .before .before .before .before .before .before .before .before .before .before .before .before .before .if1 .left) (c .before .before .before .before .before .before .before .before .before .before .before .before .if2 .left) (c .before .before .before .before .before .before .before .before .before .if3 .left) (c .before .before .before .before .before .before .if4 .left) (c .before .before .before .before .if5 .left) (c .before .before .if6 .left) (omega arith))
 
 pub is-laid-out-spec : {M : Type 1} → statement M
 is-laid-out-spec =
     tie.close
     (tie.spec
+    instruction-of-requires
     returns
     returns-2
-    field-of-requires
-    is-register-requires
+    mul-row
+    mul-if3
+    shared-slice-read-if3
     returns-3
-    field-of-requires-2
-    is-register-requires-2
+    add-if4
+    mul-if4
+    shared-slice-read-if4
     returns-4
-    field-of-requires-3
-    is-operand-requires
-    returns-5)
+    add-if5
+    mul-if5
+    shared-slice-read-if5
+    returns-5
+    add-if6
+    mul-if6
+    shared-slice-read-if6
+    returns-6
+    mul-result
+    shared-slice-read-result
+    returns-7)

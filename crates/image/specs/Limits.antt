@@ -1,0 +1,28 @@
+-- What the fields of an instruction record are compared with, worked out once for all instructions.
+use mathlib.Core.Path.{_≡_}
+use mathlib.Core.List.{List, [], _∷_}
+use Prim.Native.Nat.{ℕ, _-_, _*_, _/_, _%_, _≤_}
+use lib.ListN.{getD}
+use Rattle.image.specs.Layout.{rows, blockCount}
+use Rattle.image.specs.Questions.{fields, hasR, hasS, hasV}
+
+-- of an opcode with these flags: the largest r, the largest s, the least kind and the largest kind
+abbrev pub limitRow : ℕ → List ℕ
+limitRow flags = 15 * (flags / hasR % 2) ∷ 15 * (flags / hasS % 2) ∷ (flags / hasV % 2) ∷ 3 * (flags / hasV % 2) ∷ []
+
+-- the rows of the fifteen opcodes
+abbrev pub limitsAt : ℕ → List ℕ
+limitsAt n = limitRow (getD fields n 0)
+
+unfoldable pub limitRows : List ℕ
+limitRows = rows limitsAt 15
+
+-- the largest operand of each kind: absent, register, label, integer
+abbrev pub largestOf : ℕ → List ℕ
+largestOf blocks = 0 ∷ 15 ∷ (blocks - 1) ∷ 18446744073709551615 ∷ []
+
+-- both, for a program that has a block
+pub record Limited (cells limits largest : List ℕ) : Type 0 where
+  pub some-block : 1 ≤ blockCount cells
+  pub limits-are : limits ≡ limitRows
+  pub largest-are : largest ≡ largestOf (blockCount cells)
