@@ -63,5 +63,5 @@ module _ (bytes : List ℕ) (accepted : jobNo bytes ≡ 0) where
   whatever-the-order order = demand-3 (jobIn bytes) start-agrees (empty 0 0) order
 
 -- a part of the buffer for words, cleared
-pub prefix-length : (n : ℕ) → n ≤ 4096 → length (take n (replicate 4096 (pos 0))) ≡ n
-prefix-length n h = length-take-le n (replicate 4096 (pos 0)) (omega (arith, length-replicate {A = ℤ} 4096 (pos 0)))
+pub prefix-length : (room n : ℕ) → n ≤ room → length (take n (replicate room (pos 0))) ≡ n
+prefix-length room n h = length-take-le n (replicate room (pos 0)) (omega (arith, length-replicate {A = ℤ} room (pos 0)))

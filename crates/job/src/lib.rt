@@ -86,6 +86,20 @@ fn run_job(job: &[u8], cells: &[u64], words: &mut [i64], budget: u64) -> Report
     report::report_of(last, driven.picks)
 }
 
+// The same with a buffer for the words, which has to be cleared: a small one for most jobs.
+fn run_accepted(job: &[u8], cells: &[u64], budget: u64) -> Report
+    requires { ⌜ (jobNo (now job) ≡ 0) × (now cells ≡ cellsIn (jobImage (now job))) ⌝ }
+    ensures { λ r. ⌜ r ≡ reportIn (now (job .entry)) budget ⌝ }
+{
+    let count = input::word_count(job);
+    if count <= 256 {
+        let mut few = [0i64; 256];
+        return run_job(job, cells, &mut few[..count], budget);
+    }
+    let mut words = [0i64; 4096];
+    run_job(job, cells, &mut words[..count], budget)
+}
+
 // Runs a job, given by its bytes, with this budget, and writes its report into `out`, which has 424 bytes (15). A refusal leaves `out` as
 // it was.
 #[no_mangle]
@@ -101,9 +115,7 @@ pub extern "C" fn tpal_job_run(job: &[u8], budget: u64, out: &mut [u8]) -> u8
     if out.len() != 424 {
         return 15;
     }
-    let mut words = [0i64; 4096];
-    let count = input::word_count(job);
-    let r = run_job(job, &cells, &mut words[..count], budget);
+    let r = run_accepted(job, &cells, budget);
     report::bytes::write_report(r, out);
     0
 }
@@ -123,8 +135,6 @@ pub extern "C" fn tpal_job_text(job: &[u8], budget: u64, out: &mut [u8]) -> u64
     if no != 0 {
         return report::text::write_refused(no, out) as u64;
     }
-    let mut words = [0i64; 4096];
-    let count = input::word_count(job);
-    let r = run_job(job, &cells, &mut words[..count], budget);
+    let r = run_accepted(job, &cells, budget);
     report::text::write_text(r, out) as u64
 }

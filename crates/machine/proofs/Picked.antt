@@ -10,7 +10,7 @@ use borrow.Author.Tests.{eqb-true, ltb-true, ne-eqb}
 use Rattle.image.specs.Layout.{programCells}
 use Rattle.image.specs.Questions.{programNo}
 use Rattle.image.specs.Doors.{unlessRefused}
-use Rattle.image.proofs.Asked.{ask-yes, or-else-no, or-else-yes, or-else-both}
+use Rattle.image.proofs.Asked.{ask-yes, or-else-both}
 use Rattle.task.specs.Frames.{running}
 use Rattle.machine.specs.declared.Machine.{Machine}
 use Rattle.machine.specs.declared.Driven.{Driven}
@@ -55,30 +55,31 @@ slot-ready m k e =
     let h = ask-yes (ltb (m .work) workLimit) 23 0 (g .1) in
     record { below = ltb-true k (m .places) (d .0); runs = g .0; below-limit = ltb-true (m .work) workLimit (h .0) }
 
+-- none at all was
+pub record Accepts (cells : List ℕ) (words : List ℤ) (m : Machine) (k : ℕ) : Type 0 where
+  pub passes : Passes cells words m
+  pub ready : Ready m k
+
+pub pick-accepts : (cells : List ℕ) (words : List ℤ) (m : Machine) (k : ℕ) → pickNo cells words m k ≡ 0 → Accepts cells words m k
+pick-accepts cells words m k e =
+    let both = or-else-both (stateNo cells words m) (slotNo m k) e in
+    record { passes = state-passes cells words m (both .0); ready = slot-ready m k (both .1) }
+
 pub picked-one : (cells : List ℕ) (words : List ℤ) (m : Machine) (k : ℕ) → Sized m → pickNo cells words m k ≡ 0
     → driven cells words m k 1 .machine ≡ picked cells words m k
 picked-one cells words m k sized e =
-    let both = or-else-both (stateNo cells words m) (slotNo m k) e in
-    let a = state-passes cells words m (both .0) in
-    let b = slot-ready m k (both .1) in
+    let x = pick-accepts cells words m k e in
+    let a = x .passes in
+    let b = x .ready in
     let one = one-pick (shape-allowed cells m (a .program) (a .shaped)) words m (shape-fits cells m sized (a .shaped)) k (b .below) (b .runs) (b .below-limit) in
     ap (λ (r : Run). r .machine) one ∙ sym (picked-issued cells words m k e)
 
 -- ---- what each way through a pick, and through a run, hands back
 
 module _ (cells : List ℕ) (words : List ℤ) (m : Machine) where
-  refused-as : (k n : ℕ) → n ≡ pickNo cells words m k → (n ≡ 0 → ⊥) → (n ≡ pickNo cells words m k) × (m ≡ picked cells words m k)
+  pub pick-refused : (k n : ℕ) → n ≡ pickNo cells words m k → (n ≡ 0 → ⊥) → m ≡ picked cells words m k
   unfolding unlessRefused
-  refused-as k n e some = (e, sym (ap (λ a. cond (eqb a 0) (issued cells words m k) m) (sym e) ∙ ap (λ b. cond b (issued cells words m k) m) (ne-eqb n 0 some)))
-
-  pub refused-by-state : (k n : ℕ) → n ≡ stateNo cells words m → (n ≡ 0 → ⊥) → (n ≡ pickNo cells words m k) × (m ≡ picked cells words m k)
-  refused-by-state k n e some = refused-as k n (e ∙ sym (or-else-no (stateNo cells words m) (slotNo m k) (λ z. some (e ∙ z)))) some
-
-  pub refused-by-slot : (k n : ℕ) → stateNo cells words m ≡ 0 → n ≡ slotNo m k → (n ≡ 0 → ⊥) → (n ≡ pickNo cells words m k) × (m ≡ picked cells words m k)
-  refused-by-slot k n passes e some = refused-as k n (e ∙ sym (or-else-yes (stateNo cells words m) (slotNo m k) passes)) some
-
-  pub accepted-by-both : (k n : ℕ) → stateNo cells words m ≡ 0 → n ≡ slotNo m k → n ≡ 0 → pickNo cells words m k ≡ 0
-  accepted-by-both k n passes e none = or-else-yes (stateNo cells words m) (slotNo m k) passes ∙ sym e ∙ none
+  pick-refused k n e some = sym (ap (λ a. cond (eqb a 0) (issued cells words m k) m) (sym e) ∙ ap (λ b. cond b (issued cells words m k) m) (ne-eqb n 0 some))
 
   module _ (budget : ℕ) where
     pub run-refused : (n : ℕ) → n ≡ stateNo cells words m → (n ≡ 0 → ⊥) → record { no = n; ended = false; picks = 0; machine = m } ≡ outcome cells words m budget

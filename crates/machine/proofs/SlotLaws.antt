@@ -74,6 +74,12 @@ module _ (m m′ : Machine) (s : Sized m) (s′ : Sized m′) (same : (i : ℕ) 
   pub same-state : m .places ≡ m′ .places → m .interval ≡ m′ .interval → m .work ≡ m′ .work → m ≡ m′
   same-state p q r = λ i. record { places = p i; interval = q i; work = r i; bank = same-bank i; tasks = same-tasks i }
 
+-- a slot below 64 is itself modulo 64
+pub task-there : (m : Machine) (t : Task) (k : ℕ) → t ≡ getD (m .tasks) (k % 64) noTask → k < 64 → running (at m k) ≡ isRunning (t .status)
+task-there m t k e h =
+    let q : k ≡ k % 64 = omega arith in
+    ap (λ (i : ℕ). isRunning (getD (m .tasks) i noTask .status)) q ∙ ap (λ (s : Task). isRunning (s .status)) (sym e)
+
 -- past the last slot there is no task
 pub no-task-beyond : (m : Machine) (k : ℕ) → length (m .tasks) ≡ 64 → 64 ≤ k → running (at m k) ≡ false
 no-task-beyond m k n h = ap (λ (t : Task). isRunning (t .status)) (List·getD-eq-default (m .tasks) noTask {n = k} (omega arith))

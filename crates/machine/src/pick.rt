@@ -5,12 +5,13 @@ use crate::Machine;
 use crate::drive;
 use crate::shape;
 use codes::tasks::is_running;
-use task::Register;
 use task::Status;
 use task::Task;
 ghost use mathlib.Core.Path.{_≡_};
-ghost use mathlib.Core.List.{List};
-ghost use Prim.Native.Nat.{ℕ};
+ghost use Prim.Native.Nat.{_%_};
+ghost use lib.ListN.{getD};
+ghost use Rattle.image.specs.Questions.{orElse};
+ghost use Rattle.task.specs.Frames.{noTask};
 ghost use Rattle.machine.specs.Ending.{endAt, ending, isEnd};
 ghost use Rattle.machine.specs.Picking.{slotNo, stateNoBy, pickNo, picked};
 
@@ -54,14 +55,15 @@ pub fn has_ended(end: End) -> bool
     }
 }
 
-// Questions 21 to 24, of the parts of a state that they look at. A state of the shape has at most 64 places.
-fn ask_slot(places: u64, work: u32, tasks: [Task; 64], slot: u64) -> u8
-    ensures { λ r. ⌜ ((interval : ℕ) (bank : List Register) → r ≡ slotNo (record { places = places; interval = interval; work = work; bank = bank; tasks = tasks }) slot) ⌝ }
+// Questions 21 to 24; t is the task at slot % 64. A state of the shape has at most 64 places.
+fn ask_slot(m: Machine, t: Task, slot: u64) -> u8
+    requires { ⌜ t ≡ getD (m .tasks) (slot % 64) noTask ⌝ }
+    ensures { λ r. ⌜ r ≡ slotNo m slot ⌝ }
 {
-    if places <= slot {
+    if m.places <= slot {
         return 21;
     }
-    let first = tasks[0];
+    let first = m.tasks[0];
     let end = first.status;
     if has_ended(end_at(first.depth, end)) {
         return 22;
@@ -69,12 +71,11 @@ fn ask_slot(places: u64, work: u32, tasks: [Task; 64], slot: u64) -> u8
     if 64 <= slot {
         return 23;
     }
-    let t = tasks[slot as usize];
     let status = t.status;
     if !is_running(status) {
         return 23;
     }
-    if 4294967295 <= work {
+    if 4294967295 <= m.work {
         return 24;
     }
     0
@@ -100,22 +101,28 @@ pub fn ask_state(cells: &[u64], words: usize, m: Machine) -> u8
     0
 }
 
+// The questions of a pick. Pick and `orders` call it, and read t, the task at slot % 64, out of the state where it stands: read here, it
+// would cost a copy of the state.
+pub fn ask_pick(cells: &[u64], words: usize, m: Machine, t: Task, slot: u64) -> u8
+    requires { ⌜ t ≡ getD (m .tasks) (slot % 64) noTask ⌝ }
+    ensures { λ r. ⌜ r ≡ orElse (stateNoBy (now (cells .entry)) words m) (slotNo m slot) ⌝ }
+{
+    let no = ask_state(cells, words, m);
+    if no != 0 {
+        return no;
+    }
+    ask_slot(m, t, slot)
+}
+
 impl Machine {
     // One instruction of the slot's task; a refused pick hands back the old state.
     pub fn pick(self, cells: &[u64], words: &[i64], slot: u64) -> Answered
         ensures { λ r. ⌜ (r .no ≡ pickNo (now (cells .entry)) (now (words .entry)) self slot) × (r .machine ≡ picked (now (cells .entry)) (now (words .entry)) self slot) ⌝ }
     {
-        let no = ask_state(cells, words.len(), self);
+        let t = self.tasks[(slot % 64) as usize];
+        let no = ask_pick(cells, words.len(), self, t, slot);
         if no != 0 {
             return Answered { no, machine: self };
-        }
-        let tasks = self.tasks;
-        let last = ask_slot(self.places, self.work, tasks, slot);
-        if last != 0 {
-            return Answered {
-                no: last,
-                machine: self,
-            };
         }
         let driven = drive::drive(cells, words, self, slot as usize, 1);
         let machine = driven.machine;

@@ -7,11 +7,8 @@ use task::Status;
 use task::Task;
 use task::Value;
 ghost use mathlib.Core.Path.{_≡_};
-ghost use Prim.Native.Nat.{_<_, _≤_};
 ghost use lib.ListN.{length};
-ghost use lib.Seq.{sets};
-ghost use Rattle.task.specs.Frames.{zeroRegister, integers};
-ghost use Rattle.codes.specs.Stretches.{reads};
+ghost use Rattle.task.specs.Frames.{noForks};
 ghost use Rattle.machine.specs.Starting.{rank, placesAllowed, intervalAllowed, settingsNo, startNoBy, startNo, empty, fresh, started};
 
 // The power of two that P is, or 7 where P is not allowed.
@@ -88,6 +85,26 @@ pub fn ask_start(cells: &[u64], places: u64, interval: u64, registers: usize, wo
     ask_settings(places, interval, registers, words, cells.len())
 }
 
+// A task record with no fork open, at the first instruction, and no count.
+fn unforked(status: Status, places: u64) -> Task
+    ensures { λ r. ⌜ r ≡ record { status = status; places = places; pc = 0; counter = 0; span = 0; depth = 0; forks = noForks } ⌝ }
+{
+    let none = Fork {
+        continuation: 0,
+        depth: 0,
+    };
+    let forks = [none; 6];
+    Task {
+        status,
+        places,
+        pc: 0,
+        counter: 0,
+        span: 0,
+        depth: 0,
+        forks,
+    }
+}
+
 // A state with no task.
 fn empty_machine(places: u64, interval: u16) -> Machine
     ensures { λ r. ⌜ r ≡ empty places interval ⌝ }
@@ -95,20 +112,7 @@ fn empty_machine(places: u64, interval: u16) -> Machine
     let zero = Register {
         value: Value::Int(0),
     };
-    let none = Fork {
-        continuation: 0,
-        depth: 0,
-    };
-    let forks = [none; 6];
-    let vacant = Task {
-        status: Status::Vacant,
-        places: 0,
-        pc: 0,
-        counter: 0,
-        span: 0,
-        depth: 0,
-        forks,
-    };
+    let vacant = unforked(Status::Vacant, 0);
     let bank = [zero; 1024];
     let tasks = [vacant; 64];
     Machine {
@@ -120,47 +124,33 @@ fn empty_machine(places: u64, interval: u16) -> Machine
     }
 }
 
-// The first 16 registers of the bank, each an integer of the lent slice.
-fn with_registers(bank: [Register; 1024], registers: &[i64]) -> [Register; 1024]
-    requires { ⌜ length (now registers) ≡ 16 ⌝ }
-    ensures { λ r. ⌜ r ≡ sets bank 0 (reads zeroRegister (integers (now (registers .entry))) 0 16) ⌝ }
-{
-    let mut filled = bank;
-    let mut i = 0;
-    while i < 16 {
-        filled[i] = Register {
-            value: Value::Int(registers[i]),
-        };
-        i = i + 1;
-    }
-    filled
-}
-
-// One task in slot 0, with the start registers, all places, and block 0 to begin with. Start and `job` call it, after start's questions.
+// One task in slot 0, with the start registers, all places, and block 0 to begin with. The arrays are filled before the state is made, so
+// that it is not copied. Start and `job` call it, after start's questions.
 pub fn fresh_machine(places: u64, interval: u16, registers: &[i64]) -> Machine
     requires { ⌜ length (now registers) ≡ 16 ⌝ }
     ensures { λ r. ⌜ r ≡ fresh places interval (now (registers .entry)) ⌝ }
 {
-    let none = Fork {
-        continuation: 0,
-        depth: 0,
+    let zero = Register {
+        value: Value::Int(0),
     };
-    let forks = [none; 6];
-    let first = Task {
-        status: Status::Running,
+    let vacant = unforked(Status::Vacant, 0);
+    let mut tasks = [vacant; 64];
+    tasks[0] = unforked(Status::Running, places);
+    let mut bank = [zero; 1024];
+    let mut i = 0;
+    while i < 16 {
+        bank[i] = Register {
+            value: Value::Int(registers[i]),
+        };
+        i = i + 1;
+    }
+    Machine {
         places,
-        pc: 0,
-        counter: 0,
-        span: 0,
-        depth: 0,
-        forks,
-    };
-    let mut m = empty_machine(places, interval);
-    let zeros = m.bank;
-    let bank = with_registers(zeros, registers);
-    m.bank = bank;
-    m.tasks[0] = first;
-    m
+        interval,
+        work: 0,
+        bank,
+        tasks,
+    }
 }
 
 impl Machine {

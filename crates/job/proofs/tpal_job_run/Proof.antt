@@ -6,9 +6,7 @@ use Rattle.image.proofs.Asked.{or-else-no, or-else-yes}
 use Rattle.report.specs.Report.{reportBytes}
 use Rattle.job.specs.Job.{jobNo}
 use Rattle.job.specs.Run.{runNo}
-use Rattle.job.proofs.Replaying.{accepted-ends, few-words, prefix-length}
 use borrow.Author.Needs.{needs}
-use native.Mathlib.Omega.{arith}
 use Rattle.job.proofs.tpal_job_run.Statement.{statement}
 use Rattle.job.proofs.tpal_job_run.Tie as tie
 
@@ -26,20 +24,11 @@ returns-2 : tie.Need-returns-2
 unfolding runNo unlessRefused
 returns-2 c = (sym (or-else-yes (jobNo (c .before .before .before .before .before .before .before .args .job .now)) _ (sym (c .before .before .before .ask-job .ensures .0) ∙ c .before .if1 .left) ∙ rw (ne-eqb _ _ (c .if2 .taken))), refl)
 
-word-count-requires : tie.Need-word-count-requires
-word-count-requires c κs = (accepted-ends (c .before .before .before .before .before .before .before .args .job .now) (sym (c .before .before .before .ask-job .ensures .0) ∙ c .before .if1 .left))
+slice-aggregate-run-accepted : tie.Need-slice-aggregate-run-accepted
+slice-aggregate-run-accepted c = search needs
 
-slice-aggregate-run-job : tie.Need-slice-aggregate-run-job
-slice-aggregate-run-job c = search needs
-
-array-borrow-prefix-words : tie.Need-array-borrow-prefix-words
-array-borrow-prefix-words c = omega (arith, (c .before .word-count .ensures .0), few-words (c .before .before .before .before .before .before .before .before .before .args .job .now) (sym (c .before .before .before .before .before .ask-job .ensures .0) ∙ c .before .before .before .if1 .left))
-
-slice-aggregate-run-job-2 : tie.Need-slice-aggregate-run-job-2
-slice-aggregate-run-job-2 c = sym (prefix-length (c .before .before .word-count .result) (omega (arith, (c .before .before .word-count .ensures .0), few-words (c .before .before .before .before .before .before .before .before .before .before .args .job .now) (sym (c .before .before .before .before .before .before .ask-job .ensures .0) ∙ c .before .before .before .before .if1 .left))))
-
-run-job-requires : tie.Need-run-job-requires
-run-job-requires c κs = ((sym (c .before .before .before .before .before .before .ask-job .ensures .0) ∙ c .before .before .before .before .if1 .left), c .before .before .before .before .before .before .ask-job .ensures .1 (c .before .before .before .before .if1 .left), prefix-length (c .before .before .word-count .result) (omega (arith, (c .before .before .word-count .ensures .0), few-words (c .before .before .before .before .before .before .before .before .before .before .args .job .now) (sym (c .before .before .before .before .before .before .ask-job .ensures .0) ∙ c .before .before .before .before .if1 .left))) ∙ (c .before .before .word-count .ensures .0))
+run-accepted-requires : tie.Need-run-accepted-requires
+run-accepted-requires c κs = (sym (c .before .before .before .before .ask-job .ensures .0) ∙ c .before .before .if1 .left, c .before .before .before .before .ask-job .ensures .1 (c .before .before .if1 .left))
 
 write-report-requires : tie.Need-write-report-requires
 write-report-requires c κs = search needs
@@ -49,7 +38,7 @@ same-length c = search needs
 
 returns-3 : tie.Need-returns-3
 unfolding runNo unlessRefused
-returns-3 c = (sym (or-else-yes (jobNo (c .before .before .before .before .before .before .before .before .before .before .before .before .before .before .before .before .args .job .now)) _ (sym (c .before .before .before .before .before .before .before .before .before .before .before .before .ask-job .ensures .0) ∙ c .before .before .before .before .before .before .before .before .before .before .if1 .left) ∙ rw (eq-eqb _ _ (c .before .before .before .before .before .before .before .before .before .if2 .left))), c .before .before .write-report .ensures ∙ ap reportBytes (c .before .before .before .before .before .run-job .ensures))
+returns-3 c = (sym (or-else-yes (jobNo (c .before .before .before .before .before .before .before .before .before .before .before .before .before .args .job .now)) _ (sym (c .before .before .before .before .before .before .before .before .before .ask-job .ensures .0) ∙ c .before .before .before .before .before .before .before .if1 .left) ∙ rw (eq-eqb _ _ (c .before .before .before .before .before .before .if2 .left))), c .before .before .write-report .ensures ∙ ap reportBytes (c .before .before .before .before .run-accepted .ensures))
 
 pub tpal-job-run-spec : {M : Type 1} → statement M
 tpal-job-run-spec =
@@ -59,11 +48,8 @@ tpal-job-run-spec =
     ask-job-requires
     returns
     returns-2
-    word-count-requires
-    slice-aggregate-run-job
-    array-borrow-prefix-words
-    slice-aggregate-run-job-2
-    run-job-requires
+    slice-aggregate-run-accepted
+    run-accepted-requires
     write-report-requires
     same-length
     returns-3)

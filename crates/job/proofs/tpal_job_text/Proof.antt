@@ -1,9 +1,7 @@
 -- `tpal_job_text` meets its contract.
 use mathlib.Core.Path.{sym, _∙_}
-use Rattle.job.proofs.Replaying.{accepted-ends, few-words, prefix-length}
 use Rattle.job.proofs.Running.{no-text, refusal-given, report-given}
 use borrow.Author.Needs.{needs}
-use native.Mathlib.Omega.{arith}
 use Rattle.job.proofs.tpal_job_text.Statement.{statement}
 use Rattle.job.proofs.tpal_job_text.Tie as tie
 
@@ -25,20 +23,11 @@ same-length c = search needs
 returns-2 : tie.Need-returns-2
 returns-2 c = refusal-given (c .before .before .before .before .before .before .before .before .before .before .before .args .job .now) (c .before .before .before .before .before .before .before .before .before .before .before .args .budget) (c .before .before .before .before .before .before .before .before .before .before .before .args .out .now) (c .before .before .before .before .before .before .before .before .if1 .left) _ (c .before .before .before .before .before .before .ask-job .ensures .0) (c .before .before .before .before .if2 .taken) (c .before .before .write-refused .ensures .0) (c .before .before .write-refused .ensures .1)
 
-word-count-requires : tie.Need-word-count-requires
-word-count-requires c κs = (accepted-ends (c .before .before .before .before .before .before .before .args .job .now) (sym (c .before .before .ask-job .ensures .0) ∙ c .if2 .left))
+slice-aggregate-run-accepted : tie.Need-slice-aggregate-run-accepted
+slice-aggregate-run-accepted c = search needs
 
-slice-aggregate-run-job : tie.Need-slice-aggregate-run-job
-slice-aggregate-run-job c = search needs
-
-array-borrow-prefix-words : tie.Need-array-borrow-prefix-words
-array-borrow-prefix-words c = omega (arith, (c .before .word-count .ensures .0), few-words (c .before .before .before .before .before .before .before .before .before .args .job .now) (sym (c .before .before .before .before .ask-job .ensures .0) ∙ c .before .before .if2 .left))
-
-slice-aggregate-run-job-2 : tie.Need-slice-aggregate-run-job-2
-slice-aggregate-run-job-2 c = sym (prefix-length (c .before .before .word-count .result) (omega (arith, (c .before .before .word-count .ensures .0), few-words (c .before .before .before .before .before .before .before .before .before .before .args .job .now) (sym (c .before .before .before .before .before .ask-job .ensures .0) ∙ c .before .before .before .if2 .left))))
-
-run-job-requires : tie.Need-run-job-requires
-run-job-requires c κs = ((sym (c .before .before .before .before .before .ask-job .ensures .0) ∙ c .before .before .before .if2 .left), c .before .before .before .before .before .ask-job .ensures .1 (c .before .before .before .if2 .left), prefix-length (c .before .before .word-count .result) (omega (arith, (c .before .before .word-count .ensures .0), few-words (c .before .before .before .before .before .before .before .before .before .before .args .job .now) (sym (c .before .before .before .before .before .ask-job .ensures .0) ∙ c .before .before .before .if2 .left))) ∙ (c .before .before .word-count .ensures .0))
+run-accepted-requires : tie.Need-run-accepted-requires
+run-accepted-requires c κs = (sym (c .before .before .before .ask-job .ensures .0) ∙ c .before .if2 .left, c .before .before .before .ask-job .ensures .1 (c .before .if2 .left))
 
 write-text-requires : tie.Need-write-text-requires
 write-text-requires c κs = search needs
@@ -47,7 +36,7 @@ same-length-2 : tie.Need-same-length-2
 same-length-2 c = search needs
 
 returns-3 : tie.Need-returns-3
-returns-3 c = report-given (c .before .before .before .before .before .before .before .before .before .before .before .before .before .before .before .before .args .job .now) (c .before .before .before .before .before .before .before .before .before .before .before .before .before .before .before .before .args .budget) (c .before .before .before .before .before .before .before .before .before .before .before .before .before .before .before .before .args .out .now) (c .before .before .before .before .before .before .before .before .before .before .before .before .before .if1 .left) _ (sym (c .before .before .before .before .before .before .before .before .before .before .before .ask-job .ensures .0) ∙ c .before .before .before .before .before .before .before .before .before .if2 .left) (c .before .before .before .before .before .run-job .ensures) (c .before .before .write-text .ensures .0) (c .before .before .write-text .ensures .1)
+returns-3 c = report-given (c .before .before .before .before .before .before .before .before .before .before .before .before .before .args .job .now) (c .before .before .before .before .before .before .before .before .before .before .before .before .before .args .budget) (c .before .before .before .before .before .before .before .before .before .before .before .before .before .args .out .now) (c .before .before .before .before .before .before .before .before .before .before .if1 .left) _ (sym (c .before .before .before .before .before .before .before .before .ask-job .ensures .0) ∙ c .before .before .before .before .before .before .if2 .left) (c .before .before .before .before .run-accepted .ensures) (c .before .before .write-text .ensures .0) (c .before .before .write-text .ensures .1)
 
 pub tpal-job-text-spec : {M : Type 1} → statement M
 tpal-job-text-spec =
@@ -59,11 +48,8 @@ tpal-job-text-spec =
     write-refused-requires
     same-length
     returns-2
-    word-count-requires
-    slice-aggregate-run-job
-    array-borrow-prefix-words
-    slice-aggregate-run-job-2
-    run-job-requires
+    slice-aggregate-run-accepted
+    run-accepted-requires
     write-text-requires
     same-length-2
     returns-3)

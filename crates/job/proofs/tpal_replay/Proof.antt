@@ -36,10 +36,10 @@ array-borrow-prefix-words : tie.Need-array-borrow-prefix-words
 array-borrow-prefix-words c = omega (arith, (c .before .word-count .ensures .0), few-words (c .before .before .before .before .before .before .before .before .before .before .args .job .now) (sym (c .before .before .before .before .before .ask-job .ensures .0) ∙ c .before .before .before .if1 .left))
 
 slice-aggregate-carry-out-2 : tie.Need-slice-aggregate-carry-out-2
-slice-aggregate-carry-out-2 c = sym (prefix-length (c .before .before .word-count .result) (omega (arith, (c .before .before .word-count .ensures .0), few-words (c .before .before .before .before .before .before .before .before .before .before .before .args .job .now) (sym (c .before .before .before .before .before .before .ask-job .ensures .0) ∙ c .before .before .before .before .if1 .left))))
+slice-aggregate-carry-out-2 c = sym (prefix-length 4096 (c .before .before .word-count .result) (omega (arith, (c .before .before .word-count .ensures .0), few-words (c .before .before .before .before .before .before .before .before .before .before .before .args .job .now) (sym (c .before .before .before .before .before .before .ask-job .ensures .0) ∙ c .before .before .before .before .if1 .left))))
 
 carry-out-requires : tie.Need-carry-out-requires
-carry-out-requires c κs = ((sym (c .before .before .before .before .before .before .ask-job .ensures .0) ∙ c .before .before .before .before .if1 .left), c .before .before .before .before .before .before .ask-job .ensures .1 (c .before .before .before .before .if1 .left), prefix-length (c .before .before .word-count .result) (omega (arith, (c .before .before .word-count .ensures .0), few-words (c .before .before .before .before .before .before .before .before .before .before .before .args .job .now) (sym (c .before .before .before .before .before .before .ask-job .ensures .0) ∙ c .before .before .before .before .if1 .left))) ∙ (c .before .before .word-count .ensures .0))
+carry-out-requires c κs = ((sym (c .before .before .before .before .before .before .ask-job .ensures .0) ∙ c .before .before .before .before .if1 .left), c .before .before .before .before .before .before .ask-job .ensures .1 (c .before .before .before .before .if1 .left), prefix-length 4096 (c .before .before .word-count .result) (omega (arith, (c .before .before .word-count .ensures .0), few-words (c .before .before .before .before .before .before .before .before .before .before .before .args .job .now) (sym (c .before .before .before .before .before .before .ask-job .ensures .0) ∙ c .before .before .before .before .if1 .left))) ∙ (c .before .before .word-count .ensures .0))
 
 write-state-requires : tie.Need-write-state-requires
 write-state-requires c κs = search needs
