@@ -1,34 +1,35 @@
 -- A task record and one register written in place are a frame put; and what a frame's parts are read from.
-use Prim.Native.Nat.{ℕ, zero, suc, _+_, _*_, _≤_, _<_}
+use Prim.Native.Nat.{ℕ, zero, suc, _+_, _*_, _<_}
 use mathlib.Core.Path.{_≡_, refl, ap, _∙_}
 use mathlib.Core.List.{List, [], _∷_}
 use native.Mathlib.Omega.{arith}
 use native.Mathlib.Nat.{add-zero}
 use lib.ListN.{length, getD, set, length-set}
-use lib.Seq.{sets, set-out, set-comm, set-getD}
+use lib.Seq.{sets, set-comm, set-getD}
 use Rattle.task.specs.declared.Register.{Register}
 use Rattle.task.specs.declared.Task.{Task}
 use Rattle.task.specs.declared.Frame.{Frame}
-use Rattle.task.specs.Frames.{zeroRegister, noTask}
+use Rattle.task.specs.Frames.{zeroRegister}
 use Rattle.task.specs.Step.{register, withTask}
 use Rattle.codes.specs.Stretches.{reads}
 use Rattle.codes.proofs.StretchLaws.{length-reads, getD-reads, reads-all}
 use Rattle.machine.specs.declared.Machine.{Machine}
-use Rattle.machine.specs.Slots.{at, put, Sized}
+use Rattle.machine.specs.Slots.{at, put}
 
 -- ---- a stretch of a list, stored where it stands
 
-module _ {A : Type 0} (d : A) where
-  sets-reads : (l : List A) (b n : ℕ) → sets l b (reads d l b n) ≡ l
-  unfolding reads
-  sets-reads l b zero = refl
-  sets-reads l b (suc n) = ap (λ x. sets x (suc b) (reads d l (suc b) n)) (set-getD l b d) ∙ sets-reads l (suc b) n
-
+module _ {A : Type 0} where
   -- stores further on, after one at j
-  sets-after : (vs l : List A) (b j : ℕ) (v : A) → j < b → sets (set l j v) b vs ≡ set (sets l b vs) j v
+  pub sets-after : (vs l : List A) (b j : ℕ) (v : A) → j < b → sets (set l j v) b vs ≡ set (sets l b vs) j v
   sets-after [] l b j v h = refl
   sets-after (w ∷ vs) l b j v h =
       ap (λ x. sets x (suc b) vs) (set-comm l j b v w (omega arith)) ∙ sets-after vs (set l b w) (suc b) j v (omega arith)
+
+module _ {A : Type 0} (d : A) where
+  pub sets-reads : (l : List A) (b n : ℕ) → sets l b (reads d l b n) ≡ l
+  unfolding reads
+  sets-reads l b zero = refl
+  sets-reads l b (suc n) = ap (λ x. sets x (suc b) (reads d l (suc b) n)) (set-getD l b d) ∙ sets-reads l (suc b) n
 
   -- with one element changed
   sets-changed : (l : List A) (b n i : ℕ) (v : A) → i < n → sets l b (set (reads d l b n) i v) ≡ set l (b + i) v
@@ -39,10 +40,6 @@ module _ {A : Type 0} (d : A) where
   sets-changed l b (suc n) (suc i) v h =
       let e : b + suc i ≡ suc b + i = omega arith in
       ap (λ x. sets x (suc b) (set (reads d l (suc b) n) i v)) (set-getD l b d) ∙ rw e (sets-changed l (suc b) n i v (omega arith))
-
-  sets-outside : (vs l : List A) (b : ℕ) → length l ≤ b → sets l b vs ≡ l
-  sets-outside [] l b h = refl
-  sets-outside (v ∷ vs) l b h = rw (set-out l b v h) (sets-outside vs l (suc b) (omega arith))
 
 -- sixteen registers are stored as they are
 whole : (registers : List Register) → length registers ≡ 16 → reads zeroRegister registers 0 16 ≡ registers
@@ -93,18 +90,8 @@ module _ (m : Machine) (k : ℕ) where
       (ap (sets (m .bank) (16 * k)) (whole (set (at m k .registers) r v) (length-set (at m k .registers) r v ∙ full))
       ∙ sets-changed zeroRegister (m .bank) (16 * k) 16 r v h)
 
-  pub task-at : at m k .task ≡ getD (m .tasks) k noTask
-  task-at = refl
-
   pub register-at : (r : ℕ) → r < 16 → getD (at m k .registers) r zeroRegister ≡ getD (m .bank) (16 * k + r) zeroRegister
   register-at r h = getD-reads zeroRegister (m .bank) (16 * k) 16 r h
 
   pub value-at : (r : ℕ) → r < 16 → register (at m k) r ≡ getD (m .bank) (16 * k + r) zeroRegister .value
   value-at r h = ap (λ (x : Register). x .value) (register-at r h)
-
-  -- past the last slot nothing is put
-  pub put-outside : (f : Frame) → Sized m → 64 ≤ k → put m k f ≡ m
-  put-outside f s h =
-      let b = sets-outside zeroRegister (reads zeroRegister (f .registers) 0 16) (m .bank) (16 * k) (omega (arith, s .of-bank)) in
-      let t = set-out (m .tasks) k (f .task) (omega (arith, s .of-tasks)) in
-      λ i. record { places = m .places; interval = m .interval; work = m .work; bank = b i; tasks = t i }

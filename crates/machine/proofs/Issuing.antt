@@ -2,7 +2,9 @@
 use mathlib.Core.Path.{_≡_, refl, sym, ap, ap₂, _∙_, subst, subst⁻¹}
 use mathlib.Core.Bool.{true}
 use mathlib.Core.List.{List}
-use Prim.Native.Nat.{ℕ, _+_, _<_, _≤_}
+use Prim.Native.Nat.{ℕ, _+_, _*_, _^_, _<_, _≤_}
+use native.Mathlib.Nat.{pow-suc}
+use lib.Pow.{pow-pos}
 use native.Mathlib.Omega.{arith}
 use lib.IntN.{ℤ}
 use lib.ListN.{getD, set}
@@ -89,14 +91,6 @@ module _ {cells : List ℕ} {words : List ℤ} {m : Machine} {k : ℕ} {x : Inst
       → step cells words (m .interval) f ≡ one (record { task = t; registers = zeros })
   faults-steps n h p = steps-by (Faults n) h ∙ ap (λ (t : Task). one (record { task = t; registers = zeros })) (sym p)
 
-  module _ (g : Frame) (h : step cells words (m .interval) f ≡ one g) where
-    -- what a join that falls due then needs
-    pub ended-safe : k < 64 → JoinSafe cells (g .task)
-    ended-safe b = stepped-safe allowed m fits words k g b runs h
-
-    pub ended-issued : {r : Machine} → r ≡ settle (slotsOf cells) (g .task .depth) (put m k g) k → ticked r ≡ issued cells words m k
-    ended-issued p = ap ticked (p ∙ sym (carry-one (slotsOf cells) (step cells words (m .interval)) m k g h))
-
   -- ---- it has forked
 
   pub forks-issued : (pc : ℕ) {r : Machine} {u : Fork} {t : Task} → e .kind ≡ Forks pc → u ≡ recordOf (e .value) → t ≡ side u (e .pc) (e .counter) (counted (f .task))
@@ -107,18 +101,13 @@ module _ {cells : List ℕ} {words : List ℤ} {m : Machine} {k : ℕ} {x : Inst
       ap ticked (q ∙ ap (λ (n : Task). put (put m k (withTask n f)) (k + n .places) (withTask (movedTo pc 0 n) f)) p′
       ∙ sym (carry-two (slotsOf cells) (step cells words (m .interval)) m k (withTask (parentSide e (f .task)) f) (withTask (childSide pc e (f .task)) f) (steps-by (Forks pc) h)))
 
-  -- there is room for an open fork more
-  pub forks-room : (pc : ℕ) → e .kind ≡ Forks pc → f .task .depth < 6
+  -- there is room for an open fork more, and each side gets a place
+  pub forks-room : (pc : ℕ) → e .kind ≡ Forks pc → (f .task .depth < 6) × (2 ≤ f .task .places)
   forks-room pc h =
       let laws = laws-hold allowed words in
       let s = stand allowed words m k fits below runs in
       let t = laws .step-two (s .height) f _ _ (s .formed) runs (steps-by (Forks pc) h) in
-      omega (arith, t .1, s .formed .has-depth, rank-small (m .places) (allowed .places-allowed))
-
--- the joins leave the work and the places
-module _ (cells : List ℕ) {r : Machine} (m : Machine) (k : ℕ) (g : Frame) (p : r ≡ settle (slotsOf cells) (g .task .depth) (put m k g) k) where
-  pub ended-work : r .work ≡ m .work
-  ended-work = ap (λ (n : Machine). n .work) p ∙ settle-keeps (slotsOf cells) (λ (n : Machine). n .work) (λ n i h. refl) (g .task .depth) (put m k g) k
-
-  pub ended-places : r .places ≡ m .places
-  ended-places = ap (λ (n : Machine). n .places) p ∙ settle-keeps (slotsOf cells) (λ (n : Machine). n .places) (λ n i h. refl) (g .task .depth) (put m k g) k
+      let wide : 2 ^ s .height ≡ 2 ^ t .0 * 2 = ap (λ n. 2 ^ n) (t .1) ∙ pow-suc 2 (t .0) in (
+        omega (arith, t .1, s .formed .has-depth, rank-small (m .places) (allowed .places-allowed)),
+        omega (arith, wide, pow-pos (t .0), s .formed .has-places),
+      )

@@ -8,12 +8,15 @@ pub mod PickLaws
 pub mod StartLaws
 pub mod Filling
 pub mod Intervals
+pub mod Searching
 pub mod Passing
+pub mod Turning
 pub mod Carrying
 pub mod InPlace
 pub mod Issuing
 pub mod Readiness
 pub mod Copying
+pub mod Moving
 pub mod SettleLaws
 pub mod ShapeSlots
 pub mod SettleSafety

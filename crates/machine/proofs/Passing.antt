@@ -23,68 +23,8 @@ use Rattle.machine.proofs.Models.{Allowed}
 use Rattle.machine.proofs.ShapeLaws.{Fits}
 use Rattle.machine.proofs.PickLaws.{issued-fits}
 use Rattle.machine.proofs.Carrying.{stand}
+use Rattle.machine.proofs.Searching.{first-found, none-found}
 use Rattle.machine.proofs.Quiet.{running-open, quiet-ended}
-
--- ---- the search for the next running task
-
-module _ (m : Machine) where
-  pub first-found : (n k s : ℕ) → k ≤ s → s < k + n → running (at m s) ≡ true → ((i : ℕ) → k ≤ i → i < s → running (at m i) ≡ false)
-      → firstRunning m n k ≡ s
-  unfolding firstRunning
-  first-found zero k s a b r quiet = absurd (omega arith)
-  first-found (suc n) k s a b r quiet =
-      by-below k s (λ h. rw (firstRunning, quiet k (omega arith) h) (first-found n (k + 1) s (omega arith) (omega arith) r (λ i p q. quiet i (omega arith) q)))
-      (λ h. let e : k ≡ s = omega arith in rw (firstRunning, ap (λ (i : ℕ). running (at m i)) e ∙ r) e)
-
-  pub none-found : (n k : ℕ) → ((i : ℕ) → k ≤ i → i < k + n → running (at m i) ≡ false) → firstRunning m n k ≡ k + n
-  unfolding firstRunning
-  none-found zero k quiet = omega arith
-  none-found (suc n) k quiet =
-      rw (firstRunning, quiet k (omega arith) (omega arith)) (none-found n (k + 1) (λ i p q. quiet i (omega arith) (omega arith)) ∙ omega arith)
-
-  -- one that is found runs
-  pub found-runs : (n k : ℕ) → firstRunning m n k < k + n → running (at m (firstRunning m n k)) ≡ true
-  unfolding firstRunning
-  found-runs zero k h = absurd (omega arith)
-  found-runs (suc n) k h = by-test (running (at m k)) (λ e. rw (firstRunning, e) e)
-      (λ e. rw (firstRunning, e) (found-runs n (k + 1) (let g = rw (firstRunning, e) at h in omega arith)))
-
-  -- and where one runs, one is found
-  pub some-found : (n k s : ℕ) → k ≤ s → s < k + n → running (at m s) ≡ true → firstRunning m n k < k + n
-  unfolding firstRunning
-  some-found zero k s a b r = absurd (omega arith)
-  some-found (suc n) k s a b r = by-test (running (at m k)) (λ e. rw (firstRunning, e) (omega arith))
-      (λ e. by-below k s
-      (λ h. let g = some-found n (k + 1) s (omega arith) (omega arith) r in rw (firstRunning, e) (omega arith))
-      (λ h. let g : k ≡ s = omega arith in clash (ap (λ (i : ℕ). running (at m i)) g ∙ r) e))
-
-  -- so the next pick is of a running task, wherever the run stands
-  pub next-runs : (k s : ℕ) → s < m .places → running (at m s) ≡ true → (nextPick m k < m .places) × (running (at m (nextPick m k)) ≡ true)
-  unfolding nextPick
-  next-runs k s below r =
-      let here = firstRunning m (m .places - k) k in
-      by-test (ltb here (m .places))
-      (λ t. let h = ltb-true here (m .places) t in rw t (h, found-runs (m .places - k) k (omega arith)))
-      (λ t. let g = some-found (m .places) 0 s (omega arith) (omega arith) r in rw t (omega arith, found-runs (m .places) 0 g))
-
-  -- from slot 0 on
-  pub next-from-first : nextPick m 0 ≡ firstRunning m (m .places) 0
-  unfolding nextPick
-  next-from-first = rw (whole (m .places)) (either (ltb (firstRunning m (m .places) 0) (m .places)) (firstRunning m (m .places) 0))
-    where
-      whole : (n : ℕ) → n - 0 ≡ n
-      whole n = omega arith
-
-      either : (t : Bool) (n : ℕ) → cond t n n ≡ n
-      either true n = refl
-      either false n = refl
-
-  -- and so from a slot on from which none runs in this pass: from P on, say
-  pub next-when-over : (k : ℕ) → ((i : ℕ) → k ≤ i → i < m .places → running (at m i) ≡ false) → nextPick m k ≡ nextPick m 0
-  unfolding nextPick
-  next-when-over k over =
-      let none = none-found (m .places - k) k (λ i p q. over i p (omega arith)) in
-      rw (none, le-ltb (k + (m .places - k)) (m .places) (omega arith)) (sym next-from-first)
 
 -- The run's next pick is looked for from slot `from` on. `passed` slots were passed over, none of which had a running task, and now
 -- slot k is reached: in the same pass or in the next one.
@@ -177,6 +117,10 @@ behind m k w places same some fits quiet = record {
 next-below : (places k : ℕ) → 0 < places → nextSlot places k < places
 next-below places k h =
     by-below (k + 1) places (λ b. rw (lt-ltb (k + 1) places b) b) (λ b. rw (le-ltb (k + 1) places b) h)
+
+-- the slot behind w places, inside P
+pub next-inside : (places k w : ℕ) → 0 < w → k + w < places → k + w ≡ nextSlot places (k + w - 1)
+next-inside places k w some h = let e : k + w - 1 + 1 ≡ k + w = omega arith in rw (e, lt-ltb (k + w) places h)
 
 -- ---- the loop's test
 
@@ -317,15 +261,12 @@ module _ (cells : List ℕ) (words : List ℤ) where
           found : nextPick m (head .from) ≡ k
           found = by-below (head .passed) (m .places) (λ few. finds (head .seeks) few below r) (λ all. clash r (none-runs (head .seeks) all k below))
 
-      -- an instruction of its task was issued, and the task runs on: the other slots of its places have no task
-      pub issued-alone : (m′ : Machine) (n w : ℕ) → running (at m k) ≡ true → m′ ≡ issued cells words m k → running (at m′ k) ≡ true → at m′ k .task .places ≡ w
-          → n ≡ nextSlot (m .places) (k + w - 1) → Head interval places first budget m′ n 0 (left - 1)
+      -- an instruction of its task was issued, and no task runs in the other slots of the w places from there on
+      pub issued-behind : (m′ : Machine) (n w : ℕ) → running (at m k) ≡ true → m′ ≡ issued cells words m k → 0 < w → k + w ≤ m .places
+          → ((i : ℕ) → k < i → i < k + w → running (at m′ i) ≡ false) → n ≡ nextSlot (m .places) (k + w - 1) → Head interval places first budget m′ n 0 (left - 1)
       unfolding issued-there
-      issued-alone m′ n w r p on width e =
+      issued-behind m′ n w r p some inside quiet e =
           let there = issued-there m′ (nextSlot (m .places) k) r p refl in
-          let s = stand allowed words m′ k (there .fits) (head .slot-below) on in
-          let power : w ≡ 2 ^ s .height = sym width ∙ s .formed .has-places in
-          let P : places ≡ 2 ^ rank places = rank-power places (allowed .places-allowed) in
           let same : m .places ≡ m′ .places = head .fits .its-places ∙ sym (there .fits .its-places) in
           record {
             fits = there .fits;
@@ -334,11 +275,21 @@ module _ (cells : List ℕ) (words : List ℤ) where
             passed = w - 1;
             picks = there .picks;
             counted = omega arith;
-            seeks = rw e (behind m′ k w (m .places) same (omega (arith, power, pow-pos (s .height))) (omega (arith, s .inside, power, P, there .fits .its-places))
-                (λ i x y. s .alone i x (omega (arith, power))));
+            seeks = rw e (behind m′ k w (m .places) same some (omega (arith, same)) quiet);
             all-picks = there .all-picks;
             same = there .same;
           }
+
+      -- as where the task runs on: it is alone in its places
+      pub issued-alone : (m′ : Machine) (n w : ℕ) → running (at m k) ≡ true → m′ ≡ issued cells words m k → running (at m′ k) ≡ true → at m′ k .task .places ≡ w
+          → n ≡ nextSlot (m .places) (k + w - 1) → Head interval places first budget m′ n 0 (left - 1)
+      issued-alone m′ n w r p on width e =
+          let there = issued-there m′ (nextSlot (m .places) k) r p refl in
+          let s = stand allowed words m′ k (there .fits) (head .slot-below) on in
+          let power : w ≡ 2 ^ s .height = sym width ∙ s .formed .has-places in
+          let P : places ≡ 2 ^ rank places = rank-power places (allowed .places-allowed) in
+          issued-behind m′ n w r p (omega (arith, power, pow-pos (s .height))) (omega (arith, s .inside, power, P, head .fits .its-places))
+          (λ i x y. s .alone i x (omega (arith, power))) e
 
 -- with a budget of 1, from a slot with a running task, a run is one pick
 pub one-pick : {cells : List ℕ} {interval places : ℕ} → Allowed cells interval places → (words : List ℤ) (m : Machine) → Fits cells interval places m → (k : ℕ)

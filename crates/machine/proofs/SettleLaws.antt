@@ -1,12 +1,12 @@
 -- Whether a join is due, test by test; and what one turn of settling does.
 use Prim.Native.Nat.{ℕ, zero, suc, _+_, _*_, _-_, _%_, _≤_, _<_}
 use mathlib.Core.Path.{_≡_, refl, sym, _∙_}
-use mathlib.Core.Bool.{Bool, true, false, not, _&&_}
+use mathlib.Core.Bool.{Bool, true, false, not, _&&_, and-false}
 use mathlib.Core.List.{List}
 use native.Mathlib.Omega.{arith}
 use lib.Dec.{eqb, ltb}
 use borrow.Author.Tests.{lt-ltb, le-ltb, eq-eqb, ltb-true, eqb-true}
-use Rattle.agreement.specs.Facts.{both-true}
+use Rattle.agreement.specs.Facts.{clash, both-true}
 use Rattle.agreement.specs.Slots.{sideEnded, due, merged, settle}
 use Rattle.agreement.specs.SlotLaws.{settle-none, settle-go, settle-stop}
 use Rattle.task.specs.declared.Status.{Status}
@@ -15,20 +15,28 @@ use Rattle.machine.specs.declared.Machine.{Machine}
 use Rattle.machine.specs.Slots.{at, slotsOf}
 
 -- of a task at depth d, the status decides
-pub status-decides : (cells : List ℕ) (m : Machine) (b d : ℕ) (s : Status) → at m b .task .depth ≡ d → at m b .task .status ≡ s
-    → not (isRunning s) ≡ sideEnded (slotsOf cells) m b d
-status-decides cells m b d s p q = rw (eq-eqb _ _ p, q)
+pub status-decides : (depth d : ℕ) (status s : Status) → depth ≡ d → status ≡ s → not (isRunning s) ≡ (eqb depth d && not (isRunning status))
+status-decides depth d status s p q = rw (eq-eqb _ _ p, q)
+
+-- whether a fork has its child's slot in the state
+pub no-width : (q w : ℕ) → w ≡ 0 → false ≡ (ltb 0 w && ltb (q + w) 64)
+no-width q w e = rw (le-ltb 0 w (omega arith))
+
+pub no-room : (q w : ℕ) → 64 ≤ q + w → false ≡ (ltb 0 w && ltb (q + w) 64)
+no-room q w e = rw (le-ltb (q + w) 64 e) (sym (and-false (ltb 0 w)))
+
+pub room : (q w : ℕ) → 0 < w → q + w < 64 → true ≡ (ltb 0 w && ltb (q + w) 64)
+room q w a b = rw (lt-ltb 0 w a, lt-ltb (q + w) 64 b)
 
 module _ (cells : List ℕ) (m : Machine) (q w d : ℕ) where
-  pub no-width : w ≡ 0 → false ≡ due (slotsOf cells) m q w d
-  no-width e = rw (le-ltb 0 w (omega arith))
-
-  pub no-room : 64 ≤ q + w → false ≡ due (slotsOf cells) m q w d
-  no-room e = rw (le-ltb (q + w) 64 e) (go (ltb 0 w))
+  -- where there is none, no join is due
+  pub without-room : (ltb 0 w && ltb (q + w) 64) ≡ false → due (slotsOf cells) m q w d ≡ false
+  without-room e = go (ltb 0 w) (ltb (q + w) 64) e
     where
-      go : (a : Bool) → false ≡ a && false
-      go true = refl
-      go false = refl
+      go : (a b : Bool) → (a && b) ≡ false → (a && (b && (sideEnded (slotsOf cells) m q d && sideEnded (slotsOf cells) m (q + w) d))) ≡ false
+      go true true e = clash refl e
+      go true false e = refl
+      go false b e = refl
 
   -- of a fork that has room, the two sides decide
   pub sides-decide : 0 < w → q + w < 64 → due (slotsOf cells) m q w d ≡ sideEnded (slotsOf cells) m q d && sideEnded (slotsOf cells) m (q + w) d

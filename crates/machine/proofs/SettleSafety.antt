@@ -100,19 +100,19 @@ module _ (cells : List ℕ) (a b : Frame) (x : JoinSafe cells (a .task)) (y : Jo
 
 -- ---- every slot
 
--- two sides at one depth are as the code of the join asks
-pub sides-joinable : (cells : List ℕ) (m : Machine) (q w : ℕ) (parent child : Frame) → programNo cells ≡ 0 → SettleSafe cells m
-    → 0 < at m q .task .depth → at m (q + w) .task .depth ≡ at m q .task .depth → parent ≡ at m q → child ≡ at m (q + w) → Joinable cells parent child
-sides-joinable cells m q w parent child ok all inside same p c =
-    subst⁻¹ (λ f. Joinable cells f child) p
-    (subst⁻¹ (Joinable cells (at m q)) c
-    (record {
+-- two sides whose join is due are as its code asks
+pub due-joinable : (cells : List ℕ) (m : Machine) (q w d : ℕ) → programNo cells ≡ 0 → SettleSafe cells m → 0 < d → due (slotsOf cells) m q w d ≡ true
+    → Joinable cells (at m q .task) (at m (q + w) .task)
+due-joinable cells m q w d ok all left e =
+    let s = due-sides cells m q w d e in
+    let inside : 0 < at m q .task .depth = omega (arith, s .parent-depth) in
+    record {
       accepted-program = ok;
       depth-least = inside;
       depth-most = all q .depth-fits;
-      places-most = both-fit cells (at m q) (at m (q + w)) (all q) (all (q + w)) inside same;
+      places-most = both-fit cells (at m q) (at m (q + w)) (all q) (all (q + w)) inside (s .child-depth ∙ sym (s .parent-depth));
       continuation-below = all q .forks-name (at m q .task .depth - 1) (omega arith);
-    }))
+    }
 
 pub put-safe : (cells : List ℕ) (m : Machine) (k : ℕ) (f : Frame) → SettleSafe cells m → JoinSafe cells (f .task) → SettleSafe cells (put m k f)
 put-safe cells m k f all x i = put-tasks (JoinSafe cells) m k f i x (all i)

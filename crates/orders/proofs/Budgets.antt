@@ -10,7 +10,8 @@ use lib.IntN.{ℤ}
 use Rattle.agreement.specs.Facts.{by-test}
 use Rattle.machine.specs.declared.Machine.{Machine}
 use Rattle.machine.specs.Running.{Run, nextPick, stops, pickedAt, runs}
-use Rattle.machine.proofs.Passing.{next-when-over, picks-next, rests}
+use Rattle.machine.proofs.Searching.{next-when-over}
+use Rattle.machine.proofs.Passing.{picks-next, rests}
 use Rattle.orders.specs.Runs.{RunsAdd, run, PassOver, AddsUp, BudgetsAdd}
 
 -- ---- from the slot reached on

@@ -18,7 +18,8 @@ use Rattle.machine.specs.Ending.{jobEnded}
 use Rattle.machine.specs.Picking.{workLimit, stateNoBy, stateNo, pickNo, picked, issued}
 use Rattle.machine.specs.Running.{Run, nextPick, stops, pickedAt, runs, runFrom, outcome}
 use Rattle.machine.proofs.PickLaws.{Lent, picked-issued, picked-work}
-use Rattle.machine.proofs.Passing.{next-runs, picks-next, rests}
+use Rattle.machine.proofs.Searching.{next-runs}
+use Rattle.machine.proofs.Passing.{picks-next, rests}
 use Rattle.machine.proofs.Picked.{state-passes}
 use Rattle.orders.specs.Demand.{Job, Accepted, startOn, played, carriedOut}
 use Rattle.orders.specs.Shapes.{Meets, ShapeEnsures}

@@ -19,6 +19,7 @@ use Rattle.image.specs.Questions.{programNo}
 use Rattle.agreement.specs.Plain.{Stepped, one, two}
 use Rattle.task.specs.declared.Value.{Value}
 use Rattle.task.specs.declared.Value.the-variants.{Int, Label, Record}
+use Rattle.task.specs.declared.Register.{Register}
 use Rattle.task.specs.declared.Status.{Status}
 use Rattle.task.specs.declared.Status.the-variants.{Running, Waiting, Halted, Faulted}
 use Rattle.task.specs.declared.Fork.{Fork}
@@ -28,9 +29,10 @@ use Rattle.task.specs.declared.Active.{Active}
 use Rattle.task.specs.declared.Kind.{Kind}
 use Rattle.task.specs.declared.Kind.the-variants.{Stores, Goes, Waits, Halts, Faults, Forks}
 use Rattle.task.specs.declared.Executed.{Executed}
-use Rattle.task.specs.Frames.{zeros, zeroFork}
+use Rattle.task.specs.declared.Joint.{Joint}
+use Rattle.task.specs.Frames.{zeros, zeroFork, faultOf}
 use Rattle.task.specs.Values.{isInt, isLabel, isRecord, integerOf, labelOf, recordOf, truth}
-use Rattle.task.specs.Step.{counted, movedTo, ended, withTask, promotes, fits, side, Op, move, plus, minus, times, divide, modulo, less, equal, word, ifJump, jralloc, fork, jump, halt, meet, unknown, opcodes}
+use Rattle.task.specs.Step.{counted, movedTo, ended, withTask, promotes, fits, side, copied, firstFault, outwardTask, Op, move, plus, minus, times, divide, modulo, less, equal, word, ifJump, jralloc, fork, jump, halt, meet, unknown, opcodes}
 use Rattle.task.specs.Formed.{valueFits}
 
 -- what an instruction looks at of a task, besides its open forks
@@ -210,10 +212,31 @@ selected x held = elim (eqb (x .kind) 1) [
   | false ↦ elim (eqb (x .kind) 2) [ true ↦ Label (x .operand) | false ↦ Int (toZ w64 (x .operand)) ]
 ]
 
--- the status of the task that two ended sides make
+-- ---- The task that two ended sides make, but for its registers
+
+-- its status
 abbrev pub statusBy : Option ℕ → Status
 statusBy none = Running
 statusBy (some n) = Faulted n
+
+-- by the fault that one of them has, at the continuation block b
+abbrev pub jointBy : Option ℕ → List ℕ → ℕ → Task → Task → Joint
+jointBy (some n) cells b p c = record { task = outwardTask (Faulted n) 0 p c; faulted = true; pairs = 0; packed = 0 }
+jointBy none cells b p c = record {
+  task = outwardTask Running (blockOf cells (blockOf cells b .label) .first) p c;
+  faulted = false;
+  pairs = blockOf cells b .pairs;
+  packed = blockOf cells b .packed;
+}
+
+unfoldable pub jointOf : List ℕ → Task → Task → Joint
+jointOf cells p c =
+    jointBy (firstFault (faultOf (p .status)) (faultOf (c .status))) cells (getD (p .forks) (p .depth - 1) zeroFork .continuation) p c
+
+-- the registers that it leaves: 16 integers 0, or the parent's with the pairs copied from the child's
+abbrev pub jointRegisters : Bool → ℕ → ℕ → List Register → List Register → List Register
+jointRegisters true pairs packed p c = zeros
+jointRegisters false pairs packed p c = copied c pairs packed p
 
 -- ---- What the machine hands over
 
@@ -230,10 +253,10 @@ pub record Ready (cells : List ℕ) (s v : Value) (a : Active) : Type 0 where
   pub fork-room : 2 ≤ a .places → a .depth < 6
 
 -- of two ended sides of a fork, the parent's first
-pub record Joinable (cells : List ℕ) (p c : Frame) : Type 0 where
+pub record Joinable (cells : List ℕ) (p c : Task) : Type 0 where
   pub accepted-program : programNo cells ≡ 0
-  pub depth-least : 1 ≤ p .task .depth
-  pub depth-most : p .task .depth ≤ 6
-  pub places-most : p .task .places + c .task .places ≤ 64
+  pub depth-least : 1 ≤ p .depth
+  pub depth-most : p .depth ≤ 6
+  pub places-most : p .places + c .places ≤ 64
   -- the parent's innermost fork names a block
-  pub continuation-below : getD (p .task .forks) (p .task .depth - 1) zeroFork .continuation < blockCount cells
+  pub continuation-below : getD (p .forks) (p .depth - 1) zeroFork .continuation < blockCount cells

@@ -211,19 +211,19 @@ copied child (suc n) packed registers =
     copied child n (packed / 256) (set registers (packed % 16) (getD child (packed / 16 % 16) zeroRegister))
 
 -- all their places, the larger span, counter 0, that fork closed
-abbrev pub outward : Status → ℕ → List Register → Task → Task → Frame
-outward s pc registers p c = record {
-  task = record {
-    status = s;
-    places = p .places + c .places;
-    pc = pc;
-    counter = 0;
-    span = max (p .span) (c .span);
-    depth = p .depth - 1;
-    forks = set (p .forks) (p .depth - 1) zeroFork;
-  };
-  registers = registers;
+abbrev pub outwardTask : Status → ℕ → Task → Task → Task
+outwardTask s pc p c = record {
+  status = s;
+  places = p .places + c .places;
+  pc = pc;
+  counter = 0;
+  span = max (p .span) (c .span);
+  depth = p .depth - 1;
+  forks = set (p .forks) (p .depth - 1) zeroFork;
 }
+
+abbrev pub outward : Status → ℕ → List Register → Task → Task → Frame
+outward s pc registers p c = record { task = outwardTask s pc p c; registers = registers }
 
 -- the parent's number if it has one, else the child's
 abbrev pub firstFault : Option ℕ → Option ℕ → Option ℕ

@@ -1,17 +1,15 @@
 // The task that two ended sides of a fork make.
 use crate::Fork;
-use crate::Frame;
-use crate::Register;
+use crate::Joint;
 use crate::Status;
 use crate::Task;
-use crate::Value;
 use crate::control::first_of;
 use image::layout::block_of;
 ghost use mathlib.Core.Path.{_≡_};
 ghost use Prim.Native.Nat.{_+_, _≤_, _<_, max};
 ghost use Rattle.task.specs.Frames.{faultOf};
-ghost use Rattle.task.specs.Step.{copied, firstFault, outward, join};
-ghost use Rattle.task.specs.Execute.{Joinable, statusBy};
+ghost use Rattle.task.specs.Step.{firstFault, outwardTask};
+ghost use Rattle.task.specs.Execute.{Joinable, statusBy, jointOf};
 
 fn larger(a: u32, b: u32) -> u32
     ensures { λ r. ⌜ r ≡ max a b ⌝ }
@@ -32,34 +30,10 @@ fn joined_status(parent: Status, child: Status) -> Status
     Status::Running
 }
 
-// The pairs of the continuation block copied from the child's registers: the high four bits of a pair byte name the child's register, its
-// low four bits the target.
-fn copy_pairs(
-    child: [Register; 16],
-    pairs: u64,
-    packed: u64,
-    registers: [Register; 16],
-) -> [Register; 16]
-    ensures { λ r. ⌜ r ≡ copied child pairs packed registers ⌝ }
-{
-    let mut joined = registers;
-    let mut left = pairs;
-    let mut bytes = packed;
-    while 0 < left {
-        let source = (bytes / 16 % 16) as usize;
-        let target = (bytes % 16) as usize;
-        let register = child[source];
-        joined[target] = register;
-        bytes = bytes / 256;
-        left -= 1;
-    }
-    joined
-}
-
 // All their places, the larger span, counter 0, that fork closed.
-fn close(status: Status, pc: u16, registers: [Register; 16], p: Task, c: Task) -> Frame
+fn close(status: Status, pc: u16, p: Task, c: Task) -> Task
     requires { ⌜ (1 ≤ p .depth) × (p .depth ≤ 6) × (p .places + c .places ≤ 64) ⌝ }
-    ensures { λ r. ⌜ r ≡ outward status pc registers p c ⌝ }
+    ensures { λ r. ⌜ r ≡ outwardTask status pc p c ⌝ }
 {
     let depth = p.depth - 1;
     let at = depth as usize;
@@ -69,7 +43,7 @@ fn close(status: Status, pc: u16, registers: [Register; 16], p: Task, c: Task) -
         depth: 0,
     };
     let span = larger(p.span, c.span);
-    let task = Task {
+    Task {
         status,
         places: p.places + c.places,
         pc,
@@ -77,33 +51,36 @@ fn close(status: Status, pc: u16, registers: [Register; 16], p: Task, c: Task) -
         span,
         depth,
         forks,
-    };
-    Frame { task, registers }
+    }
 }
 
-// The machine ensures `Joinable` of two ended sides.
-pub fn joined(cells: &[u64], parent: Frame, child: Frame) -> Frame
-    requires { ⌜ Joinable (now cells) parent child ⌝ }
-    ensures { λ r. ⌜ r ≡ join (now (cells .entry)) parent child ⌝ }
+// What two ended sides come to, but for the registers: those the machine changes in place. It ensures `Joinable`.
+pub fn joined(cells: &[u64], p: Task, c: Task) -> Joint
+    requires { ⌜ Joinable (now cells) p c ⌝ }
+    ensures { λ r. ⌜ r ≡ jointOf (now (cells .entry)) p c ⌝ }
 {
-    let p = parent.task;
-    let c = child.task;
     let ours = p.status;
     let theirs = c.status;
     let status = joined_status(ours, theirs);
     if let Status::Faulted(n) = status {
-        let zero = Register {
-            value: Value::Int(0),
+        let task = close(Status::Faulted(n), 0, p, c);
+        return Joint {
+            task,
+            faulted: true,
+            pairs: 0,
+            packed: 0,
         };
-        return close(Status::Faulted(n), 0, [zero; 16], p, c);
     }
     let at = (p.depth - 1) as usize;
     let forks = p.forks;
     let under = forks[at];
     let block = block_of(cells, under.continuation as usize);
     let pc = first_of(cells, block.label as usize);
-    let from = child.registers;
-    let to = parent.registers;
-    let registers = copy_pairs(from, block.pairs, block.packed, to);
-    close(Status::Running, pc, registers, p, c)
+    let task = close(Status::Running, pc, p, c);
+    Joint {
+        task,
+        faulted: false,
+        pairs: block.pairs,
+        packed: block.packed,
+    }
 }

@@ -75,3 +75,12 @@ pub struct Executed {
     pub pc: u16,
     pub counter: u32,
 }
+
+// What two ended sides of a fork come to: the joined task, and the pairs that are copied from the child's registers to the parent's. A
+// faulted task's registers are 16 integers 0.
+pub struct Joint {
+    pub task: Task,
+    pub faulted: bool,
+    pub pairs: u64,
+    pub packed: u64,
+}

@@ -1,17 +1,10 @@
 -- `side_ended` meets its contract.
-use mathlib.Core.List.{[]}
 use borrow.Author.Tests.{ne-eqb}
 use Rattle.task.specs.declared.Status.the-variants.{Vacant, Running, Waiting, Halted}
 use Rattle.machine.proofs.SettleLaws.{status-decides}
 use borrow.Author.Needs.{needs}
 use Rattle.machine.proofs.slots.side_ended.Statement.{statement}
 use Rattle.machine.proofs.slots.side_ended.Tie as tie
-
-mul-t : tie.Need-mul-t
-mul-t c = search needs
-
-element-copy-out-t : tie.Need-element-copy-out-t
-element-copy-out-t c = search needs
 
 returns : tie.Need-returns
 returns c = rw (ne-eqb _ _ (c .if1 .taken))
@@ -32,44 +25,21 @@ enum-told-5 : tie.Need-enum-told-5
 enum-told-5 c = search needs
 
 returns-2 : tie.Need-returns-2
-returns-2 c =
-    let a = c .before .before .before .before .before .args in
-    status-decides [] (a .t1) (a .b) (a .d) Running (search needs) (search needs)
+returns-2 c = status-decides (c .before .before .before .before .args .t .depth) (c .before .before .before .before .args .d) (c .before .before .before .before .args .t .status) Running (search needs) (search needs)
 
 returns-3 : tie.Need-returns-3
-returns-3 c =
-    let a = c .before .before .before .before .before .args in
-    status-decides [] (a .t1) (a .b) (a .d) Vacant (search needs) (search needs)
+returns-3 c = status-decides (c .before .before .before .before .args .t .depth) (c .before .before .before .before .args .d) (c .before .before .before .before .args .t .status) Vacant (search needs) (search needs)
 
 returns-4 : tie.Need-returns-4
-returns-4 c =
-    let a = c .before .before .before .before .before .args in
-    status-decides [] (a .t1) (a .b) (a .d) Waiting (search needs) (search needs)
+returns-4 c = status-decides (c .before .before .before .before .args .t .depth) (c .before .before .before .before .args .d) (c .before .before .before .before .args .t .status) Waiting (search needs) (search needs)
 
 returns-5 : tie.Need-returns-5
-returns-5 c =
-    let a = c .before .before .before .before .before .args in
-    status-decides [] (a .t1) (a .b) (a .d) Halted (search needs) (search needs)
+returns-5 c = status-decides (c .before .before .before .before .args .t .depth) (c .before .before .before .before .args .d) (c .before .before .before .before .args .t .status) Halted (search needs) (search needs)
 
 returns-6 : tie.Need-returns-6
-returns-6 c =
-    let a = c .before .before .before .before .before .args in
-    status-decides [] (a .t1) (a .b) (a .d) _ (search needs) (c .enum-told5 .given .1)
+returns-6 c = status-decides (c .before .before .before .before .args .t .depth) (c .before .before .before .before .args .d) (c .before .before .before .before .args .t .status) _ (search needs) (c .enum-told5 .given .1)
 
 pub side-ended-spec : {M : Type 1} → statement M
 side-ended-spec =
     tie.close
-    (tie.spec
-    mul-t
-    element-copy-out-t
-    returns
-    enum-told
-    enum-told-2
-    enum-told-3
-    enum-told-4
-    enum-told-5
-    returns-2
-    returns-3
-    returns-4
-    returns-5
-    returns-6)
+    (tie.spec returns enum-told enum-told-2 enum-told-3 enum-told-4 enum-told-5 returns-2 returns-3 returns-4 returns-5 returns-6)

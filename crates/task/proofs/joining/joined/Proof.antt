@@ -16,7 +16,7 @@ close-requires : tie.Need-close-requires
 close-requires c κs = search needs
 
 returns : tie.Need-returns
-returns c = c .close .ensures ∙ joins-faulted (c .before .before .before .before .before .before .before .before .args .cells .now) (c .before .before .before .before .before .before .before .before .args .parent) (c .before .before .before .before .before .before .before .before .args .child) (c .before .before .before .before .joined-status .ensures) (c .before .before .status .given .1)
+returns c = joins-faulted (c .before .before .before .before .before .before .args .cells .now) (c .before .before .before .before .before .before .args .p) (c .before .before .before .before .before .before .args .c) (c .before .before .before .before .joined-status .ensures) (c .before .before .status .given .1) (c .close .ensures)
 
 sub-at : tie.Need-sub-at
 sub-at c = search needs
@@ -34,19 +34,16 @@ cast-block-of : tie.Need-cast-block-of
 cast-block-of c = search needs
 
 block-of-requires : tie.Need-block-of-requires
-block-of-requires c κs = let k = accepted (c .before .before .before .before .before .before .before .before .before .args .cells .now) (c .before .before .before .before .before .before .before .before .before .pre .accepted-program) in let b = k .block _ (c .before .before .before .before .before .before .before .before .before .pre .continuation-below) in b .is-stored
+block-of-requires c κs = (let k = accepted (c .before .before .before .before .before .before .before .args .cells .now) (c .before .before .before .before .before .before .before .pre .accepted-program) in k .block _ (c .before .before .before .before .before .before .before .pre .continuation-below)) .is-stored
 
 first-of-requires : tie.Need-first-of-requires
-first-of-requires c κs = let k = accepted (c .before .before .before .before .before .before .before .before .before .before .args .cells .now) (c .before .before .before .before .before .before .before .before .before .before .pre .accepted-program) in let b = k .block _ (c .before .before .before .before .before .before .before .before .before .before .pre .continuation-below) in (c .before .before .before .before .before .before .before .before .before .before .pre .accepted-program, rw (c .block-of .ensures) (b .label-below))
-
-copy-pairs-requires : tie.Need-copy-pairs-requires
-copy-pairs-requires c κs = search needs
+first-of-requires c κs = (c .before .before .before .before .before .before .before .before .pre .accepted-program, rw (c .block-of .ensures) ((let k = accepted (c .before .before .before .before .before .before .before .before .args .cells .now) (c .before .before .before .before .before .before .before .before .pre .accepted-program) in k .block _ (c .before .before .before .before .before .before .before .before .pre .continuation-below)) .label-below))
 
 close-requires-2 : tie.Need-close-requires-2
 close-requires-2 c κs = search needs
 
 returns-2 : tie.Need-returns-2
-returns-2 c = c .close2 .ensures ∙ joins-running (c .before .before .before .before .before .before .before .before .before .before .before .before .before .before .before .args .cells .now) (c .before .before .before .before .before .before .before .before .before .before .before .before .before .before .before .args .parent) (c .before .before .before .before .before .before .before .before .before .before .before .before .before .before .before .args .child) (c .before .before .before .before .before .before .before .before .before .before .before .joined-status .ensures) (c .before .before .before .before .before .before .before .before .before .before .match .keys2) (c .before .before .before .before .before .block-of .ensures) (c .before .before .before .before .first-of .ensures) (c .before .copy-pairs .ensures)
+returns-2 c = joins-running (c .before .before .before .before .before .before .before .before .before .before .args .cells .now) (c .before .before .before .before .before .before .before .before .before .before .args .p) (c .before .before .before .before .before .before .before .before .before .before .args .c) (c .before .before .before .before .before .before .before .before .joined-status .ensures) (c .before .before .before .before .before .before .before .match .keys2) (c .before .before .block-of .ensures) (c .before .first-of .ensures) (c .close2 .ensures)
 
 pub joined-spec : {M : Type 1} → statement M
 joined-spec =
@@ -63,6 +60,5 @@ joined-spec =
     cast-block-of
     block-of-requires
     first-of-requires
-    copy-pairs-requires
     close-requires-2
     returns-2)

@@ -1,0 +1,257 @@
+-- Registers moved inside the bank: what a fork copies, what a fault and a join clear, and a join's pairs.
+use Prim.Native.Nat.{ℕ, zero, suc, _+_, _*_, _-_, _/_, _%_, _≤_, _<_}
+use mathlib.Core.Path.{_≡_, refl, sym, ap, _∙_}
+use mathlib.Core.Logic.{_⊎_, inl, inr}
+use mathlib.Core.Bool.{Bool, true, false, cond}
+use mathlib.Core.List.{List, [], _∷_}
+use native.Mathlib.Omega.{arith}
+use native.Mathlib.Nat.{add-zero}
+use lib.ListN.{length, getD, set, replicate, getD-replicate}
+use lib.Seq.{sets, set-comm, set-set, getD-set-other}
+use Rattle.agreement.specs.Facts.{by-test}
+use Rattle.agreement.specs.Slots.{due, merged, settle}
+use Rattle.agreement.specs.SlotLaws.{settle-none, settle-go, settle-stop}
+use Rattle.task.specs.declared.Register.{Register}
+use Rattle.task.specs.declared.Task.{Task}
+use Rattle.task.specs.declared.Joint.{Joint}
+use Rattle.task.specs.Frames.{zeroRegister, zeros, vacantTask, vacant, running, isRunning}
+use Rattle.task.specs.Step.{copied, join}
+use Rattle.task.specs.Execute.{jointOf, jointRegisters}
+use Rattle.task.proofs.Copying.{copies-first, copies-none, faulted-pairs, join-joint}
+use Rattle.codes.specs.Stretches.{reads}
+use Rattle.codes.proofs.StretchLaws.{length-reads, getD-reads, reads-all}
+use Rattle.machine.specs.declared.Machine.{Machine}
+use Rattle.machine.specs.Slots.{at, put, ticked, slotsOf}
+use Rattle.machine.proofs.SlotLaws.{put-other, put-tasks}
+use Rattle.machine.proofs.InPlace.{sets-after, sets-reads}
+use Rattle.machine.proofs.Copying.{copied-none, copied-next, filling}
+
+-- ---- stretches of a list
+
+module _ {A : Type 0} where
+  -- two stretches that lie apart
+  pub sets-apart : (xs ys l : List A) (a b : ℕ) → a + length xs ≤ b → sets (sets l a xs) b ys ≡ sets (sets l b ys) a xs
+  sets-apart [] ys l a b h = refl
+  sets-apart (x ∷ xs) ys l a b h =
+      sets-apart xs ys (set l a x) (suc a) b (omega arith) ∙ ap (λ m. sets m (suc a) xs) (sets-after ys l b a x (omega arith))
+
+  -- a store inside a stretch
+  pub stored-in : (vs l : List A) (b i : ℕ) (v : A) → i < length vs → set (sets l b vs) (b + i) v ≡ sets l b (set vs i v)
+  stored-in [] l b i v h = absurd (omega arith)
+  stored-in (w ∷ vs) l b zero v h = rw add-zero (sym (sets-after vs (set l b w) (suc b) b v (omega arith)) ∙ ap (λ x. sets x (suc b) vs) (set-set l b w v))
+  stored-in (w ∷ vs) l b (suc i) v h =
+      let e : b + suc i ≡ suc b + i = omega arith in
+      rw e (stored-in vs (set l b w) (suc b) i v (omega arith))
+
+  -- an element outside the stretch
+  pub outside : (vs l : List A) (b j : ℕ) (d : A) → (j < b) ⊎ (b + length vs ≤ j) → getD (sets l b vs) j d ≡ getD l j d
+  outside [] l b j d h = refl
+  outside (v ∷ vs) l b j d (inl h) = outside vs (set l b v) (suc b) j d (inl (omega arith)) ∙ getD-set-other l b j v d (omega arith)
+  outside (v ∷ vs) l b j d (inr h) = outside vs (set l b v) (suc b) j d (inr (omega arith)) ∙ getD-set-other l b j v d (omega arith)
+
+-- ---- settling and the count of the work
+
+settle-tick-by : (cells : List ℕ) (d : ℕ) (m : Machine) (k : ℕ) → settle (slotsOf cells) d (ticked m) k ≡ ticked (settle (slotsOf cells) d m k)
+settle-tick-by cells zero m k = settle-none (slotsOf cells) (ticked m) k ∙ ap ticked (sym (settle-none (slotsOf cells) m k))
+settle-tick-by cells (suc d) m k =
+    let w = at m k .task .places in
+    let q = k - k % (2 * w) in
+    by-test (due (slotsOf cells) m q w (suc d))
+    (λ t. settle-go (slotsOf cells) d (ticked m) k q w refl refl t ∙ settle-tick-by cells d (merged (slotsOf cells) m q w) q
+    ∙ ap ticked (sym (settle-go (slotsOf cells) d m k q w refl refl t)))
+    (λ t. settle-stop (slotsOf cells) d (ticked m) k q w refl refl t ∙ ap ticked (sym (settle-stop (slotsOf cells) d m k q w refl refl t)))
+
+pub settle-tick : (cells : List ℕ) (d : ℕ) (m : Machine) (k : ℕ) → settle (slotsOf cells) d (ticked m) k ≡ ticked (settle (slotsOf cells) d m k)
+settle-tick = settle-tick-by
+
+-- a slot above, in which no task runs: a join is made in slots below it, and empties the child's
+settle-quiet-by : (cells : List ℕ) (d : ℕ) (m : Machine) (k i : ℕ) → k < i → running (at m i) ≡ false → running (at (settle (slotsOf cells) d m k) i) ≡ false
+settle-quiet-by cells zero m k i above r = rw (settle-none (slotsOf cells) m k) r
+settle-quiet-by cells (suc d) m k i above r =
+    let w = at m k .task .places in
+    let q = k - k % (2 * w) in
+    by-test (due (slotsOf cells) m q w (suc d))
+    (λ t. rw (settle-go (slotsOf cells) d m k q w refl refl t) (settle-quiet-by cells d (merged (slotsOf cells) m q w) q i (omega arith) (merged-quiet q w (omega arith))))
+    (λ t. rw (settle-stop (slotsOf cells) d m k q w refl refl t) r)
+  where
+    merged-quiet : (q w : ℕ) → q < i → running (at (merged (slotsOf cells) m q w) i) ≡ false
+    merged-quiet q w h =
+        ap running (put-other (put m (q + w) vacant) q (join cells (at m q) (at m (q + w))) i (λ e. absurd (omega arith)))
+        ∙ put-tasks (λ (t : Task). isRunning (t .status) ≡ false) m (q + w) vacant i refl r
+
+pub settle-quiet : (cells : List ℕ) (d : ℕ) (m : Machine) (k i : ℕ) → k < i → running (at m i) ≡ false → running (at (settle (slotsOf cells) d m k) i) ≡ false
+settle-quiet = settle-quiet-by
+
+-- ---- registers of slots
+
+-- i registers of `from` stored from slot z's first on, and one more, whose value was found in the bank or is 0
+pub filled-next : (bank from : List Register) (z i : ℕ) (r : Register) → r ≡ getD from i zeroRegister
+    → set (sets bank (16 * z) (reads zeroRegister from 0 i)) (16 * z + i) r ≡ sets bank (16 * z) (reads zeroRegister from 0 (i + 1))
+filled-next bank from z i r e =
+    ap (set (sets bank (16 * z) (reads zeroRegister from 0 i)) (16 * z + i)) e
+    ∙ copied-next zeroRegister bank from (16 * z) 0 i (16 * z + i) i refl (omega arith)
+
+-- a register of slot k while slot z's are written
+pub still-there : (bank vs : List Register) (z k i : ℕ) → length vs ≤ 16 → (z < k) ⊎ (k < z) → i < 16
+    → getD (sets bank (16 * z) vs) (16 * k + i) zeroRegister ≡ getD (reads zeroRegister bank (16 * k) 16) i zeroRegister
+still-there bank vs z k i n (inl h) s =
+    outside vs bank (16 * z) (16 * k + i) zeroRegister (inr (omega arith)) ∙ sym (getD-reads zeroRegister bank (16 * k) 16 i s)
+still-there bank vs z k i n (inr h) s =
+    outside vs bank (16 * z) (16 * k + i) zeroRegister (inl (omega arith)) ∙ sym (getD-reads zeroRegister bank (16 * k) 16 i s)
+
+-- ---- a slot's registers filled, in a state that the loops change in place
+
+-- one register stored
+abbrev pub storedIn : Machine → ℕ → Register → Machine
+storedIn m i r = record { places = m .places; interval = m .interval; work = m .work; bank = set (m .bank) i r; tasks = m .tasks }
+
+module _ (m₀ : Machine) (z : ℕ) (from : List Register) where
+  pub filling-none : m₀ ≡ filling m₀ z from 0
+  filling-none = λ j. record {
+    places = m₀ .places;
+    interval = m₀ .interval;
+    work = m₀ .work;
+    bank = copied-none zeroRegister (m₀ .bank) from (16 * z) 0 j;
+    tasks = m₀ .tasks;
+  }
+
+  pub filling-next : {m : Machine} {r : Register} (i : ℕ) → m ≡ filling m₀ z from i → r ≡ getD from i zeroRegister
+      → storedIn m (16 * z + i) r ≡ filling m₀ z from (i + 1)
+  filling-next {m} {r} i p e =
+      ap (λ (n : Machine). storedIn n (16 * z + i) r) p
+      ∙ (λ j. record {
+        places = m₀ .places;
+        interval = m₀ .interval;
+        work = m₀ .work;
+        bank = filled-next (m₀ .bank) from z i r e j;
+        tasks = m₀ .tasks;
+      })
+
+  pub filling-all : {m : Machine} (i : ℕ) → i ≤ 16 → 16 ≤ i → m ≡ filling m₀ z from i → m ≡ filling m₀ z from 16
+  filling-all {m} i a b p = let e : i ≡ 16 = omega arith in p ∙ ap (filling m₀ z from) e
+
+-- 16 integers 0
+pub zero-next : (m₀ : Machine) (z : ℕ) {m : Machine} {r : Register} (i : ℕ) → m ≡ filling m₀ z zeros i → i < 16 → r ≡ zeroRegister
+    → storedIn m (16 * z + i) r ≡ filling m₀ z zeros (i + 1)
+zero-next m₀ z {m} i p small e = filling-next m₀ z zeros i p (e ∙ sym (getD-replicate 16 i zeroRegister zeroRegister small))
+
+-- the registers of slot k, which stays as it is
+pub copy-next : (m₀ : Machine) (z k : ℕ) {m : Machine} {r : Register} (i : ℕ) → (z < k) ⊎ (k < z) → m ≡ filling m₀ z (at m₀ k .registers) i → i < 16
+    → r ≡ getD (m .bank) (16 * k + i) zeroRegister → storedIn m (16 * z + i) r ≡ filling m₀ z (at m₀ k .registers) (i + 1)
+copy-next m₀ z k {m} {r} i apart p small e =
+    let from = at m₀ k .registers in
+    let n : length (reads zeroRegister from 0 i) ≡ i = length-reads zeroRegister from 0 i in
+    filling-next m₀ z from i p
+    (e ∙ ap (λ (o : Machine). getD (o .bank) (16 * k + i) zeroRegister) p ∙ still-there (m₀ .bank) (reads zeroRegister from 0 i) z k i (omega (arith, n)) apart small)
+
+-- ---- a join: slot q has the parent's side, slot c above it the child's
+
+module _ (bank : List Register) (q c : ℕ) (above : q < c) where
+  abbrev parents : List Register
+  parents = reads zeroRegister bank (16 * q) 16
+
+  abbrev childs : List Register
+  childs = reads zeroRegister bank (16 * c) 16
+
+  -- one pair copied, where l stands in slot q
+  pub pair-next : (l : List Register) (n packed : ℕ) (r : Register) → length l ≡ 16 → 0 < n
+      → r ≡ getD (sets bank (16 * q) l) (16 * c + packed / 16 % 16) zeroRegister
+      → (set (sets bank (16 * q) l) (16 * q + packed % 16) r ≡ sets bank (16 * q) (set l (packed % 16) (getD childs (packed / 16 % 16) zeroRegister)))
+      × (copied childs n packed l ≡ copied childs (n - 1) (packed / 256) (set l (packed % 16) (getD childs (packed / 16 % 16) zeroRegister)))
+  pair-next l n packed r full some e =
+      let v = e ∙ still-there bank l q c (packed / 16 % 16) (omega arith) (inl above) (omega arith) in (
+        ap (set (sets bank (16 * q) l) (16 * q + packed % 16)) v ∙ stored-in l bank (16 * q) (packed % 16) _ (omega arith),
+        copies-first childs n packed l some,
+      )
+
+-- ---- states on the way to a join
+
+-- slot z's registers are l
+abbrev pub placed : Machine → ℕ → List Register → Machine
+placed m z l = record { places = m .places; interval = m .interval; work = m .work; bank = sets (m .bank) (16 * z) l; tasks = m .tasks }
+
+pub placed-none : (m : Machine) (z : ℕ) → m ≡ placed m z (at m z .registers)
+placed-none m z = λ j. record {
+  places = m .places;
+  interval = m .interval;
+  work = m .work;
+  bank = sym (sets-reads zeroRegister (m .bank) (16 * z) 16) j;
+  tasks = m .tasks;
+}
+
+-- one pair copied
+pub placed-next : (m₀ : Machine) (q c : ℕ) → q < c → {m : Machine} {r : Register} (l : List Register) (n packed : ℕ) → length l ≡ 16 → 0 < n → m ≡ placed m₀ q l
+    → r ≡ getD (m .bank) (16 * c + packed / 16 % 16) zeroRegister
+    → storedIn m (16 * q + packed % 16) r ≡ placed m₀ q (set l (packed % 16) (getD (at m₀ c .registers) (packed / 16 % 16) zeroRegister))
+placed-next m₀ q c above {m} {r} l n packed full some p e =
+    ap (λ (o : Machine). storedIn o (16 * q + packed % 16) r) p
+    ∙ (λ j. record {
+      places = m₀ .places;
+      interval = m₀ .interval;
+      work = m₀ .work;
+      bank = pair-next (m₀ .bank) q c above l n packed r full some (e ∙ ap (λ (o : Machine). getD (o .bank) (16 * c + packed / 16 % 16) zeroRegister) p) .0 j;
+      tasks = m₀ .tasks;
+    })
+
+-- the two task records are written, the registers are not yet
+abbrev pub tasksJoined : Machine → ℕ → ℕ → Task → Machine
+tasksJoined m q c t = record { places = m .places; interval = m .interval; work = m .work; bank = m .bank; tasks = set (set (m .tasks) c vacantTask) q t }
+
+module _ (cells : List ℕ) (m : Machine) (q w : ℕ) (some : 0 < w) {j : Joint} (e : j ≡ jointOf cells (at m q .task) (at m (q + w) .task)) where
+  abbrev c : ℕ
+  c = q + w
+
+  -- the registers of the joined task
+  abbrev joint-registers : List Register
+  joint-registers = jointRegisters (j .faulted) (j .pairs) (j .packed) (at m q .registers) (at m c .registers)
+
+  -- the joined task's registers in slot q and 16 integers 0 in slot c
+  pub merged-is : length joint-registers ≡ 16 → filling (placed (tasksJoined m q c (j .task)) q joint-registers) c zeros 16 ≡ merged (slotsOf cells) m q w
+  merged-is full =
+      let apart : sets (sets (m .bank) (16 * q) joint-registers) (16 * c) (reads zeroRegister zeros 0 16) ≡ sets (sets (m .bank) (16 * c) (reads zeroRegister zeros 0 16)) (16 * q) joint-registers =
+      sets-apart joint-registers (reads zeroRegister zeros 0 16) (m .bank) (16 * q) (16 * c) (omega arith) in
+      let all : reads zeroRegister joint-registers 0 16 ≡ joint-registers = rw full at (reads-all zeroRegister joint-registers) in
+      let joins : join cells (at m q) (at m c) ≡ record { task = j .task; registers = joint-registers } =
+      join-joint cells (at m q) (at m c) ∙ ap (λ (o : Joint). record { task = o .task; registers = jointRegisters (o .faulted) (o .pairs) (o .packed) (at m q .registers) (at m c .registers) }) (sym e) in
+      (λ i. record {
+        places = m .places;
+        interval = m .interval;
+        work = m .work;
+        bank = (apart ∙ ap (sets (sets (m .bank) (16 * c) (reads zeroRegister zeros 0 16)) (16 * q)) (sym all)) i;
+        tasks = set (set (m .tasks) c vacantTask) q (j .task);
+      }) ∙ ap (put (put m c vacant) q) (sym joins)
+
+  -- what the code of a join leaves: `count` registers of slot q cleared, then the pairs copied, then slot c's registers cleared
+  pub joined-in-place : {count : ℕ} {m₂ m₃ m₄ : Machine} {l : List Register} → count ≡ cond (j .faulted) 16 0
+      → m₂ ≡ filling (tasksJoined m q c (j .task)) q zeros count → m₃ ≡ placed m₂ q l → length l ≡ 16
+      → copied (at m₂ c .registers) (j .pairs) (j .packed) (at m₂ q .registers) ≡ l → m₄ ≡ filling m₃ c zeros 16 → m₄ ≡ merged (slotsOf cells) m q w
+  joined-in-place {count} {m₂} {m₃} {m₄} {l} h p₂ p₃ full is p₄ =
+      p₄ ∙ ap (λ (n : Machine). filling n c zeros 16) (p₃ ∙ by (j .faulted) refl) ∙ merged-is (sixteen (j .faulted) refl)
+    where
+      -- the state before, where no register was cleared
+      uncleared : j .faulted ≡ false → m₂ ≡ tasksJoined m q c (j .task)
+      uncleared f =
+          p₂ ∙ ap (filling (tasksJoined m q c (j .task)) q zeros) (h ∙ ap (λ (b : Bool). cond b 16 0) f) ∙ sym (filling-none (tasksJoined m q c (j .task)) q zeros)
+
+      cleared : j .faulted ≡ true → m₂ ≡ placed (tasksJoined m q c (j .task)) q zeros
+      cleared f = p₂ ∙ ap (filling (tasksJoined m q c (j .task)) q zeros) (h ∙ ap (λ (b : Bool). cond b 16 0) f)
+          ∙ ap (placed (tasksJoined m q c (j .task)) q) (reads-all zeroRegister zeros)
+
+      copies : j .faulted ≡ false → l ≡ joint-registers
+      copies f =
+          sym is ∙ ap (λ (n : Machine). copied (at n c .registers) (j .pairs) (j .packed) (at n q .registers)) (uncleared f)
+          ∙ sym (ap (λ (b : Bool). jointRegisters b (j .pairs) (j .packed) (at m q .registers) (at m c .registers)) f)
+
+      zero-registers : j .faulted ≡ true → joint-registers ≡ zeros
+      zero-registers f = ap (λ (b : Bool). jointRegisters b (j .pairs) (j .packed) (at m q .registers) (at m c .registers)) f
+
+      sixteen : (b : Bool) → j .faulted ≡ b → length joint-registers ≡ 16
+      sixteen false f = ap length (sym (copies f)) ∙ full
+      sixteen true f = ap length (zero-registers f)
+
+      by : (b : Bool) → j .faulted ≡ b → placed m₂ q l ≡ placed (tasksJoined m q c (j .task)) q joint-registers
+      by false f = ap (λ (n : Machine). placed n q l) (uncleared f) ∙ ap (placed (tasksJoined m q c (j .task)) q) (copies f)
+      by true f =
+          let none : j .pairs ≤ 0 = omega (arith, faulted-pairs cells (at m q .task) (at m c .task) e f) in
+          ap (placed m₂ q) (sym is ∙ copies-none (at m₂ c .registers) (j .pairs) (j .packed) (at m₂ q .registers) none)
+          ∙ sym (placed-none m₂ q) ∙ cleared f ∙ ap (placed (tasksJoined m q c (j .task)) q) (sym (zero-registers f))
