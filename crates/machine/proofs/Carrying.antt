@@ -1,11 +1,11 @@
 -- An instruction of a running task of a state of the shape: where the task stands, and that nothing is joined while it goes on running.
-use mathlib.Core.Path.{_≡_, sym, ap, _∙_, subst}
+use mathlib.Core.Path.{_≡_, ap, _∙_}
 use mathlib.Core.Bool.{true}
 use mathlib.Core.List.{List}
 use Prim.Native.Nat.{ℕ, _^_, _<_, _≤_}
 use native.Mathlib.Omega.{arith}
 use lib.IntN.{ℤ}
-use Rattle.agreement.specs.Plain.{Stepped, one, two}
+use Rattle.agreement.specs.Plain.{one}
 use Rattle.agreement.specs.Slots.{carry}
 use Rattle.agreement.specs.SlotLaws.{carry-one}
 use Rattle.agreement.specs.Laws.{Laws}
@@ -13,11 +13,9 @@ use Rattle.agreement.specs.RunningLaws.{Stands, stands, settle-running}
 use Rattle.task.specs.declared.Frame.{Frame}
 use Rattle.task.specs.Frames.{running}
 use Rattle.task.specs.Step.{step}
-use Rattle.task.proofs.Formation.{Formed}
 use Rattle.machine.specs.declared.Machine.{Machine}
 use Rattle.machine.specs.Slots.{at, put, slotsOf}
 use Rattle.machine.specs.Starting.{rank}
-use Rattle.machine.proofs.RankLaws.{rank-power, rank-small}
 use Rattle.machine.proofs.Models.{modelOf, formsOf, Allowed, laws-hold}
 use Rattle.machine.proofs.ShapeLaws.{Fits, fits-shows}
 

@@ -1,5 +1,5 @@
 -- An instruction carried out on small values, and what it left put into the state, is a pick's work.
-use mathlib.Core.Path.{_≡_, refl, sym, ap, ap₂, _∙_, subst, subst⁻¹}
+use mathlib.Core.Path.{_≡_, sym, ap, ap₂, _∙_}
 use mathlib.Core.Bool.{true}
 use mathlib.Core.List.{List}
 use Prim.Native.Nat.{ℕ, _+_, _*_, _^_, _<_, _≤_}
@@ -7,14 +7,12 @@ use native.Mathlib.Nat.{pow-suc}
 use lib.Pow.{pow-pos}
 use native.Mathlib.Omega.{arith}
 use lib.IntN.{ℤ}
-use lib.ListN.{getD, set}
-use Rattle.agreement.specs.Plain.{Stepped, one, two}
-use Rattle.agreement.specs.Slots.{settle, carry}
-use Rattle.agreement.specs.SlotLaws.{carry-one, carry-two, settle-keeps}
+use lib.ListN.{set}
+use Rattle.agreement.specs.Plain.{one}
+use Rattle.agreement.specs.SlotLaws.{carry-two}
 use Rattle.image.specs.declared.Instruction.{Instruction}
 use Rattle.image.specs.Layout.{instructionOf}
 use Rattle.task.specs.declared.Value.{Value}
-use Rattle.task.specs.declared.Register.{Register}
 use Rattle.task.specs.declared.Status.the-variants.{Waiting, Halted, Faulted}
 use Rattle.task.specs.declared.Fork.{Fork}
 use Rattle.task.specs.declared.Task.{Task}
@@ -29,13 +27,11 @@ use Rattle.task.specs.Execute.{activeOf, executed, after, parentSide, childSide
 use Rattle.task.proofs.Executing.{step-executed}
 use Rattle.machine.specs.declared.Machine.{Machine}
 use Rattle.machine.specs.Slots.{at, put, ticked, slotsOf}
-use Rattle.machine.specs.Settling.{JoinSafe}
 use Rattle.machine.specs.Picking.{issued}
 use Rattle.machine.proofs.InPlace.{withTaskAt, storedAt, put-task, put-stored}
 use Rattle.machine.proofs.RankLaws.{rank-small}
 use Rattle.machine.proofs.Models.{Allowed, laws-hold}
 use Rattle.machine.proofs.ShapeLaws.{Fits}
-use Rattle.machine.proofs.SettleSafety.{stepped-safe}
 use Rattle.machine.proofs.Carrying.{stand, goes-on-alone}
 
 -- what was read, and what came of it

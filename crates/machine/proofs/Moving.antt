@@ -6,8 +6,8 @@ use mathlib.Core.Bool.{Bool, true, false, cond}
 use mathlib.Core.List.{List, [], _∷_}
 use native.Mathlib.Omega.{arith}
 use native.Mathlib.Nat.{add-zero}
-use lib.ListN.{length, getD, set, replicate, getD-replicate}
-use lib.Seq.{sets, set-comm, set-set, getD-set-other}
+use lib.ListN.{length, getD, set, getD-replicate}
+use lib.Seq.{sets, set-set, getD-set-other}
 use Rattle.agreement.specs.Facts.{by-test}
 use Rattle.agreement.specs.Slots.{due, merged, settle}
 use Rattle.agreement.specs.SlotLaws.{settle-none, settle-go, settle-stop}

@@ -1,14 +1,14 @@
 -- The loop over the slots, turn by turn: what holds at its head, what each way round it keeps, and that it is a run.
 use mathlib.Core.Path.{_≡_, refl, sym, ap, _∙_}
 use mathlib.Core.Logic.{_⊎_, inl, inr}
-use mathlib.Core.Bool.{Bool, true, false, cond, not, _&&_, _||_}
+use mathlib.Core.Bool.{true, false, not, _&&_}
 use mathlib.Core.List.{List}
 use Prim.Native.Nat.{ℕ, zero, suc, _+_, _-_, _^_, _<_, _≤_}
 use native.Mathlib.Omega.{arith}
 use lib.Dec.{ltb}
 use lib.Pow.{pow-pos}
 use lib.IntN.{ℤ}
-use borrow.Author.Tests.{ltb-true, ltb-false, lt-ltb, le-ltb}
+use borrow.Author.Tests.{ltb-true, lt-ltb, le-ltb}
 use Rattle.agreement.specs.Facts.{clash, both-true, by-test, by-below}
 use Rattle.task.specs.Frames.{running}
 use Rattle.machine.specs.declared.Machine.{Machine}

@@ -8,7 +8,7 @@ use lib.IntN.{ℤ}
 use lib.ListN.{getD}
 use Rattle.image.specs.declared.Instruction.{Instruction}
 use Rattle.image.specs.Layout.{blockCount, instructionCount, instructionOf}
-use Rattle.image.proofs.Accepted.{Accepted, accepted, InstructionAccepted}
+use Rattle.image.proofs.Accepted.{accepted, InstructionAccepted}
 use Rattle.task.specs.declared.Value.{Value}
 use Rattle.task.specs.Frames.{running, zeroRegister}
 use Rattle.task.specs.Step.{register, operand}

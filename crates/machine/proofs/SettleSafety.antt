@@ -1,5 +1,5 @@
 -- In a state of the shape settling is safe, and each join keeps that.
-use Prim.Native.Nat.{ℕ, zero, suc, _+_, _*_, _-_, _%_, _^_, _≤_, _<_}
+use Prim.Native.Nat.{ℕ, suc, _+_, _*_, _-_, _%_, _^_, _≤_, _<_}
 use mathlib.Core.Path.{_≡_, refl, sym, ap, _∙_, subst⁻¹}
 use mathlib.Core.Logic.{⊎-elim}
 use mathlib.Core.Bool.{true}
@@ -16,6 +16,7 @@ use borrow.Author.Tests.{lt-ltb}
 use Rattle.agreement.specs.Facts.{by-below}
 use Rattle.agreement.specs.Plain.{one}
 use Rattle.agreement.specs.Slots.{due, merged, settle}
+use Rattle.image.specs.Layout.{blockCount}
 use Rattle.image.specs.Questions.{programNo}
 use Rattle.task.specs.declared.Task.{Task}
 use Rattle.task.specs.declared.Frame.{Frame}
@@ -26,13 +27,25 @@ use Rattle.task.proofs.Formation.{Formed, target-below}
 use Rattle.machine.specs.declared.Machine.{Machine}
 use Rattle.machine.specs.Slots.{at, put, slotsOf}
 use Rattle.machine.specs.Starting.{rank}
-use Rattle.machine.specs.Settling.{JoinSafe, SettleSafe}
 use Rattle.machine.proofs.SlotLaws.{put-tasks}
 use Rattle.machine.proofs.RankLaws.{rank-small}
 use Rattle.machine.proofs.Models.{Allowed, laws-hold}
 use Rattle.machine.proofs.ShapeLaws.{Fits}
 use Rattle.machine.proofs.SettleLaws.{due-sides, settle-goes}
 use Rattle.machine.proofs.ShapeSlots.{fits-framed, running-formed}
+
+-- ---- what the joins that fall due need of a state
+
+pub record JoinSafe (cells : List ℕ) (t : Task) : Type 0 where
+  -- with all its forks joined the task has at most 64 places
+  pub places-fit : t .places * 2 ^ t .depth ≤ 64
+  pub depth-fits : t .depth ≤ 6
+  -- each open fork names a block
+  pub forks-name : (i : ℕ) → i < t .depth → getD (t .forks) i zeroFork .continuation < blockCount cells
+
+-- in every slot
+abbrev pub SettleSafe : List ℕ → Machine → Type 0
+SettleSafe cells m = (i : ℕ) → JoinSafe cells (at m i .task)
 
 -- ---- one task record
 

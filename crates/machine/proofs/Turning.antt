@@ -10,7 +10,7 @@ use types.Run.{OneOf, miss}
 use denote.Enum.Declared.{tagOf}
 use Rattle.agreement.specs.Facts.{clash}
 use Rattle.agreement.specs.Plain.{one}
-use Rattle.agreement.specs.Slots.{due, merged, settle, carry}
+use Rattle.agreement.specs.Slots.{due, merged, settle}
 use Rattle.agreement.specs.SlotLaws.{carry-one}
 use Rattle.image.specs.declared.Instruction.{Instruction}
 use Rattle.task.specs.declared.Value.{Value}
@@ -24,7 +24,6 @@ use Rattle.task.specs.Step.{join, step}
 use Rattle.machine.specs.declared.Machine.{Machine}
 use Rattle.machine.specs.Slots.{at, put, ticked, Sized, slotsOf}
 use Rattle.machine.specs.Starting.{rank}
-use Rattle.machine.specs.Settling.{SettleSafe}
 use Rattle.machine.specs.Picking.{issued}
 use Rattle.machine.specs.Running.{Run}
 use Rattle.machine.specs.Driving.{goesOn, nextSlot}
@@ -35,7 +34,7 @@ use Rattle.machine.proofs.Carrying.{stand}
 use Rattle.machine.proofs.Moving.{settle-tick, settle-quiet}
 use Rattle.machine.proofs.Issuing.{Fetched}
 use Rattle.machine.proofs.SettleLaws.{settle-ends, settle-stops}
-use Rattle.machine.proofs.SettleSafety.{turn, fits-safe, put-back-safe}
+use Rattle.machine.proofs.SettleSafety.{SettleSafe, turn, fits-safe, put-back-safe}
 use Rattle.machine.proofs.Passing.{Head, issued-behind}
 
 module _ (cells : List ℕ) (words : List ℤ) where

@@ -6,4 +6,3 @@ pub mod Shape
 pub mod Picking
 pub mod Running
 pub mod Driving
-pub mod Settling

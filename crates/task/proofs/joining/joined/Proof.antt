@@ -1,5 +1,4 @@
 -- `joined` meets its contract.
-use mathlib.Core.Path.{_∙_}
 use Rattle.image.proofs.Accepted.{accepted}
 use Rattle.task.proofs.Copying.{joins-faulted, joins-running}
 use borrow.Author.Needs.{needs}
