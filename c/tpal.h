@@ -8,7 +8,7 @@
  *
  * Threads. The engine has no global state, takes no memory from the heap and makes no system
  * calls. Each function may be called from any thread, by several at once. Leave 64 KiB of stack for
- * a call on an image and 640 KiB for one on a job. docs/api.md has the measured figures, and what
+ * a call on an image and 256 KiB for one on a job. docs/api.md has the measured figures, and what
  * holds in a signal handler; docs/numbers.md says what to do about each number.
  *
  * Answers. 0 is accepted; any other answer is the number of the first question that was answered
