@@ -63,7 +63,7 @@ fn larger(a: u8, b: u8) -> u8
     a
 }
 
-// The worst grade of each slot's 16 registers. `Stored`: as above.
+// The worst grade of each slot's 16 registers. `machine` alone calls it, in the shape test; `Stored`: as above.
 pub fn grade_slots(cells: &[u64], bank: [Register; 1024]) -> [u8; 64]
     requires { ⌜ Stored (now cells) ⌝ }
     ensures { λ r. ⌜ GradedSlots (now (cells .entry)) bank r ⌝ }

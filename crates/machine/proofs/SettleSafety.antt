@@ -142,8 +142,6 @@ merged-safe cells m q w all inside same =
 -- the join of the fork at slot q, whose sides have w places each, is due at depth d for the task in slot k
 pub record Turn (cells : List ℕ) (m : Machine) (k d q w : ℕ) : Type 0 where
   pub has-room : q + w < 64
-  pub inside : 0 < at m q .task .depth
-  pub same-depth : at m (q + w) .task .depth ≡ at m q .task .depth
   pub goes-on : settle (slotsOf cells) d m k ≡ settle (slotsOf cells) (d - 1) (merged (slotsOf cells) m q w) q
   pub stays-safe : SettleSafe cells (merged (slotsOf cells) m q w)
 
@@ -155,8 +153,6 @@ turn cells m k d q w all left hw hq e =
     let same : at m (q + w) .task .depth ≡ at m q .task .depth = s .child-depth ∙ sym (s .parent-depth) in
     record {
       has-room = s .has-room;
-      inside = inside;
-      same-depth = same;
       goes-on = settle-goes cells m k d q w left hw hq e;
       stays-safe = merged-safe cells m q w all inside same;
     }

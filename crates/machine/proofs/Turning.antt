@@ -8,7 +8,6 @@ use lib.Pow.{pow-pos}
 use lib.IntN.{ℤ}
 use types.Run.{OneOf, miss}
 use denote.Enum.Declared.{tagOf}
-use Rattle.agreement.specs.Facts.{clash}
 use Rattle.agreement.specs.Plain.{one}
 use Rattle.agreement.specs.Slots.{due, merged, settle}
 use Rattle.agreement.specs.SlotLaws.{carry-one}
@@ -136,14 +135,6 @@ runs-on-not (Faults n) a b = absurd (miss (0 ∷ 1 ∷ []) 4 tt a)
 runs-on-not (Forks n) a b = absurd (miss (0 ∷ 1 ∷ []) 5 tt a)
 
 -- ---- the loop's tests
-
-pub not-true : (b : Bool) → not b ≡ true → b ≡ false
-not-true true e = clash refl (sym e)
-not-true false e = refl
-
-pub not-false : (b : Bool) → not b ≡ false → b ≡ true
-not-false true e = refl
-not-false false e = clash refl e
 
 pub one-if-not : (b : Bool) → b ≡ false → _≡_ {A = ℕ} (cond b 0 1) 1
 one-if-not b e = rw e

@@ -86,8 +86,9 @@ fn ended_task(status: Status, t: Task) -> Task
     }
 }
 
-// The parent's side of a fork opened under this record.
-fn parent_task(under: Fork, pc: u16, counter: u32, t: Task) -> Task
+// A side of a fork opened under this record: the parent's goes on at pc with its counter, the child's begins there with counter 0. The
+// caller has found the work below its limit, and an instruction that forks leaves room for an open fork more.
+fn side_task(under: Fork, pc: u16, counter: u32, t: Task) -> Task
     requires { ⌜ (t .span < 4294967295) × (t .depth < 6) ⌝ }
     ensures { λ r. ⌜ r ≡ side under pc counter (counted t) ⌝ }
 {
@@ -310,10 +311,10 @@ pub fn drive(cells: &[u64], words: &[i64], machine: Machine, slot: usize, budget
                 let t = m.tasks[k];
                 let value = e.value;
                 let under = record_of(value);
-                let p = parent_task(under, e.pc, e.counter, t);
+                let p = side_task(under, e.pc, e.counter, t);
                 let c = k + (p.places as usize);
                 m.tasks[k] = p;
-                m.tasks[c] = parent_task(under, pc, 0, t);
+                m.tasks[c] = side_task(under, pc, 0, t);
                 let mut i = 0usize;
                 while i < 16 {
                     let copied = m.bank[base + i];

@@ -9,7 +9,7 @@ use lib.IntN.{ℤ}
 use lib.ListN.{length, getD, set, length-set}
 use lib.Pow.{pow-pos}
 use lib.Seq.{getD-set-same, getD-set-other}
-use borrow.Author.Tests.{ltb-true}
+use borrow.Author.Tests.{ltb-true, not-true, not-false}
 use Rattle.agreement.specs.Facts.{clash, both-true}
 use Rattle.agreement.specs.Plain.{one}
 use Rattle.agreement.specs.Slots.{due}
@@ -44,7 +44,7 @@ use Rattle.machine.proofs.Moving.{filling-none, filling-all, zero-next,
 use Rattle.machine.proofs.SettleLaws.{sides-decide, without-room}
 use Rattle.machine.proofs.SettleSafety.{due-joinable, fits-safe}
 use Rattle.machine.proofs.Passing.{Goes, goes, Head, begins, next-inside, passed-over, issued-alone, stopped}
-use Rattle.machine.proofs.Turning.{Turns, none-due, at-head, stops, joins, ends, Onward, Stopped, runs-on-not, not-true, not-false, one-if-not, few-cleared, seeks-no-more}
+use Rattle.machine.proofs.Turning.{Turns, none-due, at-head, stops, joins, ends, Onward, Stopped, runs-on-not, one-if-not, few-cleared, seeks-no-more}
 use borrow.Author.Needs.{needs}
 use native.Mathlib.Omega.{arith}
 use Rattle.machine.proofs.drive.drive.Statement.{statement}
@@ -329,11 +329,11 @@ ends-side c g e p deep next =
 
 -- a fork: both sides' slots are in the state
 abbrev Forking : Type 0
-Forking = tie.After-parent-task Inv-loop2 μ-loop2 Inv-loop3 μ-loop3 Inv-loop4 μ-loop4 Inv-loop5 μ-loop5 Inv-loop6 μ-loop6 Inv-loop7 μ-loop7 Inv-loop μ-loop
+Forking = tie.After-side-task Inv-loop2 μ-loop2 Inv-loop3 μ-loop3 Inv-loop4 μ-loop4 Inv-loop5 μ-loop5 Inv-loop6 μ-loop6 Inv-loop7 μ-loop7 Inv-loop μ-loop
 
-child-inside : (c : Forking) → (0 < c .parent-task .result .places) × (c .before .before .before .before .before .before .before .before .before .loop5 .k + c .parent-task .result .places < c .before .before .before .before .before .before .before .before .before .loop5 .m .places)
+child-inside : (c : Forking) → (0 < c .side-task .result .places) × (c .before .before .before .before .before .before .before .before .before .loop5 .k + c .side-task .result .places < c .before .before .before .before .before .before .before .before .before .loop5 .m .places)
 child-inside c =
-    let w : c .parent-task .result .places ≡ at (c .before .before .before .before .before .before .before .before .before .loop5 .m) (c .before .before .before .before .before .before .before .before .before .loop5 .k) .task .places / 2 = ap (λ (o : Task). o .places) (c .parent-task .ensures) in
+    let w : c .side-task .result .places ≡ at (c .before .before .before .before .before .before .before .before .before .loop5 .m) (c .before .before .before .before .before .before .before .before .before .loop5 .k) .task .places / 2 = ap (λ (o : Task). o .places) (c .side-task .ensures) in
     let r = forks-room (allowed-at (h5 (c .before .before .before .before .before .before))) (fits-at (h5 (c .before .before .before .before .before .before))) (below-at (h5 (c .before .before .before .before .before .before))) (stopped-at (c .before .before .before .before .before .before) .runs-there) (stopped-at (c .before .before .before .before .before .before) .fetched) (c .before .before .before .before .kind2 .given .0 .0) (c .before .before .before .before .kind2 .given .1) in (
       omega (arith, w, r .1),
       omega (arith, w, r .1, tile-there (c .before .before .before .before .before .before)),
@@ -920,8 +920,8 @@ element-copy-out-t-4 c = omega (arith, slot-inside (c .before .before .before .b
 record-of-requires : tie.Need-record-of-requires Inv-loop2 μ-loop2 Inv-loop3 μ-loop3 Inv-loop4 μ-loop4 Inv-loop5 μ-loop5 Inv-loop6 μ-loop6 Inv-loop7 μ-loop7 Inv-loop μ-loop
 record-of-requires c κs = search needs
 
-parent-task-requires : tie.Need-parent-task-requires Inv-loop2 μ-loop2 Inv-loop3 μ-loop3 Inv-loop4 μ-loop4 Inv-loop5 μ-loop5 Inv-loop6 μ-loop6 Inv-loop7 μ-loop7 Inv-loop μ-loop
-parent-task-requires c κs = (span-at (c .before .before .before .before .before .before .before .before) (issues-at (c .before .before .before .before .before)), forks-room (allowed-at (h5 (c .before .before .before .before .before))) (fits-at (h5 (c .before .before .before .before .before))) (below-at (h5 (c .before .before .before .before .before))) (stopped-at (c .before .before .before .before .before) .runs-there) (stopped-at (c .before .before .before .before .before) .fetched) (c .before .before .before .kind2 .given .0 .0) (c .before .before .before .kind2 .given .1) .0)
+side-task-requires : tie.Need-side-task-requires Inv-loop2 μ-loop2 Inv-loop3 μ-loop3 Inv-loop4 μ-loop4 Inv-loop5 μ-loop5 Inv-loop6 μ-loop6 Inv-loop7 μ-loop7 Inv-loop μ-loop
+side-task-requires c κs = (span-at (c .before .before .before .before .before .before .before .before) (issues-at (c .before .before .before .before .before)), forks-room (allowed-at (h5 (c .before .before .before .before .before))) (fits-at (h5 (c .before .before .before .before .before))) (below-at (h5 (c .before .before .before .before .before))) (stopped-at (c .before .before .before .before .before) .runs-there) (stopped-at (c .before .before .before .before .before) .fetched) (c .before .before .before .kind2 .given .0 .0) (c .before .before .before .kind2 .given .1) .0)
 
 add-c-2 : tie.Need-add-c-2 Inv-loop2 μ-loop2 Inv-loop3 μ-loop3 Inv-loop4 μ-loop4 Inv-loop5 μ-loop5 Inv-loop6 μ-loop6 Inv-loop7 μ-loop7 Inv-loop μ-loop
 add-c-2 c = omega (arith, child-inside c, slot-inside (c .before .before .before .before .before .before .before .before .before), places-few (c .before .before .before .before .before .before .before .before .before))
@@ -932,8 +932,8 @@ mul-p c = omega (arith, child-inside c, slot-inside (c .before .before .before .
 element-set-from-p : tie.Need-element-set-from-p Inv-loop2 μ-loop2 Inv-loop3 μ-loop3 Inv-loop4 μ-loop4 Inv-loop5 μ-loop5 Inv-loop6 μ-loop6 Inv-loop7 μ-loop7 Inv-loop μ-loop
 element-set-from-p c = omega (arith, child-inside c, slot-inside (c .before .before .before .before .before .before .before .before .before), places-few (c .before .before .before .before .before .before .before .before .before))
 
-parent-task-requires-2 : tie.Need-parent-task-requires-2 Inv-loop2 μ-loop2 Inv-loop3 μ-loop3 Inv-loop4 μ-loop4 Inv-loop5 μ-loop5 Inv-loop6 μ-loop6 Inv-loop7 μ-loop7 Inv-loop μ-loop
-parent-task-requires-2 c κs = (span-at (c .before .before .before .before .before .before .before .before .before) (issues-at (c .before .before .before .before .before .before)), forks-room (allowed-at (h5 (c .before .before .before .before .before .before))) (fits-at (h5 (c .before .before .before .before .before .before))) (below-at (h5 (c .before .before .before .before .before .before))) (stopped-at (c .before .before .before .before .before .before) .runs-there) (stopped-at (c .before .before .before .before .before .before) .fetched) (c .before .before .before .before .kind2 .given .0 .0) (c .before .before .before .before .kind2 .given .1) .0)
+side-task-requires-2 : tie.Need-side-task-requires-2 Inv-loop2 μ-loop2 Inv-loop3 μ-loop3 Inv-loop4 μ-loop4 Inv-loop5 μ-loop5 Inv-loop6 μ-loop6 Inv-loop7 μ-loop7 Inv-loop μ-loop
+side-task-requires-2 c κs = (span-at (c .before .before .before .before .before .before .before .before .before) (issues-at (c .before .before .before .before .before .before)), forks-room (allowed-at (h5 (c .before .before .before .before .before .before))) (fits-at (h5 (c .before .before .before .before .before .before))) (below-at (h5 (c .before .before .before .before .before .before))) (stopped-at (c .before .before .before .before .before .before) .runs-there) (stopped-at (c .before .before .before .before .before .before) .fetched) (c .before .before .before .before .kind2 .given .0 .0) (c .before .before .before .before .kind2 .given .1) .0)
 
 mul-t195 : tie.Need-mul-t195 Inv-loop2 μ-loop2 Inv-loop3 μ-loop3 Inv-loop4 μ-loop4 Inv-loop5 μ-loop5 Inv-loop6 μ-loop6 Inv-loop7 μ-loop7 Inv-loop μ-loop
 mul-t195 c = omega (arith, child-inside (c .before), places-few (c .before .before .before .before .before .before .before .before .before .before))
@@ -974,7 +974,7 @@ loop7-less c = omega (arith, c .before .loop7-test .taken)
 loop7-again : tie.Need-loop7-again Inv-loop2 μ-loop2 Inv-loop3 μ-loop3 Inv-loop4 μ-loop4 Inv-loop5 μ-loop5 Inv-loop6 μ-loop6 Inv-loop7 μ-loop7 Inv-loop μ-loop
 loop7-again c = (
   omega (arith, c .before .loop7-test .taken),
-  copy-next _ (c .before .before .before .before .before .before .before .before .before .before .before .before .before .loop5 .k + c .before .before .before .before .parent-task .result .places) (c .before .before .before .before .before .before .before .before .before .before .before .before .before .loop5 .k) (c .before .before .loop7 .i) (inr (omega (arith, child-inside (c .before .before .before .before) .0)))
+  copy-next _ (c .before .before .before .before .before .before .before .before .before .before .before .before .before .loop5 .k + c .before .before .before .before .side-task .result .places) (c .before .before .before .before .before .before .before .before .before .before .before .before .before .loop5 .k) (c .before .before .loop7 .i) (inr (omega (arith, child-inside (c .before .before .before .before) .0)))
       (c .before .before .loop7 .inv .1) (c .before .loop7-test .taken) refl,
 )
 
@@ -987,20 +987,20 @@ loop-again-8 c =
     let s = h5 h in
     let m = s .loop5 .m in
     let k = s .loop5 .k in
-    let p = c .before .before .before .parent-task .result in
-    let p₂ = c .before .before .parent-task2 .result in
+    let p = c .before .before .before .side-task .result in
+    let p₂ = c .before .before .side-task2 .result in
     let i = child-inside (c .before .before .before) in
     let registers = at m k .registers in
     let full = filling-all _ (k + p .places) registers (c .before .loop7 .i) (c .before .loop7 .inv .0) (c .loop7-test .left) (c .before .loop7 .inv .1) in
     let done : c .before .loop7 .m ≡ issued (cells-of (turn-of s)) (words-of (turn-of s)) m k =
     full ∙ ap (λ (o : Machine). ticked (put o (k + p .places) (record { task = p₂; registers = registers }))) (sym (put-task m k p))
-    ∙ forks-issued (allowed-at s) (fits-at s) (below-at s) (stopped-at h .runs-there) (stopped-at h .fetched) (c .before .before .before .before .before .before .before .kind2 .given .0 .0) (c .before .before .before .before .before .before .before .kind2 .given .1) (c .before .before .before .before .record-of .ensures) (c .before .before .before .parent-task .ensures)
-    (ap (λ (o : Task). put (put m k (record { task = p; registers = registers })) (k + p .places) (record { task = o; registers = registers })) (c .before .before .parent-task2 .ensures ∙ sym (ap (movedTo _ 0) (c .before .before .before .parent-task .ensures)))) in
+    ∙ forks-issued (allowed-at s) (fits-at s) (below-at s) (stopped-at h .runs-there) (stopped-at h .fetched) (c .before .before .before .before .before .before .before .kind2 .given .0 .0) (c .before .before .before .before .before .before .before .kind2 .given .1) (c .before .before .before .before .record-of .ensures) (c .before .before .before .side-task .ensures)
+    (ap (λ (o : Task). put (put m k (record { task = p; registers = registers })) (k + p .places) (record { task = o; registers = registers })) (c .before .before .side-task2 .ensures ∙ sym (ap (movedTo _ 0) (c .before .before .before .side-task .ensures)))) in
     let here : getD (c .before .loop7 .m .tasks) k noTask ≡ p = ap (λ (o : Machine). getD (o .tasks) k noTask) full
     ∙ getD-set-other (set (m .tasks) k p) (k + p .places) k p₂ noTask (λ e. absurd (omega (arith, i .0))) ∙ getD-set-same (m .tasks) k p noTask (omega (arith, slot-inside s, head-at s .fits .sized .of-tasks)) in (
       none-due (cells-of (turn-of s)) (words-of (turn-of s)) (job-allowed (entry (turn-of s))) _ _ (due-none s) (side-inside (turn-of s))
           (issued-alone (cells-of (turn-of s)) (words-of (turn-of s)) (job-allowed (entry (turn-of s))) (head-at s) (stopped-at h .test) _ _ (p .places) (stopped-at h .runs-there) done
-          (ap (λ (o : Task). isRunning (o .status)) (here ∙ c .before .before .before .parent-task .ensures) ∙ stopped-at h .runs-there) (ap (λ (o : Task). o .places) here) (next-inside (m .places) k (p .places) (i .0) (i .1))),
+          (ap (λ (o : Task). isRunning (o .status)) (here ∙ c .before .before .before .side-task .ensures) ∙ stopped-at h .runs-there) (ap (λ (o : Task). o .places) here) (next-inside (m .places) k (p .places) (i .0) (i .1))),
       λ e. clash e (going-on s),
     )
 
@@ -1202,11 +1202,11 @@ drive-spec =
     mul-t-4
     element-copy-out-t-4
     record-of-requires
-    parent-task-requires
+    side-task-requires
     add-c-2
     mul-p
     element-set-from-p
-    parent-task-requires-2
+    side-task-requires-2
     mul-t195
     element-set-from-m-11
     loop7-holds
