@@ -15,14 +15,14 @@ use Rattle.machine.specs.Starting.{rank, fresh}
 use Rattle.cases.specs.Assembly.{assembled}
 use Rattle.cases.specs.ProgramF.{forking, programF, imageF, twoFaults, haltInSide}
 use Rattle.cases.specs.Figure2.{product}
-use Rattle.cases.specs.Table.{caseF, onePlace, eitherFault, sideHalts, product2, product3, product4, towardZero, leastNegated, trueIsZero, sumWraps, table, StarredCases}
+use Rattle.cases.specs.Table.{caseF, onePlace, eitherFault, sideHalts, product2, product3, product4, onInterval, belowInterval, towardZero, leastNegated, trueIsZero, sumWraps, table, StarredCases}
 use Rattle.cases.proofs.Test.{every, passes}
 use Rattle.cases.proofs.Enough.{every-at, right}
 
 -- computed for each case: the reader's questions, start's own, the plain evaluation with its outcome, and that the orders end the job
 pub all-pass : every passes table ≡ true
-unfolding table imageF caseF onePlace eitherFault sideHalts product2 product3 product4 towardZero leastNegated trueIsZero sumWraps
-    assembled forking twoFaults haltInSide product bytesOf little rows buffer cellsIn
+unfolding table imageF caseF onePlace eitherFault sideHalts product2 product3 product4 onInterval belowInterval towardZero leastNegated
+    trueIsZero sumWraps assembled forking twoFaults haltInSide product bytesOf little rows buffer cellsIn
     imageNo markIn headerNo orElse firstNo countsNo starts rising unjoined joined annotated blockNo register operandFits laidOut startsAt
     lastInBlock instructionNo recordsNo
     eval step operand asked promotes belong fits copied join

@@ -1,4 +1,5 @@
--- Document 01's starred cases (* below), and two more that its wrong turns need: one table, and one statement about all of it.
+-- Document 01's starred cases (* below), two more that its wrong turns need, and those of document 02: one table, and one statement about
+-- all of it.
 -- `proofs/Starred.antt` proves the statement.
 use mathlib.Core.List.{List, [], _∷_, _++_, List·Memᴰ}
 use Prim.Native.Nat.{ℕ, zero, suc, _+_, _-_, _^_}
@@ -100,6 +101,22 @@ product4 = record {
   outcome = record { end = Halt; work = 39; span = 33; registers = held c (Int (pos 20)) ∷ [] };
 }
 
+-- document 02, request 1: the counter stands at 10 when the loop is entered with 2 left, and at 14 with 1 left. Interval 10 forks
+unfoldable pub onInterval : Case
+onInterval = record {
+  given = forProduct 10 4;
+  orders = [];
+  outcome = record { end = Halt; work = 39; span = 33; registers = held c (Int (pos 20)) ∷ [] };
+}
+
+-- with interval 11 the beat comes too late for a fork: the handler's two instructions, and back
+unfoldable pub belowInterval : Case
+belowInterval = record {
+  given = forProduct 11 4;
+  orders = [];
+  outcome = record { end = Halt; work = 23; span = 23; registers = held c (Int (pos 20)) ∷ [] };
+}
+
 -- ---- Operations: two instructions on r0, whose results go to r1 and r2, which were 9
 
 abbrev pub on : ℤ → Instruction → Instruction → Given
@@ -148,7 +165,7 @@ sumWraps = gives (on greatest (plus 1 0 (int (pos 1))) (plus 2 0 (int (pos 0))))
 unfoldable pub table : List Case
 table =
     caseF ∷ onePlace ∷ eitherFault ∷ sideHalts
-    ∷ product2 ∷ product3 ∷ product4
+    ∷ product2 ∷ product3 ∷ product4 ∷ onInterval ∷ belowInterval
     ∷ towardZero ∷ leastNegated ∷ trueIsZero ∷ sumWraps
     ∷ []
 

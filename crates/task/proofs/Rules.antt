@@ -1,23 +1,29 @@
 -- Rules that every evaluation shares, so that no comparison of two would find them broken: whose fault a joined task has, what else a join
--- leaves, the counter at a promotion, and what a comparison gives.
+-- leaves, when a promotion comes and what it does to the counter, and what a comparison gives.
 use mathlib.Core.Path.{_≡_, refl, ap, _∙_}
-use mathlib.Core.Bool.{Bool, true, false, cond}
+use mathlib.Core.Bool.{Bool, true, false, not, cond}
 use mathlib.Core.List.{List}
 use mathlib.Core.Option.{Option, none, some}
-use Prim.Native.Nat.{ℕ, _+_, _-_, max}
+use Prim.Native.Nat.{ℕ, _+_, _-_, _≤_, max}
+use lib.Dec.{eqb, leb}
 use lib.IntN.{ℤ, pos}
 use lib.ListN.{getD}
 use lib.Signed.{ltZ}
+use borrow.Author.Tests.{eqb-true, eqb-false, leb-true, not-true, eq-eqb, ne-eqb, le-leb}
+use native.Mathlib.Omega.{arith}
 use Rattle.int64.specs.Equal.{eqZ}
-use Rattle.agreement.specs.Plain.{one}
+use Rattle.agreement.specs.Facts.{both-true}
+use Rattle.agreement.specs.Plain.{Stepped, one}
 use Rattle.image.specs.Layout.{blockOf}
-use Rattle.task.specs.declared.Value.the-variants.{Int}
+use Rattle.task.specs.declared.Value.{Value}
+use Rattle.task.specs.declared.Value.the-variants.{Int, Label, Record}
 use Rattle.task.specs.declared.Status.{Status}
 use Rattle.task.specs.declared.Status.the-variants.{Running, Faulted}
 use Rattle.task.specs.declared.Task.{Task}
 use Rattle.task.specs.declared.Frame.{Frame}
 use Rattle.task.specs.Frames.{zeroFork, faultOf}
-use Rattle.task.specs.Step.{asked, stored, less, equal, carriedOut, promotes, enteredBy, entered, firstFault, joinedBy, join}
+use Rattle.task.specs.Step.{withTask, asked, stored, fits, less, equal, ifJump, jump, meet, carriedOut, promotes, enteredBy, entered, firstFault, joinedBy, join}
+use Rattle.task.proofs.Fitting.{is-fits}
 
 module _ (cells : List ℕ) (p c : Frame) where
   -- the continuation of the parent's innermost fork
@@ -60,6 +66,57 @@ module _ (cells : List ℕ) (p c : Frame) where
       go : (o : Option ℕ) → Joined (joinedBy o cells continuation p c .task)
       go (some n) = record { all-places = refl; larger-span = refl; counter-cleared = refl }
       go none = record { all-places = refl; larger-span = refl; counter-cleared = refl }
+
+module _ (cells : List ℕ) (interval b counter places : ℕ) where
+  -- what a promotion takes: the beat comes on the interval, not after it
+  pub record Due : Type 0 where
+    pub is-ready : blockOf cells b .annotation ≡ 1
+    pub has-beat : interval ≡ 0 → ⊥
+    pub is-reached : interval ≤ counter
+    pub two-places : 2 ≤ places
+
+  pub promotes-when-due : Due → promotes cells interval b counter places ≡ true
+  unfolding promotes
+  promotes-when-due d =
+      rw (eq-eqb _ _ (d .is-ready), ne-eqb _ _ (d .has-beat), le-leb _ _ (d .is-reached), le-leb _ _ (d .two-places))
+
+  pub due-when-promotes : promotes cells interval b counter places ≡ true → Due
+  unfolding promotes
+  due-when-promotes h =
+      let ready = both-true (eqb (blockOf cells b .annotation) 1) _ h in
+      let beat = both-true (not (eqb interval 0)) _ (ready .1) in
+      let reached = both-true (leb interval counter) (leb 2 places) (beat .1) in
+      record {
+        is-ready = eqb-true _ _ (ready .0);
+        has-beat = eqb-false _ _ (not-true _ (beat .0));
+        is-reached = leb-true _ _ (reached .0);
+        two-places = leb-true _ _ (reached .1);
+      }
+
+  -- a join enters join targets only (jralloc's question 35), so it never promotes
+  pub target-stays : blockOf cells b .annotation ≡ 2 → promotes cells interval b counter places ≡ false
+  unfolding promotes
+  target-stays e = rw e
+
+-- the three ways of entering a block go by one rule
+module _ (cells : List ℕ) (words : List ℤ) (interval r b : ℕ) (s : Value) (f : Frame) where
+  abbrev enters : Stepped Frame
+  enters = one (withTask (entered cells interval b (f .task)) f)
+
+  pub jump-enters : carriedOut cells words interval r s (Label b) f jump ≡ enters
+  unfolding asked
+  jump-enters = refl
+
+  pub if-jump-enters : carriedOut cells words interval r (Int (pos 0)) (Label b) f ifJump ≡ enters
+  unfolding asked
+  if-jump-enters = refl
+
+  pub join-enters : carriedOut cells words interval r s (Record b (f .task .depth)) f meet ≡ enters
+  unfolding asked
+  join-enters = rw (own-depth-fits, eq-eqb (f .task .depth) (f .task .depth) refl)
+    where
+      own-depth-fits : fits (record { continuation = b; depth = f .task .depth }) (f .task .depth) (f .task .forks) ≡ true
+      own-depth-fits = is-fits _ _ _ (record { shallow = omega arith; belongs = λ i a c. absurd (omega arith) })
 
 module _ (cells : List ℕ) (interval b : ℕ) (t : Task) where
   -- the counter becomes 0 and control goes to the handler

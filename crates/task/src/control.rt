@@ -35,7 +35,7 @@ fn is_promoted(cells: &[u64], interval: u64, b: usize, t: Active) -> bool
     if interval == 0 {
         return false;
     }
-    if t.counter as u64 <= interval {
+    if (t.counter as u64) < interval {
         return false;
     }
     2 <= t.places

@@ -3,14 +3,19 @@
 use crate::jobs::{JobCase, INTERVALS, MAKES};
 use crate::shares::{add_all, Tally};
 use model::plain::Evaluation;
-use model::task::{Step, Surroundings, MAX_DEPTH};
-use model::{fault, question, End, Job, Machine, Status};
+use model::task::{Step, Surroundings, Task, MAX_DEPTH};
+use model::{fault, opcode, question, Block, End, Job, Machine, Status};
 use std::fmt;
 
 const DEPTHS: usize = MAX_DEPTH + 1;
 const FAULTS: usize = (fault::LAST - fault::FIRST + 1) as usize;
 
 type ByDepth = [u64; DEPTHS];
+
+/// Ways of entering a block that may be promotion-ready, and where the counter stands beside the
+/// interval.
+const WAYS: [(u8, &str); 2] = [(opcode::JUMP, "jump"), (opcode::IF_JUMP, "if-jump")];
+const BESIDE: [&str; 3] = ["one below", "at", "one above"];
 
 #[derive(Clone, Debug, Default)]
 pub struct JobCoverage {
@@ -28,6 +33,8 @@ pub struct JobCoverage {
     /// By the depth of the task that issued the instruction.
     faults: [ByDepth; FAULTS],
     promotions: ByDepth,
+    /// Entries of promotion-ready blocks with two places or more, by `WAYS`, then by `BESIDE`.
+    entries: [[u64; BESIDE.len()]; WAYS.len()],
     forks: ByDepth,
     /// Joins that went to their continuation.
     joins_through: ByDepth,
@@ -39,6 +46,11 @@ pub struct JobCoverage {
     settled: ByDepth,
     /// By the number of the question, from 21 on.
     refused: [u64; 3],
+}
+
+/// Of a task that goes on: nothing else clears its counter.
+fn is_promoted(after: &Task) -> bool {
+    after.counter == 0
 }
 
 fn fault_index(number: u8) -> usize {
@@ -82,11 +94,11 @@ impl JobCoverage {
         });
         match step {
             Step::Onward => {
-                // Nothing else clears the counter of a task that goes on.
-                self.promotions[depth] += u64::from(after.counter == 0);
+                self.promotions[depth] += u64::from(is_promoted(&after));
                 let instruction = &job.program.instructions[usize::from(before.pc)];
-                let through = instruction.opcode == model::opcode::JOIN;
+                let through = instruction.opcode == opcode::JOIN;
                 self.joins_through[depth] += u64::from(through);
+                self.count_entry(job, instruction.opcode, before, &after);
             }
             Step::Fork { .. } => self.forks[depth] += 1,
             Step::Halt => {}
@@ -95,6 +107,21 @@ impl JobCoverage {
                 self.faults[fault_index(number)][depth] += 1;
                 self.count_end_of_side(machine, slot, Some(number));
             }
+        }
+    }
+
+    /// Counts an entry of a promotion-ready block, or of its handler in its place, where the counter
+    /// is close to the interval.
+    fn count_entry(&mut self, job: &Job, opcode: u8, before: &Task, after: &Task) {
+        let way = WAYS.iter().position(|&(number, _)| number == opcode);
+        let counter = before.counter + 1;
+        let beside = (counter + 1).checked_sub(job.interval.into());
+        if let (Some(way), Some(beside @ 0..=2)) = (way, beside) {
+            // An if-jump that is not taken does not come to a block's first instruction.
+            let ready = |block: &Block| block.is_promotion_ready() && block.first == after.pc;
+            let entered = is_promoted(after) || job.program.blocks.iter().any(ready);
+            let may_promote = job.interval != 0 && before.places >= 2;
+            self.entries[way][beside as usize] += u64::from(may_promote && entered);
         }
     }
 
@@ -144,6 +171,9 @@ impl Tally for JobCoverage {
             add_all(mine, theirs);
         }
         add_all(&mut self.promotions, &other.promotions);
+        for (mine, theirs) in self.entries.iter_mut().zip(&other.entries) {
+            add_all(mine, theirs);
+        }
         add_all(&mut self.forks, &other.forks);
         add_all(&mut self.joins_through, &other.joins_through);
         for (mine, theirs) in self.joined.iter_mut().zip(&other.joined) {
@@ -192,6 +222,14 @@ impl Tally for JobCoverage {
                 self.promotions[depth],
             );
             line(format!("fork at depth {}", depth), self.forks[depth]);
+        }
+        for ((_, way), counts) in WAYS.iter().zip(self.entries) {
+            for (beside, count) in BESIDE.iter().zip(counts) {
+                line(
+                    format!("{} with the counter {} the interval", way, beside),
+                    count,
+                );
+            }
         }
         for (depth, count) in self.joins_through.iter().enumerate() {
             line(

@@ -1,5 +1,6 @@
 //! Jobs and orders of picks put to the engine's replay and to the model's machine.
 
+use crate::assemble::JobInput;
 use crate::jobs::{difference, job, refused};
 use crate::lent::Lent;
 use crate::orders::{any_number, MANNERS};
@@ -155,6 +156,21 @@ pub fn compare(case: &ReplayCase, salt: u64) -> Result<Result<Replayed, u8>, Str
         return Err("bytes outside the lent buffers were changed".to_string());
     }
     Ok(expected)
+}
+
+/// The engine's state after this order of an accepted job, once it was compared with the model's.
+pub fn state_after(input: &JobInput, order: &[u8]) -> Vec<u8> {
+    let case = ReplayCase {
+        job: input.bytes(),
+        order: order.to_vec(),
+        state_len: STATE_BYTES,
+    };
+    if let Err(what) = compare(&case, 0) {
+        panic!("order {:?}: {}", order, what);
+    }
+    let mut state = vec![0xa5; STATE_BYTES];
+    assert_eq!(engine::replay(&case.job, &case.order, &mut state), 0);
+    state
 }
 
 /// Runs one case.

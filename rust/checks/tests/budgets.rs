@@ -73,6 +73,15 @@ fn figure_2_in_its_settings() {
         [HALT, 0, 39, 39, 33]
     );
     assert_eq!(outcome(&figure_2(4, 2, 8), 38), [SPENT, 0, 38, 38, 0]);
+    // The beat comes on the interval: the counter stands at 10 when the rest can still be divided.
+    assert_eq!(
+        outcome(&figure_2(4, 2, 10), 1_000_000),
+        [HALT, 0, 39, 39, 33]
+    );
+    assert_eq!(
+        outcome(&figure_2(4, 2, 11), 1_000_000),
+        [HALT, 0, 23, 23, 23]
+    );
 }
 
 #[test]

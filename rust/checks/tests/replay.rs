@@ -1,11 +1,9 @@
 //! Engine and model on seeded jobs with orders of picks, and program F's orders.
 
-use checks::assemble::JobInput;
 use checks::hand::{by_zero, f, f_with, outside};
 use checks::numbers::number_at;
-use checks::replay::{compare, run, ReplayCase};
+use checks::replay::{run, state_after};
 use checks::shares::expect_all_met;
-use engine::STATE_BYTES;
 
 const SEED: u64 = 0x7265_706c_6179;
 const JOBS: u64 = 24_000;
@@ -25,21 +23,6 @@ const FAULT: usize = 4;
 const SPAN: usize = 8;
 const R0: usize = 22;
 
-/// The engine's state, after it was compared with the model's.
-fn state(input: &JobInput, order: &[u8]) -> Vec<u8> {
-    let case = ReplayCase {
-        job: input.bytes(),
-        order: order.to_vec(),
-        state_len: STATE_BYTES,
-    };
-    if let Err(what) = compare(&case, 0) {
-        panic!("order {:?}: {}", order, what);
-    }
-    let mut state = vec![0xa5; STATE_BYTES];
-    assert_eq!(engine::replay(&case.job, &case.order, &mut state), 0);
-    state
-}
-
 /// Status, fault number, work and span of slot 0's task.
 fn outcome(state: &[u8]) -> [u64; 4] {
     [STATUS, FAULT, WORK, SPAN].map(|index| number_at(state, index))
@@ -47,8 +30,8 @@ fn outcome(state: &[u8]) -> [u64; 4] {
 
 #[test]
 fn f_in_two_orders() {
-    let parent_first = state(&f(2), &[0, 0, 0, 0, 1, 1, 0, 0, 0]);
-    let child_first = state(&f(2), &[1, 0, 0, 1, 2, 1, 0, 1, 255, 0, 0, 0, 1, 0, 0]);
+    let parent_first = state_after(&f(2), &[0, 0, 0, 0, 1, 1, 0, 0, 0]);
+    let child_first = state_after(&f(2), &[1, 0, 0, 1, 2, 1, 0, 1, 255, 0, 0, 0, 1, 0, 0]);
     assert_eq!(outcome(&parent_first), [HALTED, 0, 9, 7]);
     assert_eq!(number_at(&parent_first, R0 + 1), 12);
     assert!(parent_first == child_first);
@@ -58,7 +41,7 @@ fn f_in_two_orders() {
 fn f_after_every_part_of_an_order() {
     let order = [0, 0, 1, 0, 1, 0, 0, 0, 0];
     for length in 0..=order.len() {
-        let state = state(&f(2), &order[..length]);
+        let state = state_after(&f(2), &order[..length]);
         assert_eq!(number_at(&state, WORK), length as u64);
         let ended = number_at(&state, STATUS) == HALTED;
         assert_eq!(ended, length == order.len());
@@ -67,15 +50,15 @@ fn f_after_every_part_of_an_order() {
 
 #[test]
 fn f_with_one_place_faults() {
-    let state = state(&f(1), &[0, 0, 0]);
+    let state = state_after(&f(1), &[0, 0, 0]);
     assert_eq!(outcome(&state), [FAULTED, 37, 2, 2]);
 }
 
 #[test]
 fn f_with_two_faults_keeps_the_parents_in_either_order() {
     let input = f_with(outside(), by_zero());
-    let parent_first = state(&input, &[0, 0, 0, 1]);
-    let child_first = state(&input, &[0, 0, 1, 0]);
+    let parent_first = state_after(&input, &[0, 0, 0, 1]);
+    let child_first = state_after(&input, &[0, 0, 1, 0]);
     assert_eq!(outcome(&parent_first), [FAULTED, 33, 4, 3]);
     assert!(parent_first == child_first);
 }

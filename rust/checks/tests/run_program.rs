@@ -62,6 +62,7 @@ fn jobs_with_stored_outputs() {
         ("figure_2_a2_interval_0.txt", figure_2(2, 1, 0)),
         ("figure_2_a3_interval_8.txt", figure_2(3, 2, 8)),
         ("figure_2_a4_interval_8.txt", figure_2(4, 2, 8)),
+        ("figure_2_a4_interval_10.txt", figure_2(4, 2, 10)),
         ("spent.txt", endless()),
     ];
     for (name, input) in jobs {

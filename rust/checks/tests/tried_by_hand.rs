@@ -1,4 +1,5 @@
-//! Document 01's 'Tried by hand', for machine, plain evaluation and run program.
+//! Document 01's 'Tried by hand' and document 02's examples, for machine, plain evaluation and run
+//! program.
 
 use checks::assemble::{halt, mov, op, Annotation, Assembly, JobInput, Operand};
 use checks::hand::{by_zero, f, f_with, figure_2, outside};
@@ -146,11 +147,13 @@ fn product_with_interval_8() {
     assert_eq!(product_of(3, 1, 8), (End::Halt, Value::Int(15), 17, 17));
 }
 
+/// Document 02, request 1.
 #[test]
-fn the_counter_must_exceed_the_interval() {
-    // It stands at 10 when 2 are left, and at 14 when 1 is left.
-    assert_eq!(product_of(4, 2, 10), (End::Halt, Value::Int(20), 23, 23));
+fn the_beat_comes_on_the_interval() {
+    // The counter stands at 10 when 2 are left, and at 14 when 1 is left.
     assert_eq!(product_of(4, 2, 9), (End::Halt, Value::Int(20), 39, 33));
+    assert_eq!(product_of(4, 2, 10), (End::Halt, Value::Int(20), 39, 33));
+    assert_eq!(product_of(4, 2, 11), (End::Halt, Value::Int(20), 23, 23));
 }
 
 #[test]

@@ -1,5 +1,5 @@
-//! A second implementation of the block engine, written from document 01 alone, and for the shape
-//! test from docs/machine.md.
+//! A second implementation of the block engine, written from documents 01 and 02 alone, and for the
+//! shape test from docs/machine.md.
 //!
 //! The tests compare the proved engine with it, and the benchmark runs it beside the engine.
 

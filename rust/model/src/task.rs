@@ -278,14 +278,15 @@ impl Task {
         }
     }
 
-    /// Enters a block by jump, taken if-jump or join, or its handler in its place.
+    /// Enters a block by jump, taken if-jump or join, or its handler in its place: document 01's
+    /// rule, with document 02's request 1.
     #[inline]
     fn enter(&mut self, surroundings: Surroundings, target: u8) {
         let blocks = &surroundings.program.blocks;
         let mut block = &blocks[usize::from(target)];
         if block.is_promotion_ready()
             && surroundings.interval != 0
-            && self.counter > u32::from(surroundings.interval)
+            && self.counter >= u32::from(surroundings.interval)
             && self.places >= 2
         {
             self.counter = 0;

@@ -84,7 +84,7 @@ fn all() -> Vec<Example> {
 #[test]
 fn every_example_prints_its_output() {
     let examples = all();
-    assert_eq!(examples.len(), 13);
+    assert_eq!(examples.len(), 15);
     for example in &examples {
         let job = example.job();
         for (name, report) in RUN_PROGRAMS {
@@ -127,9 +127,10 @@ fn the_proved_engine_comes_to_every_output() {
     }
 }
 
-/// Document 01's 'Tried by hand': end, work, span and, of the product, c.
+/// Document 01's 'Tried by hand' and document 02's request 1: end, work, span and, of the product,
+/// c.
 #[test]
-fn document_01() {
+fn documents_01_and_02() {
     let cases = [
         ("f/f", "halt", 9, Some(7)),
         ("f/one-place", "fault 37", 2, Some(2)),
@@ -137,6 +138,8 @@ fn document_01() {
         ("product/product", "halt", 13, Some(13)),
         ("product/a-3-beat-8", "halt", 19, None),
         ("product/a-4-beat-8", "halt", 39, Some(33)),
+        ("product/a-4-beat-10", "halt", 39, Some(33)),
+        ("product/a-4-beat-11", "halt", 23, Some(23)),
     ];
     for (name, end, work, span) in cases {
         let example = Example::named(name);
@@ -144,7 +147,14 @@ fn document_01() {
         assert_eq!(example.number("work"), work, "{}", name);
         assert!(span.map_or(true, |span| span == example.number("span")));
     }
-    for (name, c) in [("product", 10), ("a-3-beat-8", 15), ("a-4-beat-8", 20)] {
+    let products = [
+        ("product", 10),
+        ("a-3-beat-8", 15),
+        ("a-4-beat-8", 20),
+        ("a-4-beat-10", 20),
+        ("a-4-beat-11", 20),
+    ];
+    for (name, c) in products {
         let example = Example::named(&format!("product/{}", name));
         assert_eq!(example.line("r2"), format!("int {}", c));
     }

@@ -1,5 +1,5 @@
 -- `is_promoted` meets its contract.
-use borrow.Author.Tests.{lt-ltb, le-ltb, eq-eqb, ne-eqb}
+use borrow.Author.Tests.{le-leb, lt-leb, eq-eqb, ne-eqb}
 use Rattle.image.proofs.Accepted.{accepted}
 use Rattle.task.specs.Step.{promotes}
 use borrow.Author.Needs.{needs}
@@ -35,11 +35,11 @@ cast-if3 c = search needs
 
 returns-3 : tie.Need-returns-3
 unfolding promotes
-returns-3 c = rw (eq-eqb _ _ (c .before .before .before .if1 .left), ne-eqb _ _ (c .before .before .if2 .left), le-ltb _ _ (c .if3 .taken))
+returns-3 c = rw (eq-eqb _ _ (c .before .before .before .if1 .left), ne-eqb _ _ (c .before .before .if2 .left), lt-leb _ _ (c .if3 .taken))
 
 returns-4 : tie.Need-returns-4
 unfolding promotes
-returns-4 c = rw (eq-eqb _ _ (c .before .before .before .before .if1 .left), ne-eqb _ _ (c .before .before .before .if2 .left), lt-ltb _ _ (c .before .if3 .left))
+returns-4 c = rw (eq-eqb _ _ (c .before .before .before .before .if1 .left), ne-eqb _ _ (c .before .before .before .if2 .left), le-leb _ _ (c .before .if3 .left))
 
 pub is-promoted-spec : {M : Type 1} → statement M
 is-promoted-spec =
