@@ -23,6 +23,7 @@ use Rattle.task.specs.declared.Task.{Task}
 use Rattle.task.specs.declared.Frame.{Frame}
 use Rattle.task.specs.Frames.{zeroFork, faultOf}
 use Rattle.task.specs.Step.{withTask, asked, stored, fits, less, equal, ifJump, jump, meet, carriedOut, promotes, enteredBy, entered, firstFault, joinedBy, join}
+use Rattle.task.proofs.Facts.{both-from}
 use Rattle.task.proofs.Fitting.{is-fits}
 
 module _ (cells : List ℕ) (p c : Frame) where
@@ -78,7 +79,9 @@ module _ (cells : List ℕ) (interval b counter places : ℕ) where
   pub promotes-when-due : Due → promotes cells interval b counter places ≡ true
   unfolding promotes
   promotes-when-due d =
-      rw (eq-eqb _ _ (d .is-ready), ne-eqb _ _ (d .has-beat), le-leb _ _ (d .is-reached), le-leb _ _ (d .two-places))
+      both-from (eq-eqb _ _ (d .is-ready))
+      (both-from (ap not (ne-eqb _ _ (d .has-beat)))
+      (both-from (le-leb interval counter (d .is-reached)) (le-leb 2 places (d .two-places))))
 
   pub due-when-promotes : promotes cells interval b counter places ≡ true → Due
   unfolding promotes

@@ -36,7 +36,8 @@ impl Nested<'_> {
         self.fill(after, Vec::new(), scene, left);
     }
 
-    /// A counted loop, mostly promotion-ready, whose handler forks nothing.
+    /// A counted loop that comes back by jump or by if-jump, mostly promotion-ready, whose handler
+    /// forks nothing.
     pub(super) fn loop_alone(
         &mut self,
         label: u8,
@@ -45,6 +46,7 @@ impl Nested<'_> {
         left: usize,
     ) {
         const COUNT: u8 = 7;
+        const TEST: u8 = 6;
         let again = self.assembly.reserve();
         let after = self.assembly.reserve();
         code.push(mov(COUNT, Int(self.random.between(1, 12) as i64)));
@@ -59,13 +61,18 @@ impl Nested<'_> {
             self.assembly
                 .annotate(again, Annotation::PromotionReady { handler });
         }
-        let body = [
-            op(SUBTRACT, COUNT, COUNT, Int(1)),
-            if_jump(COUNT, Lab(after)),
-            op(ADD, 0, 0, Reg(1)),
-            jump(Lab(again)),
-        ];
-        self.assembly.fill(again, body.to_vec());
+        let mut body = vec![op(SUBTRACT, COUNT, COUNT, Int(1))];
+        if self.random.one_in(2) {
+            body.push(if_jump(COUNT, Lab(after)));
+            body.push(op(ADD, 0, 0, Reg(1)));
+            body.push(jump(Lab(again)));
+        } else {
+            body.push(mov(TEST, Int(0)));
+            body.push(op(LESS, TEST, TEST, Reg(COUNT)));
+            body.push(if_jump(TEST, Lab(again)));
+            body.push(jump(Lab(after)));
+        }
+        self.assembly.fill(again, body);
         self.fill(after, Vec::new(), scene, left);
     }
 
