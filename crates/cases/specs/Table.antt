@@ -1,6 +1,5 @@
--- Document 01's starred cases (* below), two more that its wrong turns need, and those of document 02: one table, and one statement about
--- all of it.
--- `proofs/Starred.antt` proves the statement.
+-- Document 01's starred cases (* below), two more that its wrong turns need, and document 02's: one table, and one statement about all of
+-- it. `proofs/Starred.antt` proves the statement.
 use mathlib.Core.List.{List, [], _∷_, _++_, List·Memᴰ}
 use Prim.Native.Nat.{ℕ, zero, suc, _+_, _-_, _^_}
 use lib.IntN.{ℤ, pos, negℤ}

@@ -89,8 +89,7 @@ asked f false n after = one (faulted n f)
 
 -- ---- Entering a block by jump, taken if-jump or join
 
--- it is promotion-ready, the interval isn't 0, the counter is at least the interval (document 02, request 1) and the task has two places or
--- more
+-- it is promotion-ready, the interval isn't 0, the counter is at least the interval (02, request 1) and the task has two places or more
 unfoldable pub promotes : List ℕ → ℕ → ℕ → ℕ → ℕ → Bool
 promotes cells interval b counter places =
     eqb (blockOf cells b .annotation) 1 && (not (eqb interval 0) && (leb interval counter && leb 2 places))

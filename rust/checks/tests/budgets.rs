@@ -60,28 +60,18 @@ fn faults_on_the_last_pick_and_before_it() {
 
 #[test]
 fn figure_2_in_its_settings() {
-    assert_eq!(
-        outcome(&figure_2(2, 1, 0), 1_000_000),
-        [HALT, 0, 13, 13, 13]
-    );
-    assert_eq!(
-        outcome(&figure_2(3, 2, 8), 1_000_000),
-        [HALT, 0, 19, 19, 19]
-    );
-    assert_eq!(
-        outcome(&figure_2(4, 2, 8), 1_000_000),
-        [HALT, 0, 39, 39, 33]
-    );
-    assert_eq!(outcome(&figure_2(4, 2, 8), 38), [SPENT, 0, 38, 38, 0]);
-    // The beat comes on the interval: the counter stands at 10 when the rest can still be divided.
-    assert_eq!(
-        outcome(&figure_2(4, 2, 10), 1_000_000),
-        [HALT, 0, 39, 39, 33]
-    );
-    assert_eq!(
-        outcome(&figure_2(4, 2, 11), 1_000_000),
-        [HALT, 0, 23, 23, 23]
-    );
+    let settings = [
+        (figure_2(2, 1, 0), 13, 13),
+        (figure_2(3, 2, 8), 19, 19),
+        (figure_2(4, 2, 8), 39, 33),
+        // The beat comes on the interval: the counter stands at 10 when the rest can be divided.
+        (figure_2(4, 2, 10), 39, 33),
+        (figure_2(4, 2, 11), 23, 23),
+    ];
+    for (input, work, span) in settings {
+        assert_eq!(outcome(&input, 1_000_000), [HALT, 0, work, work, span]);
+        assert_eq!(outcome(&input, work - 1), [SPENT, 0, work - 1, work - 1, 0]);
+    }
 }
 
 #[test]
