@@ -12,9 +12,9 @@ use lib.Signed.{ltZ}
 use borrow.Author.Tests.{eqb-true, eqb-false, leb-true, not-true, eq-eqb, ne-eqb, le-leb}
 use native.Mathlib.Omega.{arith}
 use Rattle.int64.specs.Equal.{eqZ}
-use Rattle.agreement.specs.Facts.{both-true}
 use Rattle.agreement.specs.Plain.{Stepped, one}
 use Rattle.image.specs.Layout.{blockOf}
+use Rattle.image.proofs.Booleans.{both-true}
 use Rattle.task.specs.declared.Value.{Value}
 use Rattle.task.specs.declared.Value.the-variants.{Int, Label, Record}
 use Rattle.task.specs.declared.Status.{Status}

@@ -80,6 +80,15 @@ fn entered(way: Way, count: u32, places: u8, interval: u16) -> (u8, u32) {
     after(&entering(way, count, places, interval), count)
 }
 
+/// Where entering `READY` with this counter leads with two places and a beat, and the counter then.
+fn on_interval(counter: u32, beat: u32) -> (u8, u32) {
+    if counter >= beat {
+        (HANDLER, 0)
+    } else {
+        (READY, counter)
+    }
+}
+
 #[test]
 fn jump_and_if_jump_promote_from_the_interval_on() {
     for way in [Way::Jump, Way::IfJump] {
@@ -98,8 +107,8 @@ fn no_promotion_with_one_place_or_without_a_beat() {
         for count in [7, 8, 9, 100] {
             assert_eq!(entered(way, count, 1, 8), (READY, count));
             assert_eq!(entered(way, count, 64, 0), (READY, count));
-            let promoted = entered(way, count, 64, 8) == (HANDLER, 0);
-            assert_eq!(promoted, count >= 8);
+            // The same entry with both.
+            assert_eq!(entered(way, count, 64, 8), on_interval(count, 8));
         }
     }
 }
@@ -112,12 +121,7 @@ fn join_never_promotes_and_the_next_jump_does() {
         for count in [beat - 2, beat - 1, beat, beat + 1] {
             let input = entering(Way::Join, count, 2, interval);
             assert_eq!(after(&input, count), (TARGET, count));
-            let expected = if count + 1 >= beat {
-                (HANDLER, 0)
-            } else {
-                (READY, count + 1)
-            };
-            assert_eq!(after(&input, count + 1), expected);
+            assert_eq!(after(&input, count + 1), on_interval(count + 1, beat));
         }
     }
 }

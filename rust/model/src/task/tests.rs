@@ -362,8 +362,9 @@ fn promotion_when_the_counter_is_at_least_the_interval() {
         }
         assert_eq!(entered(beat, interval, 1), (block, beat));
     }
-    assert_eq!(entered(100_000, 8, 64), (handler, 0));
-    assert_eq!(entered(100, 0, 2), (block, 100));
+    assert_eq!(entered(100_001, 8, 64), (handler, 0));
+    assert_eq!(entered(101, 8, 1), (block, 101));
+    assert_eq!(entered(101, 0, 2), (block, 101));
 }
 
 #[test]
