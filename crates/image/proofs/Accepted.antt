@@ -9,7 +9,7 @@ use lib.Dec.{eqb, ltb, leb}
 use borrow.Author.Tests.{eqb-true, ltb-true, leb-true, lt-leb, eq-eqb}
 use Rattle.image.specs.declared.Block.{Block}
 use Rattle.image.specs.Layout.{blockCount, instructionCount, blockOf, instructionOf}
-use Rattle.image.specs.Questions.{firstNo, countsNo, starts, rising, unjoined, joined, annotated, blockNo, hasR, hasS, hasV, has, register, operandFits, laidOut, startsAt, lastInBlock, same, instructionNo, recordsNo, programNo}
+use Rattle.image.specs.Questions.{firstNo, countsNo, inOrder, rising, unjoined, joined, annotated, blockNo, hasR, hasS, hasV, has, register, operandFits, laidOut, startsAt, lastInBlock, same, instructionNo, recordsNo, programNo}
 use Rattle.image.proofs.Booleans.{clash, both-true}
 use Rattle.image.proofs.Asked.{ask-yes, or-else-both, first-no-all}
 use Rattle.image.proofs.Counts.{counted}
@@ -108,10 +108,10 @@ annotated-is blocks k some h = bare (eqb (k .annotation) 0) refl
         ready (eqb (k .annotation) 1) refl (ltb-true (k .label) blocks (p .0)) (p .1)
 
 pub block-is : (cells : List ℕ) (b : ℕ) → 1 ≤ blockCount cells → blockNo cells b ≡ 0 → BlockAccepted cells b
-unfolding blockNo starts
+unfolding blockNo
 block-is cells b some e =
     let p = ask-yes (leb (2 + 6 * b + 6) (length cells)) 5 _ e in
-    let q = ask-yes (starts cells b) 5 _ (p .1) in
+    let q = ask-yes (inOrder (instructionCount cells) b (blockOf cells (b - 1) .first) (blockOf cells b .first)) 5 _ (p .1) in
     let r = ask-yes (annotated (blockCount cells) (blockOf cells b)) 6 _ (q .1) in
     let s = both-true (ltb (blockOf cells b .first) (instructionCount cells)) _ (q .0) in
     let a = annotated-is (blockCount cells) (blockOf cells b) some (r .0) in
@@ -126,10 +126,10 @@ block-is cells b some e =
     }
 
 first-is : (cells : List ℕ) → blockNo cells 0 ≡ 0 → blockOf cells 0 .first ≡ 0
-unfolding blockNo starts
+unfolding blockNo
 first-is cells e =
     let p = ask-yes (leb (2 + 6 * 0 + 6) (length cells)) 5 _ e in
-    let q = ask-yes (starts cells 0) 5 _ (p .1) in
+    let q = ask-yes (inOrder (instructionCount cells) 0 (blockOf cells 0 .first) (blockOf cells 0 .first)) 5 _ (p .1) in
     let s = both-true (ltb (blockOf cells 0 .first) (instructionCount cells)) (eqb (blockOf cells 0 .first) 0) (q .0) in
     eqb-true (blockOf cells 0 .first) 0 (s .1)
 

@@ -10,7 +10,7 @@ use borrow.Author.Tests.{le-leb, eqb-true, eqb-false}
 use Rattle.image.specs.declared.Block.{Block}
 use Rattle.image.specs.declared.Instruction.{Instruction}
 use Rattle.image.specs.Layout.{programCells, blockCount, instructionCount, blockOf, instructionOf}
-use Rattle.image.specs.Questions.{ask, orElse, firstNo, starts, annotated, blockNo, laidOut, same, startsAt, lastInBlock, instructionNo, recordsNo}
+use Rattle.image.specs.Questions.{ask, orElse, firstNo, inOrder, annotated, blockNo, laidOut, same, startsAt, lastInBlock, instructionNo, recordsNo}
 use Rattle.image.proofs.Asked.{ask-yes, or-else-both, or-else-yes, first-no-all, first-no-none}
 
 pub record Alike (p q : List ℕ) : Type 0 where
@@ -31,8 +31,10 @@ module _ (p q : List ℕ) (alike : Alike p q) where
   first-same : (b : ℕ) → b < blockCount p → blockOf p b .first ≡ blockOf q b .first
   first-same b h = ap (λ (k : Block). k .first) (alike .block b h)
 
-  starts-same : (b : ℕ) → b < blockCount p → starts p b ≡ starts q b
-  unfolding starts
+  abbrev ordered : List ℕ → ℕ → Bool
+  ordered cells b = inOrder (instructionCount cells) b (blockOf cells (b - 1) .first) (blockOf cells b .first)
+
+  starts-same : (b : ℕ) → b < blockCount p → ordered p b ≡ ordered q b
   starts-same b h =
       ap₂ _&&_ (ap₂ ltb (first-same b h) (alike .instructions))
       (ap₂ (cond (eqb b 0)) (ap (λ (n : ℕ). eqb n 0) (first-same b h)) (ap₂ ltb (first-same (b - 1) (omega arith)) (first-same b h)))
@@ -53,9 +55,9 @@ module _ (p q : List ℕ) (alike : Alike p q) where
     unfolding blockNo
     block-yes b h few e =
         let u = ask-yes (leb (2 + 6 * b + 6) (length p)) 5 _ e in
-        let v = ask-yes (starts p b) 5 _ (u .1) in
+        let v = ask-yes (ordered p b) 5 _ (u .1) in
         let w = ask-yes (annotated (blockCount p) (blockOf p b)) 6 0 (v .1) in
-        let s : starts q b ≡ true = sym (starts-same b h) ∙ v .0 in
+        let s : ordered q b ≡ true = sym (starts-same b h) ∙ v .0 in
         let a : annotated (blockCount q) (blockOf q b) ≡ true = sym (ap₂ annotated (alike .blocks) (alike .block b h)) ∙ w .0 in
         rw (le-leb (2 + 6 * b + 6) (length q) (omega arith), s, a)
 

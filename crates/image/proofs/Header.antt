@@ -1,20 +1,24 @@
 -- What an accepted header tells of an image.
-use mathlib.Core.Path.{_≡_, refl, sym, ap, _∙_}
+use mathlib.Core.Path.{_≡_, refl, sym, ap, ap₂, _∙_}
 use mathlib.Core.Bool.{Bool, true, false, _&&_}
 use mathlib.Core.List.{List, [], _∷_}
-use Prim.Native.Nat.{ℕ, _+_, _*_, _<_, _≤_}
+use Prim.Native.Nat.{ℕ, zero, suc, _+_, _-_, _*_, _<_, _≤_}
 use native.Mathlib.Omega.{arith}
 use lib.ListN.{length, getD, set, replicate, length-replicate}
 use lib.Seq.{sets}
 use lib.Dec.{eqb, leb}
 use borrow.Author.Tests.{leb-true, eqb-true, le-leb, eq-eqb}
 use Rattle.int64.specs.Little.{little}
-use Rattle.image.specs.Layout.{rows, blocksIn, instructionsIn, imageLength, programCells, blockCount, instructionCount, blockIn, instructionIn, blockCells, instructionCells, buffer, cellsIn}
-use Rattle.image.specs.Questions.{ask, orElse, countsNo}
+use Rattle.image.specs.declared.Block.{Block}
+use Rattle.image.specs.declared.Instruction.{Instruction}
+use Rattle.image.specs.Layout.{rows, blockPlace, instructionPlace, blocksIn, instructionsIn, imageLength, programCells, blockCount, instructionCount, blockOf, instructionOf, blockIn, instructionIn, blockCells, instructionCells, buffer, blockCellsIn, instructionCellsIn, recordsLaid, cellsIn}
+use Rattle.image.specs.Questions.{ask, orElse, countsNo, blockRecordNo, blockNo, lastInBlock, instructionRecordNo, instructionNo}
 use Rattle.image.specs.Doors.{markIn, headerNo}
 use Rattle.image.proofs.Asked.{ask-yes, or-else-both, or-else-yes}
 use Rattle.image.proofs.Booleans.{both-true}
-use Rattle.image.proofs.Buffer.{buffer-length, buffer-blocks, buffer-instructions}
+use Rattle.image.proofs.Buffer.{buffer-length, buffer-blocks, buffer-instructions, buffer-block, buffer-instruction}
+use Rattle.image.proofs.Counts.{Counted, counted}
+use Rattle.image.proofs.Rows.{placed}
 
 pub record Header (bytes : List ℕ) : Type 0 where
   pub long : 8 ≤ length bytes
@@ -55,12 +59,12 @@ headed bytes h =
 
 module _ (bytes : List ℕ) where
   -- the cells that the reader lays into a cleared buffer
-  pub decoded : (l l₁ l₂ : List ℕ) (b i : ℕ) → l ≡ replicate programCells 0 → b ≡ blocksIn bytes → i ≡ instructionsIn bytes
-      → l₁ ≡ sets (set (set l 0 b) 1 i) 2 (rows (λ b. blockCells (blockIn bytes (8 + 10 * b))) (blocksIn bytes))
-      → l₂ ≡ sets l₁ 770 (rows (λ i. instructionCells (instructionIn bytes (8 + 10 * blocksIn bytes + 12 * i))) (instructionsIn bytes))
-      → l₂ ≡ cellsIn bytes
+  pub decoded : (l l₁ : List ℕ) → l ≡ replicate programCells 0 → l₁ ≡ sets l 0 (blocksIn bytes ∷ instructionsIn bytes ∷ [])
+      → recordsLaid bytes l₁ ≡ cellsIn bytes
   unfolding cellsIn buffer
-  decoded l l₁ l₂ b i e p q u v = v ∙ rw (u, e, p, q)
+  decoded l l₁ e p =
+      ap (λ (m : List ℕ). sets m 770 (instructionCellsIn bytes (instructionsIn bytes)))
+      (placed (replicate programCells 0) l₁ _ 0 2 (blocksIn bytes ∷ instructionsIn bytes ∷ []) (blockCellsIn bytes (blocksIn bytes)) (p ∙ ap (λ (m : List ℕ). sets m 0 (blocksIn bytes ∷ instructionsIn bytes ∷ [])) e) refl refl)
 
   pub cells-in-blocks : blockCount (cellsIn bytes) ≡ blocksIn bytes
   unfolding cellsIn
@@ -76,3 +80,49 @@ module _ (bytes : List ℕ) where
   pub cells-in-length : length (cellsIn bytes) ≡ programCells
   unfolding cellsIn
   cells-in-length = buffer-length (blocksIn bytes) (instructionsIn bytes) _ _
+
+-- ---- the records of an image with an accepted header
+
+module _ (bytes : List ℕ) (h : Header bytes) where
+  abbrev B : ℕ
+  B = blocksIn bytes
+
+  abbrev I : ℕ
+  I = instructionsIn bytes
+
+  abbrev count : Counted B I
+  count = counted B I (h .counts)
+
+  pub block-read : (b : ℕ) → b < B → blockOf (cellsIn bytes) b ≡ blockIn bytes (blockPlace b)
+  unfolding cellsIn
+  block-read b q = buffer-block B I _ _ (count .blocks-fit) (count .instructions-fit) b q
+
+  pub instruction-read : (i : ℕ) → i < I → instructionOf (cellsIn bytes) i ≡ instructionIn bytes (instructionPlace B i)
+  unfolding cellsIn
+  instruction-read i q = buffer-instruction B I _ _ (count .blocks-fit) (count .instructions-fit) i q
+
+  -- block 0 has no predecessor, so whatever stands for its start decides nothing
+  before-read : (b before : ℕ) → b < B → (0 < b → before ≡ blockIn bytes (blockPlace (b - 1)) .first) → (k : Block)
+      → blockRecordNo B I b before k ≡ blockRecordNo B I b (blockOf (cellsIn bytes) (b - 1) .first) k
+  before-read zero before q e k = refl
+  before-read (suc b) before q e k =
+      ap (λ (n : ℕ). blockRecordNo B I (suc b) n k) (e (omega arith) ∙ ap (λ (k : Block). k .first) (sym (block-read (suc b - 1) (omega arith))))
+
+  -- the questions put to a record in the image are those put to it in the program buffer
+  pub block-asked : (b before : ℕ) → b < B → (0 < b → before ≡ blockIn bytes (blockPlace (b - 1)) .first)
+      → blockRecordNo B I b before (blockIn bytes (blockPlace b)) ≡ blockNo (cellsIn bytes) b
+  unfolding blockNo
+  block-asked b before q e =
+      before-read b before q e (blockIn bytes (blockPlace b))
+      ∙ ap (blockRecordNo B I b (blockOf (cellsIn bytes) (b - 1) .first)) (sym (block-read b q))
+      ∙ ap₂ (λ (m n : ℕ). blockRecordNo m n b (blockOf (cellsIn bytes) (b - 1) .first) (blockOf (cellsIn bytes) b)) (sym (cells-in-blocks bytes)) (sym (cells-in-instructions bytes))
+      ∙ ap (λ (t : Bool). ask t 6 (blockRecordNo (blockCount (cellsIn bytes)) (instructionCount (cellsIn bytes)) b (blockOf (cellsIn bytes) (b - 1) .first) (blockOf (cellsIn bytes) b)))
+      (sym (le-leb (2 + 6 * b + 6) (length (cellsIn bytes)) (omega (arith, cells-in-length bytes, count .blocks-fit))))
+
+  pub instruction-asked : (i : ℕ) → i < I
+      → instructionRecordNo B (lastInBlock (cellsIn bytes) i) (instructionIn bytes (instructionPlace B i)) ≡ instructionNo (cellsIn bytes) i
+  unfolding instructionNo
+  instruction-asked i q =
+      ap₂ (λ (n : ℕ) (x : Instruction). instructionRecordNo n (lastInBlock (cellsIn bytes) i) x) (sym (cells-in-blocks bytes)) (sym (instruction-read i q))
+      ∙ ap (λ (t : Bool). ask t 8 (instructionRecordNo (blockCount (cellsIn bytes)) (lastInBlock (cellsIn bytes) i) (instructionOf (cellsIn bytes) i)))
+      (sym (le-leb (770 + 5 * i + 5) (length (cellsIn bytes)) (omega (arith, cells-in-length bytes, count .instructions-fit))))

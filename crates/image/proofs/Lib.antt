@@ -4,6 +4,7 @@ pub mod Counts
 pub mod Pairs
 pub mod Marking
 pub mod Rows
+pub mod Walking
 pub mod Buffer
 pub mod Header
 pub mod Copying
@@ -11,8 +12,11 @@ pub mod Accepted
 pub mod Written
 pub mod Limiting
 pub mod SmallBytes
+pub mod FourBytes
 pub mod Chunks
 pub mod WrittenBack
 pub mod ReadBack
 pub mod Alike
+pub mod Offset
+pub mod Walks
 pub mod RoundTrip

@@ -1,5 +1,5 @@
 -- Question 8 by limits: a field is as laid out when it does not pass its limit.
-use mathlib.Core.Path.{_≡_, refl, sym, ap, _∙_}
+use mathlib.Core.Path.{_≡_, refl, sym, ap, ap₂, _∙_, subst}
 use mathlib.Core.Bool.{Bool, true, false}
 use mathlib.Core.List.{List, [], _∷_}
 use Prim.Native.Nat.{ℕ, zero, suc, _+_, _-_, _*_, _/_, _%_, _<_, _≤_}
@@ -9,10 +9,12 @@ use lib.Seq.{sets}
 use lib.Dec.{eqb, ltb, leb}
 use borrow.Author.Tests.{le-leb, lt-leb, ne-eqb, ltb-true, ltb-false}
 use Rattle.image.specs.declared.Instruction.{Instruction}
-use Rattle.image.specs.Layout.{rows, blockCount}
-use Rattle.image.specs.Questions.{fields, hasR, hasS, hasV, has, register, operandFits, laidOut, instructionNo}
-use Rattle.image.specs.Limits.{limitRow, limitsAt, limitRows, largestOf, Limited}
+use Rattle.image.specs.Layout.{rows, blockCount, instructionCount, instructionOf}
+use Rattle.image.specs.Questions.{fields, hasR, hasS, hasV, has, register, operandFits, laidOut, lastInBlock, instructionRecordNo, instructionNo}
+use Rattle.image.specs.Marks.{Ended}
+use Rattle.image.specs.Limits.{limitRow, limitsAt, limitRows, largestOf, Limited, blocksBy}
 use Rattle.image.proofs.Rows.{placed, length-rows, getD-rows, row-placed}
+use Rattle.image.proofs.Marking.{mark-told}
 use Rattle.image.proofs.Written.{sets-whole}
 
 -- ---- one field
@@ -90,6 +92,10 @@ pub limits-filled : (l l′ : List ℕ) → length l ≡ 60 → l′ ≡ sets l 
 unfolding limitRows
 limits-filled l l′ e p = p ∙ sets-whole l (rows limitsAt 15) (limits-length ∙ sym e)
 
+-- the largest label tells the number of blocks
+pub blocks-told : (blocks : ℕ) (limits largest : List ℕ) → Limited blocks limits largest → blocksBy largest ≡ blocks
+blocks-told blocks limits largest L = ap (λ (l : List ℕ). blocksBy l) (L .largest-are) ∙ omega (arith, L .some-block)
+
 -- ---- an instruction
 
 -- one that a short buffer lacks
@@ -105,7 +111,7 @@ pub past-opcodes : (blocks : ℕ) (x : Instruction) → 15 < x .opcode → laidO
 unfolding laidOut
 past-opcodes blocks x h = rw (le-leb 1 (x .opcode) (omega arith), lt-leb (x .opcode) 15 h)
 
-module _ (cells limits largest : List ℕ) (L : Limited cells limits largest) (x : Instruction) (least : 1 ≤ x .opcode) (most : x .opcode ≤ 15) where
+module _ (B : ℕ) (limits largest : List ℕ) (L : Limited B limits largest) (x : Instruction) (least : 1 ≤ x .opcode) (most : x .opcode ≤ 15) where
   abbrev row : ℕ
   row = 4 * (x .opcode - 1)
 
@@ -132,9 +138,6 @@ module _ (cells limits largest : List ℕ) (L : Limited cells limits largest) (x
 
   pub four-largest : length largest ≡ 4
   four-largest = ap (λ (l : List ℕ). length l) (L .largest-are)
-
-  abbrev B : ℕ
-  B = blockCount cells
 
   pub beyond-r : getD limits row 0 < x .r → laidOut B x ≡ false
   unfolding laidOut
@@ -171,3 +174,21 @@ module _ (cells limits largest : List ℕ) (L : Limited cells limits largest) (x
 
   pub kind-known : x .kind ≤ getD limits (row + 3) 0 → x .kind < 4
   kind-known h = omega (arith, most-kind)
+
+-- ---- an instruction asked with lent limits and marks
+
+pub limited-by : (blocks : ℕ) (limits largest : List ℕ) → Limited blocks limits largest → Limited (blocksBy largest) limits largest
+limited-by blocks limits largest L = subst (λ (n : ℕ). Limited n limits largest) (sym (blocks-told blocks limits largest L)) L
+
+pub asked-by : (cells marks : List ℕ) (blocks : ℕ) (limits largest : List ℕ) → Limited blocks limits largest → Ended cells marks
+    → (i : ℕ) → i < instructionCount cells → (x : Instruction)
+    → instructionRecordNo (blocksBy largest) (eqb (getD marks (i + 1) 0) 1) x ≡ instructionRecordNo blocks (lastInBlock cells i) x
+asked-by cells marks blocks limits largest L E i h x =
+    ap₂ (λ (n : ℕ) (t : Bool). instructionRecordNo n t x) (blocks-told blocks limits largest L)
+    (mark-told (lastInBlock cells i) (getD marks (i + 1) 0) (E .ended i h) .0)
+
+-- one that the buffer has
+pub asked-held : (cells : List ℕ) (i : ℕ) → 770 + 5 * i + 5 ≤ length cells
+    → instructionRecordNo (blockCount cells) (lastInBlock cells i) (instructionOf cells i) ≡ instructionNo cells i
+unfolding instructionNo
+asked-held cells i h = rw (le-leb (770 + 5 * i + 5) (length cells) h)

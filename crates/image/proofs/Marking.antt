@@ -10,16 +10,16 @@ use lib.Seq.{getD-set-same, getD-set-other}
 use lib.Dec.{eqb, ltb, leb}
 use borrow.Author.Tests.{eq-eqb, ne-eqb, eqb-true, eqb-false, ltb-true, leb-true}
 use Rattle.image.specs.Layout.{blockCount, instructionCount, blockOf}
-use Rattle.image.specs.Questions.{ask, starts, startsAt, lastInBlock, same, annotated, blockNo}
-use Rattle.image.specs.Marks.{flag, Marked}
+use Rattle.image.specs.Questions.{ask, startsAt, lastInBlock, same, annotated, blockNo}
+use Rattle.image.specs.Marks.{flag, Marked, Ended}
 use Rattle.image.proofs.Asked.{ask-yes}
 use Rattle.image.proofs.Booleans.{both-true}
 
 -- ---- the marks
 
-pub marked-none : (cells : List ℕ) → Marked cells 0 (replicate 1024 0)
+pub marked-none : (cells : List ℕ) → Marked cells 0 (replicate 1025 0)
 unfolding startsAt
-marked-none cells = record { sized = length-replicate {A = ℕ} 1024 0; marked = λ i h. getD-replicate {A = ℕ} 1024 i 0 0 h }
+marked-none cells = record { sized = length-replicate {A = ℕ} 1025 0; marked = λ i h. getD-replicate {A = ℕ} 1025 i 0 0 h }
 
 starts-here : (cells : List ℕ) (n i : ℕ) → blockOf cells n .first ≡ i → startsAt cells (suc n) i ≡ true
 unfolding startsAt
@@ -29,8 +29,8 @@ starts-elsewhere : (cells : List ℕ) (n i : ℕ) → (blockOf cells n .first �
 unfolding startsAt
 starts-elsewhere cells n i e = rw (ne-eqb (blockOf cells n .first) i e)
 
-module _ (cells : List ℕ) (n : ℕ) (marks : List ℕ) (m : Marked cells n marks) (below : blockOf cells n .first < 1024) where
-  mark-at : (i : ℕ) → i < 1024 → (t : Bool) → eqb (blockOf cells n .first) i ≡ t
+module _ (cells : List ℕ) (n : ℕ) (marks : List ℕ) (m : Marked cells n marks) (below : blockOf cells n .first < 1025) where
+  mark-at : (i : ℕ) → i < 1025 → (t : Bool) → eqb (blockOf cells n .first) i ≡ t
       → getD (set marks (blockOf cells n .first) 1) i 0 ≡ flag (startsAt cells (suc n) i)
   mark-at i h true e =
       let k : blockOf cells n .first ≡ i = eqb-true _ i e in
@@ -45,14 +45,31 @@ module _ (cells : List ℕ) (n : ℕ) (marks : List ℕ) (m : Marked cells n mar
 
 -- ---- the last instruction of a block
 
-pub last-of-all : (cells : List ℕ) (i : ℕ) → i + 1 ≡ instructionCount cells → lastInBlock cells i ≡ true
-unfolding lastInBlock
-last-of-all cells i e = rw (eq-eqb (i + 1) (instructionCount cells) e)
+module _ (cells marks : List ℕ) (m : Marked cells (blockCount cells) marks) (few : instructionCount cells ≤ 1024) where
+  abbrev I : ℕ
+  I = instructionCount cells
 
-pub marked-last : (cells marks : List ℕ) (i : ℕ) → (i + 1 ≡ instructionCount cells → ⊥) → i + 1 < 1024
-    → Marked cells (blockCount cells) marks → getD marks (i + 1) 0 ≡ flag (lastInBlock cells i)
-unfolding lastInBlock
-marked-last cells marks i e h m = rw (ne-eqb (i + 1) (instructionCount cells) e) (m .marked (i + 1) h)
+  -- the program's end, marked behind the starts of its blocks
+  mark-of : (i : ℕ) → i < I → (t : Bool) → eqb (i + 1) I ≡ t → getD (set marks I 1) (i + 1) 0 ≡ flag (lastInBlock cells i)
+  unfolding lastInBlock
+  mark-of i h true e =
+      let k : i + 1 ≡ I = eqb-true (i + 1) I e in
+      ap (λ (j : ℕ). getD (set marks I 1) j 0) k ∙ getD-set-same marks I 1 0 (omega (arith, m .sized))
+      ∙ ap (λ (t : Bool). flag (t || startsAt cells (blockCount cells) (i + 1))) (sym e)
+  mark-of i h false e =
+      let k : i + 1 ≡ I → ⊥ = eqb-false (i + 1) I e in
+      getD-set-other marks I (i + 1) 1 0 k ∙ m .marked (i + 1) (omega arith)
+      ∙ ap (λ (t : Bool). flag (t || startsAt cells (blockCount cells) (i + 1))) (sym e)
+
+  pub ended : Ended cells (set marks I 1)
+  ended = record { sized = length-set marks I 1 ∙ m .sized; ended = λ i h. mark-of i h (eqb (i + 1) I) refl }
+
+-- a mark is told by whether it is 1
+pub mark-told : (t : Bool) (m : ℕ) → m ≡ flag t → (eqb m 1 ≡ t) × (m ≡ flag (eqb m 1))
+mark-told true m e = (eq-eqb m 1 e, e ∙ ap flag (sym (eq-eqb m 1 e)))
+mark-told false m e =
+    let n : eqb m 1 ≡ false = ne-eqb m 1 (λ z. (omega (arith, e))) in
+    (n, e ∙ ap flag (sym n))
 
 -- question 9 by marks
 pub marks-differ : (a b : Bool) (m n : ℕ) → m ≡ flag a → n ≡ flag b → (m ≡ n → ⊥) → same a b ≡ false

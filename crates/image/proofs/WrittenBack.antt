@@ -7,10 +7,8 @@ use lib.ListN.{length, getD, take}
 use lib.Seq.{take-all}
 use Rattle.int64.specs.Little.{little, bytesOf}
 use Rattle.image.specs.Layout.{mark, rows, blocksIn, instructionsIn, imageLength, blockCount, instructionCount, blockOf, instructionOf, blockIn, instructionIn, blockBytes, instructionBytes, headerOf, cellsIn, imageOf}
-use Rattle.image.proofs.Counts.{Counted, counted}
 use Rattle.image.proofs.Rows.{rows-same}
-use Rattle.image.proofs.Buffer.{buffer-block, buffer-instruction}
-use Rattle.image.proofs.Header.{Header, cells-in-blocks, cells-in-instructions}
+use Rattle.image.proofs.Header.{Header, cells-in-blocks, cells-in-instructions, block-read, instruction-read}
 use Rattle.image.proofs.Chunks.{chunk, chunk-append, rows-chunk, number-chunk, byte-chunk, block-chunk, instruction-chunk}
 
 module _ (bytes : List ℕ) (small : (i : ℕ) → getD bytes i 0 < 256) (h : Header bytes) where
@@ -19,17 +17,6 @@ module _ (bytes : List ℕ) (small : (i : ℕ) → getD bytes i 0 < 256) (h : He
 
   abbrev I : ℕ
   I = instructionsIn bytes
-
-  count : Counted B I
-  count = counted B I (h .counts)
-
-  block-read : (b : ℕ) → b < B → blockOf (cellsIn bytes) b ≡ blockIn bytes (8 + 10 * b)
-  unfolding cellsIn
-  block-read b q = buffer-block B I _ _ (count .blocks-fit) (count .instructions-fit) b q
-
-  instruction-read : (i : ℕ) → i < I → instructionOf (cellsIn bytes) i ≡ instructionIn bytes (8 + 10 * B + 12 * i)
-  unfolding cellsIn
-  instruction-read i q = buffer-instruction B I _ _ (count .blocks-fit) (count .instructions-fit) i q
 
   mark-chunk : mark ≡ chunk bytes 0 3
   unfolding bytesOf
@@ -55,14 +42,14 @@ module _ (bytes : List ℕ) (small : (i : ℕ) → getD bytes i 0 < 256) (h : He
   blocks-chunk =
       ap (rows (λ b. blockBytes (blockOf (cellsIn bytes) b))) (cells-in-blocks bytes)
       ∙ rows-same (λ b. blockBytes (blockOf (cellsIn bytes) b)) (λ b. chunk bytes (8 + 10 * b) 10) B
-      (λ b q. ap blockBytes (block-read b q) ∙ block-chunk bytes small (8 + 10 * b) (omega (arith, h .size)))
+      (λ b q. ap blockBytes (block-read bytes h b q) ∙ block-chunk bytes small (8 + 10 * b) (omega (arith, h .size)))
       ∙ rows-chunk bytes 8 10 B
 
   instructions-chunk : rows (λ i. instructionBytes (instructionOf (cellsIn bytes) i)) (instructionCount (cellsIn bytes)) ≡ chunk bytes (8 + 10 * B) (12 * I)
   instructions-chunk =
       ap (rows (λ i. instructionBytes (instructionOf (cellsIn bytes) i))) (cells-in-instructions bytes)
       ∙ rows-same (λ i. instructionBytes (instructionOf (cellsIn bytes) i)) (λ i. chunk bytes (8 + 10 * B + 12 * i) 12) I
-      (λ i q. ap instructionBytes (instruction-read i q) ∙ instruction-chunk bytes small (8 + 10 * B + 12 * i) (omega (arith, h .size)))
+      (λ i q. ap instructionBytes (instruction-read bytes h i q) ∙ instruction-chunk bytes small (8 + 10 * B + 12 * i) (omega (arith, h .size)))
       ∙ rows-chunk bytes (8 + 10 * B) 12 I
 
   pub written-back : imageOf (cellsIn bytes) ≡ bytes

@@ -23,9 +23,16 @@ blocksIn bytes = getD bytes 5 0
 abbrev pub instructionsIn : List ℕ → ℕ
 instructionsIn bytes = little 2 bytes 6
 
--- 8 bytes, then B block records of 10 bytes and I instruction records of 12
+-- where the records stand: 8 bytes, then B block records of 10 bytes and I instruction records of 12
+abbrev pub blockPlace : ℕ → ℕ
+blockPlace b = 8 + 10 * b
+
+abbrev pub instructionPlace : ℕ → ℕ → ℕ
+instructionPlace blocks i = blockPlace blocks + 12 * i
+
+-- the image ends where the next instruction's record would stand
 abbrev pub imageLength : ℕ → ℕ → ℕ
-imageLength blocks instructions = 8 + 10 * blocks + 12 * instructions
+imageLength blocks instructions = instructionPlace blocks instructions
 
 -- the block record at an offset: first instruction (16 bits), annotation, policy, label, number of pairs, four pair bytes
 abbrev pub blockIn : List ℕ → ℕ → Block
@@ -70,29 +77,37 @@ blockCount cells = getD cells 0 0
 abbrev pub instructionCount : List ℕ → ℕ
 instructionCount cells = getD cells 1 0
 
--- block b has the six cells from 2 + 6·b on
-abbrev pub blockOf : List ℕ → ℕ → Block
-blockOf cells b = record {
-  first = getD cells (2 + 6 * b) 0;
-  annotation = getD cells (2 + 6 * b + 1) 0;
-  policy = getD cells (2 + 6 * b + 2) 0;
-  label = getD cells (2 + 6 * b + 3) 0;
-  pairs = getD cells (2 + 6 * b + 4) 0;
-  packed = getD cells (2 + 6 * b + 5) 0;
+-- the six cells of a block
+abbrev pub blockFrom : List ℕ → ℕ → Block
+blockFrom cells at = record {
+  first = getD cells at 0;
+  annotation = getD cells (at + 1) 0;
+  policy = getD cells (at + 2) 0;
+  label = getD cells (at + 3) 0;
+  pairs = getD cells (at + 4) 0;
+  packed = getD cells (at + 5) 0;
 }
+
+-- those of block b begin at 2 + 6·b
+abbrev pub blockOf : List ℕ → ℕ → Block
+blockOf cells b = blockFrom cells (2 + 6 * b)
 
 abbrev pub blockCells : Block → List ℕ
 blockCells k = k .first ∷ k .annotation ∷ k .policy ∷ k .label ∷ k .pairs ∷ k .packed ∷ []
 
--- instruction i has the five cells from 770 + 5·i on
-abbrev pub instructionOf : List ℕ → ℕ → Instruction
-instructionOf cells i = record {
-  opcode = getD cells (770 + 5 * i) 0;
-  r = getD cells (770 + 5 * i + 1) 0;
-  s = getD cells (770 + 5 * i + 2) 0;
-  kind = getD cells (770 + 5 * i + 3) 0;
-  operand = getD cells (770 + 5 * i + 4) 0;
+-- the five cells of an instruction
+abbrev pub instructionFrom : List ℕ → ℕ → Instruction
+instructionFrom cells at = record {
+  opcode = getD cells at 0;
+  r = getD cells (at + 1) 0;
+  s = getD cells (at + 2) 0;
+  kind = getD cells (at + 3) 0;
+  operand = getD cells (at + 4) 0;
 }
+
+-- those of instruction i begin at 770 + 5·i
+abbrev pub instructionOf : List ℕ → ℕ → Instruction
+instructionOf cells i = instructionFrom cells (770 + 5 * i)
 
 abbrev pub instructionCells : Instruction → List ℕ
 instructionCells x = x .opcode ∷ x .r ∷ x .s ∷ x .kind ∷ x .operand ∷ []
@@ -107,12 +122,23 @@ buffer blocks instructions block instruction =
 
 -- ---- From one to the other
 
+-- the cells of an image's first n blocks, and of its first n instructions
+abbrev pub blockCellsIn : List ℕ → ℕ → List ℕ
+blockCellsIn bytes n = rows (λ b. blockCells (blockIn bytes (blockPlace b))) n
+
+abbrev pub instructionCellsIn : List ℕ → ℕ → List ℕ
+instructionCellsIn bytes n = rows (λ i. instructionCells (instructionIn bytes (instructionPlace (blocksIn bytes) i))) n
+
+-- a buffer with all of them laid into it
+abbrev pub recordsLaid : List ℕ → List ℕ → List ℕ
+recordsLaid bytes cells = sets (sets cells 2 (blockCellsIn bytes (blocksIn bytes))) 770 (instructionCellsIn bytes (instructionsIn bytes))
+
 -- the buffer that an image is read into
 unfoldable pub cellsIn : List ℕ → List ℕ
 cellsIn bytes =
     buffer (blocksIn bytes) (instructionsIn bytes)
-    (λ b. blockIn bytes (8 + 10 * b))
-    (λ i. instructionIn bytes (8 + 10 * blocksIn bytes + 12 * i))
+    (λ b. blockIn bytes (blockPlace b))
+    (λ i. instructionIn bytes (instructionPlace (blocksIn bytes) i))
 
 -- the image that a program buffer is written to
 abbrev pub headerOf : List ℕ → List ℕ

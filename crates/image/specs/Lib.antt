@@ -3,4 +3,5 @@ pub mod Questions
 pub mod Marks
 pub mod Limits
 pub mod Doors
+pub mod Offset
 pub mod RoundTrip

@@ -1,9 +1,9 @@
 -- What the fields of an instruction record are compared with, worked out once for all instructions.
 use mathlib.Core.Path.{_≡_}
 use mathlib.Core.List.{List, [], _∷_}
-use Prim.Native.Nat.{ℕ, _-_, _*_, _/_, _%_, _≤_}
+use Prim.Native.Nat.{ℕ, _+_, _-_, _*_, _/_, _%_, _≤_}
 use lib.ListN.{getD}
-use Rattle.image.specs.Layout.{rows, blockCount}
+use Rattle.image.specs.Layout.{rows}
 use Rattle.image.specs.Questions.{fields, hasR, hasS, hasV}
 
 -- of an opcode with these flags: the largest r, the largest s, the least kind and the largest kind
@@ -21,8 +21,12 @@ limitRows = rows limitsAt 15
 abbrev pub largestOf : ℕ → List ℕ
 largestOf blocks = 0 ∷ 15 ∷ (blocks - 1) ∷ 18446744073709551615 ∷ []
 
--- both, for a program that has a block
-pub record Limited (cells limits largest : List ℕ) : Type 0 where
-  pub some-block : 1 ≤ blockCount cells
+-- both, for a program of one block or more
+pub record Limited (blocks : ℕ) (limits largest : List ℕ) : Type 0 where
+  pub some-block : 1 ≤ blocks
   pub limits-are : limits ≡ limitRows
-  pub largest-are : largest ≡ largestOf (blockCount cells)
+  pub largest-are : largest ≡ largestOf blocks
+
+-- how many blocks that is, told by the largest label
+abbrev pub blocksBy : List ℕ → ℕ
+blocksBy largest = getD largest 2 0 + 1

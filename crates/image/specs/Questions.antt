@@ -30,10 +30,8 @@ countsNo blocks instructions =
 -- ---- blocks
 
 -- does block 0 start at 0, a later one after its predecessor, all below I? (6)
-unfoldable pub starts : List ℕ → ℕ → Bool
-starts cells b =
-    ltb (blockOf cells b .first) (instructionCount cells)
-    && cond (eqb b 0) (eqb (blockOf cells b .first) 0) (ltb (blockOf cells (b - 1) .first) (blockOf cells b .first))
+abbrev pub inOrder : ℕ → ℕ → ℕ → ℕ → Bool
+inOrder instructions b before first = ltb first instructions && cond (eqb b 0) (eqb first 0) (ltb before first)
 
 -- n pair bytes in strictly rising order of target (the low four bits), and nothing after them
 unfoldable pub rising : ℕ → ℕ → Bool
@@ -55,12 +53,15 @@ annotated blocks k =
     cond (eqb (k .annotation) 0) (eqb (k .label) 0 && unjoined k)
     (ltb (k .label) blocks && cond (eqb (k .annotation) 1) (unjoined k) (eqb (k .annotation) 2 && joined k))
 
+-- the record of block b, whose predecessor starts at `before`: 6, then 7
+abbrev pub blockRecordNo : ℕ → ℕ → ℕ → ℕ → Block → ℕ
+blockRecordNo blocks instructions b before k = ask (inOrder instructions b before (k .first)) 6 (ask (annotated blocks k) 7 0)
+
 -- a block that a short buffer lacks is a no to 6
 unfoldable pub blockNo : List ℕ → ℕ → ℕ
 blockNo cells b =
     ask (leb (2 + 6 * b + 6) (length cells)) 6
-    (ask (starts cells b) 6
-    (ask (annotated (blockCount cells) (blockOf cells b)) 7 0))
+    (blockRecordNo (blockCount cells) (instructionCount cells) b (blockOf cells (b - 1) .first) (blockOf cells b))
 
 -- ---- instructions
 
@@ -127,12 +128,15 @@ abbrev pub same : Bool → Bool → Bool
 same true b = b
 same false b = not b
 
--- is it opcode 13, 14 or 15 exactly when last in its block? (9) An instruction that a short buffer lacks is a no to 8
+-- an instruction's record: 8, then is it opcode 13, 14 or 15 exactly when last in its block? (9)
+abbrev pub instructionRecordNo : ℕ → Bool → Instruction → ℕ
+instructionRecordNo blocks last x = ask (laidOut blocks x) 8 (ask (same (leb 13 (x .opcode)) last) 9 0)
+
+-- an instruction that a short buffer lacks is a no to 8
 unfoldable pub instructionNo : List ℕ → ℕ → ℕ
 instructionNo cells i =
     ask (leb (770 + 5 * i + 5) (length cells)) 8
-    (ask (laidOut (blockCount cells) (instructionOf cells i)) 8
-    (ask (same (leb 13 (instructionOf cells i .opcode)) (lastInBlock cells i)) 9 0))
+    (instructionRecordNo (blockCount cells) (lastInBlock cells i) (instructionOf cells i))
 
 -- ---- a program
 

@@ -2,17 +2,18 @@
 use crate::Block;
 use crate::Instruction;
 ghost use mathlib.Core.Path.{_≡_};
+ghost use mathlib.Core.List.{_++_};
 ghost use Prim.Native.Nat.{_+_, _*_, _≤_};
 ghost use lib.ListN.{length};
 ghost use lib.Seq.{sets};
-ghost use Rattle.image.specs.Layout.{blockIn, blockBytes, blockOf, blockCells, instructionIn, instructionBytes, instructionOf, instructionCells};
+ghost use Rattle.int64.specs.Little.{bytesOf};
+ghost use Rattle.image.specs.Layout.{blockIn, blockBytes, blockFrom, blockOf, blockCells, instructionIn, instructionBytes, instructionFrom, instructionOf, instructionCells};
 
-// Our crates alone call it: writer and questions count below the blocks, a join below a checked program's.
-pub fn block_of(cells: &[u64], b: usize) -> Block
-    requires { ⌜ 2 + 6 * b + 6 ≤ length (now cells) ⌝ }
-    ensures { λ r. ⌜ r ≡ blockOf (now (cells .entry)) b ⌝ }
+// The block whose cells begin at `at`. The crate itself calls it, with the place of a block that the buffer has.
+pub fn block_from(cells: &[u64], at: usize) -> Block
+    requires { ⌜ at + 6 ≤ length (now cells) ⌝ }
+    ensures { λ r. ⌜ r ≡ blockFrom (now (cells .entry)) at ⌝ }
 {
-    let at = 2 + 6 * b;
     Block {
         first: cells[at],
         annotation: cells[at + 1],
@@ -23,12 +24,19 @@ pub fn block_of(cells: &[u64], b: usize) -> Block
     }
 }
 
-// Our crates alone call it: writer and questions count below the instructions, drive has the shape test's pc.
-pub fn instruction_of(cells: &[u64], i: usize) -> Instruction
-    requires { ⌜ 770 + 5 * i + 5 ≤ length (now cells) ⌝ }
-    ensures { λ r. ⌜ r ≡ instructionOf (now (cells .entry)) i ⌝ }
+// Our crates alone call it: the questions count below the blocks, a join below a checked program's.
+pub fn block_of(cells: &[u64], b: usize) -> Block
+    requires { ⌜ 2 + 6 * b + 6 ≤ length (now cells) ⌝ }
+    ensures { λ r. ⌜ r ≡ blockOf (now (cells .entry)) b ⌝ }
 {
-    let at = 770 + 5 * i;
+    block_from(cells, 2 + 6 * b)
+}
+
+// The instruction whose cells begin at `at`, as above.
+pub fn instruction_from(cells: &[u64], at: usize) -> Instruction
+    requires { ⌜ at + 5 ≤ length (now cells) ⌝ }
+    ensures { λ r. ⌜ r ≡ instructionFrom (now (cells .entry)) at ⌝ }
+{
     Instruction {
         opcode: cells[at],
         r: cells[at + 1],
@@ -36,6 +44,14 @@ pub fn instruction_of(cells: &[u64], i: usize) -> Instruction
         kind: cells[at + 3],
         operand: cells[at + 4],
     }
+}
+
+// Our crates alone call it: the questions count below the instructions, drive has the shape test's pc.
+pub fn instruction_of(cells: &[u64], i: usize) -> Instruction
+    requires { ⌜ 770 + 5 * i + 5 ≤ length (now cells) ⌝ }
+    ensures { λ r. ⌜ r ≡ instructionOf (now (cells .entry)) i ⌝ }
+{
+    instruction_from(cells, 770 + 5 * i)
 }
 
 // The reader alone calls it, with a program buffer whose length it asked and a block below its count.
@@ -109,16 +125,21 @@ pub fn instruction_in(image: &[u8], at: usize) -> Instruction
     }
 }
 
+// The number whose four bytes are the low bytes of these, so that a record's bytes are written as words.
+fn four_bytes(a: u64, b: u64, c: u64, d: u64) -> u64
+    ensures { λ r. ⌜ bytesOf 4 r ≡ bytesOf 1 a ++ (bytesOf 1 b ++ (bytesOf 1 c ++ bytesOf 1 d)) ⌝ }
+{
+    a % 256 + 256 * (b % 256 + 256 * (c % 256 + 256 * (d % 256)))
+}
+
 // The writer alone calls it, with an image of the length of the program's counts.
 pub fn put_block_bytes(image: &mut [u8], at: usize, k: Block)
     requires { ⌜ at + 10 ≤ length (now image) ⌝ }
     ensures { λ _. ⌜ now (image .exit) ≡ sets (now (image .entry)) at (blockBytes k) ⌝ }
 {
+    let middle = four_bytes(k.annotation, k.policy, k.label, k.pairs);
     int64::write_u16(image, at, k.first);
-    image[at + 2] = (k.annotation % 256) as u8;
-    image[at + 3] = (k.policy % 256) as u8;
-    image[at + 4] = (k.label % 256) as u8;
-    image[at + 5] = (k.pairs % 256) as u8;
+    int64::write_u32(image, at + 2, middle);
     int64::write_u32(image, at + 6, k.packed);
 }
 
@@ -127,9 +148,7 @@ pub fn put_instruction_bytes(image: &mut [u8], at: usize, x: Instruction)
     requires { ⌜ at + 12 ≤ length (now image) ⌝ }
     ensures { λ _. ⌜ now (image .exit) ≡ sets (now (image .entry)) at (instructionBytes x) ⌝ }
 {
-    image[at] = (x.opcode % 256) as u8;
-    image[at + 1] = (x.r % 256) as u8;
-    image[at + 2] = (x.s % 256) as u8;
-    image[at + 3] = (x.kind % 256) as u8;
+    let head = four_bytes(x.opcode, x.r, x.s, x.kind);
+    int64::write_u32(image, at, head);
     int64::write_u64(image, at + 4, x.operand);
 }

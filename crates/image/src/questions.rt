@@ -1,15 +1,16 @@
 // The questions put to a program. Each function of a record is shared by the reader, the writer and every later door.
 use crate::Block;
+use crate::Instruction;
 use crate::layout;
 ghost use mathlib.Core.Path.{_≡_};
-ghost use Prim.Native.Nat.{ℕ, _+_, _*_, _<_, _≤_};
-ghost use lib.Dec.{leb};
+ghost use Prim.Native.Nat.{ℕ, _+_, _-_, _*_, _<_, _≤_};
+ghost use lib.Dec.{eqb, leb};
 ghost use lib.ListN.{length};
 ghost use lib.Seq.{sets};
-ghost use Rattle.image.specs.Layout.{blockCount, instructionCount, instructionOf};
-ghost use Rattle.image.specs.Questions.{countsNo, starts, rising, unjoined, joined, annotated, blockNo, firstNo, fields, laidOut, lastInBlock, instructionNo, recordsNo, programNo};
-ghost use Rattle.image.specs.Marks.{flag, Marked};
-ghost use Rattle.image.specs.Limits.{limitRow, limitRows, Limited};
+ghost use Rattle.image.specs.Layout.{blockCount, instructionCount, blockOf};
+ghost use Rattle.image.specs.Questions.{countsNo, inOrder, rising, unjoined, joined, annotated, blockRecordNo, blockNo, firstNo, fields, laidOut, instructionRecordNo, instructionNo, recordsNo, programNo};
+ghost use Rattle.image.specs.Marks.{flag, Marked, Ended};
+ghost use Rattle.image.specs.Limits.{limitRow, limitRows, Limited, blocksBy};
 
 // The flags of the table's rows: an opcode has r, s, v.
 const R: u8 = 4;
@@ -56,21 +57,16 @@ pub fn ask_counts(blocks: u64, instructions: u64) -> u8
     0
 }
 
-// Question 6 of block b, which the buffer has.
-fn starts_in_order(cells: &[u64], b: usize) -> bool
-    requires { ⌜ 2 + 6 * b + 6 ≤ length (now cells) ⌝ }
-    ensures { λ r. ⌜ r ≡ starts (now (cells .entry)) b ⌝ }
+// Question 6 of a block that starts at `first`, its predecessor at `before`.
+fn starts_in_order(instructions: u64, b: usize, before: u64, first: u64) -> bool
+    ensures { λ r. ⌜ r ≡ inOrder instructions b before first ⌝ }
 {
-    let at = 2 + 6 * b;
-    let first = cells[at];
-    let instructions = cells[1];
     if instructions <= first {
         return false;
     }
     if b == 0 {
         return first == 0;
     }
-    let before = cells[2 + 6 * (b - 1)];
     before < first
 }
 
@@ -139,6 +135,30 @@ fn is_annotated(blocks: u64, k: Block) -> bool
     is_joined(k)
 }
 
+// Questions 6 and 7 of a block's record, wherever it stands.
+pub fn ask_block_record(blocks: u64, instructions: u64, b: usize, before: u64, k: Block) -> u8
+    ensures { λ r. ⌜ r ≡ blockRecordNo blocks instructions b before k ⌝ }
+{
+    if !starts_in_order(instructions, b, before, k.first) {
+        return 6;
+    }
+    if !is_annotated(blocks, k) {
+        return 7;
+    }
+    0
+}
+
+// Where the block before block b starts, which the buffer has; of block 0, which has none, where it starts itself.
+fn first_before(cells: &[u64], b: usize) -> u64
+    requires { ⌜ 2 + 6 * b + 6 ≤ length (now cells) ⌝ }
+    ensures { λ r. ⌜ r ≡ blockOf (now (cells .entry)) (b - 1) .first ⌝ }
+{
+    if b == 0 {
+        return cells[2];
+    }
+    cells[2 + 6 * (b - 1)]
+}
+
 // Questions 6 and 7 of block b.
 fn ask_block(cells: &[u64], b: usize) -> u8
     requires { ⌜ b < 128 ⌝ }
@@ -147,14 +167,9 @@ fn ask_block(cells: &[u64], b: usize) -> u8
     if cells.len() < 2 + 6 * b + 6 {
         return 6;
     }
-    if !starts_in_order(cells, b) {
-        return 6;
-    }
+    let before = first_before(cells, b);
     let k = layout::block_of(cells, b);
-    if !is_annotated(cells[0], k) {
-        return 7;
-    }
-    0
+    ask_block_record(cells[0], cells[1], b, before, k)
 }
 
 // The limits of an opcode's fields, by its flags: the largest r and s, the least and the largest kind.
@@ -183,12 +198,20 @@ fn fill_limits(table: &[u8], limits: &mut [u64])
     }
 }
 
-// Question 8 of instruction i, by comparing each field with its limit: no branch depends on which opcode it is.
-fn is_laid_out(limits: &[u64], largest: &[u64], cells: &[u64], i: usize) -> bool
-    requires { ⌜ Limited (now cells) (now limits) (now largest) × (770 + 5 * i + 5 ≤ length (now cells)) ⌝ }
-    ensures { λ r. ⌜ r ≡ laidOut (blockCount (now (cells .entry))) (instructionOf (now (cells .entry)) i) ⌝ }
+// The limits of all opcodes, by the table.
+pub fn all_limits(limits: &mut [u64])
+    requires { ⌜ length (now limits) ≡ 60 ⌝ }
+    ensures { λ _. ⌜ now (limits .exit) ≡ limitRows ⌝ }
 {
-    let x = layout::instruction_of(cells, i);
+    let table = FIELDS;
+    fill_limits(&table, limits);
+}
+
+// Question 8, by comparing each field with its limit: no branch depends on which opcode it is.
+fn is_laid_out(limits: &[u64], largest: &[u64], x: Instruction) -> bool
+    requires { ⌜ Limited (blocksBy (now largest)) (now limits) (now largest) ⌝ }
+    ensures { λ r. ⌜ r ≡ laidOut (blocksBy (now (largest .entry))) x ⌝ }
+{
     let opcode = x.opcode;
     if opcode < 1 {
         return false;
@@ -243,28 +266,29 @@ fn end_mark(opcode: u64) -> u8
     1
 }
 
-// Questions 8 and 9 of instruction i, which the buffer has; `last` marks the last of a block.
-fn ask_instruction(limits: &[u64], largest: &[u64], cells: &[u64], last: u8, i: usize) -> u8
-    requires { ⌜ Limited (now cells) (now limits) (now largest) × (770 + 5 * i + 5 ≤ length (now cells)) × (last ≡ flag (lastInBlock (now cells) i)) ⌝ }
-    ensures { λ r. ⌜ r ≡ instructionNo (now (cells .entry)) i ⌝ }
+// Questions 8 and 9 of an instruction's record, wherever it stands; `last` marks the last of a block. The crate itself calls it, with the
+// limits of a program that has a block.
+pub fn ask_instruction(limits: &[u64], largest: &[u64], x: Instruction, last: u8) -> u8
+    requires { ⌜ Limited (blocksBy (now largest)) (now limits) (now largest) × (last ≡ flag (eqb last 1)) ⌝ }
+    ensures { λ r. ⌜ r ≡ instructionRecordNo (blocksBy (now (largest .entry))) (eqb last 1) x ⌝ }
 {
-    if !is_laid_out(limits, largest, cells, i) {
+    if !is_laid_out(limits, largest, x) {
         return 8;
     }
-    if end_mark(cells[770 + 5 * i]) != last {
+    if end_mark(x.opcode) != last {
         return 9;
     }
     0
 }
 
-// How many instructions before the last one the buffer has, so that the loop need not ask at each.
-fn held_before_last(cells: &[u64]) -> usize
-    requires { ⌜ (1 < length (now cells)) × (1 ≤ instructionCount (now cells)) × (instructionCount (now cells) ≤ 1024) ⌝ }
-    ensures { λ r. ⌜ (r < instructionCount (now (cells .entry))) × ((i : ℕ) → i < r → 770 + 5 * i + 5 ≤ length (now (cells .entry))) × (770 + 5 * r + 5 ≤ length (now (cells .entry)) → r + 1 ≡ instructionCount (now (cells .entry))) ⌝ }
+// How many of its instructions the buffer has, so that the loop need not ask at each.
+fn instructions_held(cells: &[u64]) -> usize
+    requires { ⌜ (1 < length (now cells)) × (instructionCount (now cells) ≤ 1024) ⌝ }
+    ensures { λ r. ⌜ (r ≤ instructionCount (now (cells .entry))) × ((i : ℕ) → i < r → 770 + 5 * i + 5 ≤ length (now (cells .entry))) × (r < instructionCount (now (cells .entry)) → length (now (cells .entry)) < 770 + 5 * r + 5) ⌝ }
 {
-    let last = cells[1] as usize - 1;
-    if 770 + 5 * last <= cells.len() {
-        return last;
+    let instructions = cells[1] as usize;
+    if 770 + 5 * instructions <= cells.len() {
+        return instructions;
     }
     if cells.len() < 770 {
         return 0;
@@ -274,22 +298,23 @@ fn held_before_last(cells: &[u64]) -> usize
 
 // Questions 8 and 9 of all instructions.
 fn ask_instructions(limits: &[u64], largest: &[u64], cells: &[u64], marks: &[u8]) -> u8
-    requires { ⌜ Limited (now cells) (now limits) (now largest) × (1 < length (now cells)) × (1 ≤ instructionCount (now cells)) × (instructionCount (now cells) ≤ 1024) × Marked (now cells) (blockCount (now cells)) (now marks) ⌝ }
+    requires { ⌜ Limited (blockCount (now cells)) (now limits) (now largest) × (1 < length (now cells)) × (instructionCount (now cells) ≤ 1024) × Ended (now cells) (now marks) ⌝ }
     ensures { λ r. ⌜ r ≡ firstNo (instructionNo (now (cells .entry))) (instructionCount (now (cells .entry))) 0 ⌝ }
 {
-    let held = held_before_last(cells);
+    let held = instructions_held(cells);
     let mut i = 0;
     while i < held {
-        let no = ask_instruction(limits, largest, cells, marks[i + 1], i);
+        let x = layout::instruction_of(cells, i);
+        let no = ask_instruction(limits, largest, x, marks[i + 1]);
         if no != 0 {
             return no;
         }
         i = i + 1;
     }
-    if cells.len() < 770 + 5 * held + 5 {
+    if held < cells[1] as usize {
         return 8;
     }
-    ask_instruction(limits, largest, cells, 1, held)
+    0
 }
 
 // Questions 6 to 9. The caller has put question 4.
@@ -297,14 +322,15 @@ pub fn ask_records(cells: &[u64]) -> u8
     requires { ⌜ countsNo (blockCount (now cells)) (instructionCount (now cells)) ≡ 0 ⌝ }
     ensures { λ r. ⌜ r ≡ recordsNo (now (cells .entry)) ⌝ }
 {
-    let mut marks = [0u8; 1024];
+    let mut marks = [0u8; 1025];
     let no = ask_blocks(cells, &mut marks);
     if no != 0 {
         return no;
     }
-    let table = FIELDS;
+    let end = cells[1] as usize;
+    marks[end] = 1;
     let mut limits = [0u64; 60];
-    fill_limits(&table, &mut limits);
+    all_limits(&mut limits);
     // Of each kind of operand: absent, register, label, integer.
     let largest = [0, 15, cells[0] - 1, u64::MAX];
     ask_instructions(&limits, &largest, cells, &marks)

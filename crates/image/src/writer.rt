@@ -2,10 +2,10 @@
 use crate::layout;
 use crate::questions;
 ghost use mathlib.Core.Path.{_≡_};
-ghost use Prim.Native.Nat.{_+_, _*_, _<_, _≤_};
+ghost use Prim.Native.Nat.{_<_, _≤_};
 ghost use lib.ListN.{length};
 ghost use lib.Seq.{sets};
-ghost use Rattle.image.specs.Layout.{rows, imageLength, programCells, blockCount, instructionCount, blockOf, instructionOf, blockBytes, instructionBytes, headerOf, imageOf};
+ghost use Rattle.image.specs.Layout.{rows, blockPlace, imageLength, programCells, blockCount, instructionCount, blockOf, instructionOf, blockBytes, instructionBytes, headerOf, imageOf};
 ghost use Rattle.image.specs.Questions.{countsNo};
 ghost use Rattle.image.specs.Doors.{writeNo, unlessRefused};
 
@@ -23,31 +23,44 @@ fn encode_header(cells: &[u64], image: &mut [u8])
     int64::write_u16(image, 6, cells[1]);
 }
 
-fn encode_blocks(cells: &[u64], image: &mut [u8])
-    requires { ⌜ (length (now cells) ≡ programCells) × (blockCount (now cells) ≤ 128) × (8 + 10 * blockCount (now cells) ≤ length (now image)) ⌝ }
-    ensures { λ _. ⌜ now (image .exit) ≡ sets (now (image .entry)) 8 (rows (λ b. blockBytes (blockOf (now (cells .entry)) b)) (blockCount (now (cells .entry)))) ⌝ }
+// Writes the blocks' records one after the other, and hands back the offset of the last one's end.
+fn encode_blocks(cells: &[u64], image: &mut [u8]) -> usize
+    requires { ⌜ (length (now cells) ≡ programCells) × (blockCount (now cells) ≤ 128) × (blockPlace (blockCount (now cells)) ≤ length (now image)) ⌝ }
+    ensures { λ r. ⌜ r ≡ blockPlace (blockCount (now (cells .entry))) ⌝ }
+    ensures { λ _. ⌜ now (image .exit) ≡ sets (now (image .entry)) (blockPlace 0) (rows (λ b. blockBytes (blockOf (now (cells .entry)) b)) (blockCount (now (cells .entry)))) ⌝ }
 {
-    let blocks = cells[0] as usize;
+    let blocks = cells[0];
+    let mut at = 8;
+    let mut from = 2;
     let mut b = 0;
     while b < blocks {
-        let k = layout::block_of(cells, b);
-        layout::put_block_bytes(image, 8 + 10 * b, k);
+        let k = layout::block_from(cells, from);
+        layout::put_block_bytes(image, at, k);
+        at = at + 10;
+        from = from + 6;
         b = b + 1;
     }
+    at
 }
 
-fn encode_instructions(cells: &[u64], image: &mut [u8])
-    requires { ⌜ (length (now cells) ≡ programCells) × (instructionCount (now cells) ≤ 1024) × (length (now image) ≡ imageLength (blockCount (now cells)) (instructionCount (now cells))) ⌝ }
-    ensures { λ _. ⌜ now (image .exit) ≡ sets (now (image .entry)) (8 + 10 * blockCount (now (cells .entry))) (rows (λ i. instructionBytes (instructionOf (now (cells .entry)) i)) (instructionCount (now (cells .entry)))) ⌝ }
+// The instructions' records likewise, from the last block's end on.
+fn encode_instructions(cells: &[u64], start: usize, image: &mut [u8]) -> usize
+    requires { ⌜ (length (now cells) ≡ programCells) × (instructionCount (now cells) ≤ 1024) × (start ≡ blockPlace (blockCount (now cells))) × (length (now image) ≡ imageLength (blockCount (now cells)) (instructionCount (now cells))) ⌝ }
+    ensures { λ r. ⌜ r ≡ length (now (image .entry)) ⌝ }
+    ensures { λ _. ⌜ now (image .exit) ≡ sets (now (image .entry)) (blockPlace (blockCount (now (cells .entry)))) (rows (λ i. instructionBytes (instructionOf (now (cells .entry)) i)) (instructionCount (now (cells .entry)))) ⌝ }
 {
-    let start = 8 + 10 * (cells[0] as usize);
-    let instructions = cells[1] as usize;
+    let instructions = cells[1];
+    let mut at = start;
+    let mut from = 770;
     let mut i = 0;
     while i < instructions {
-        let x = layout::instruction_of(cells, i);
-        layout::put_instruction_bytes(image, start + 12 * i, x);
+        let x = layout::instruction_from(cells, from);
+        layout::put_instruction_bytes(image, at, x);
+        at = at + 12;
+        from = from + 5;
         i = i + 1;
     }
+    at
 }
 
 // The image of an accepted program, into a buffer of its length.
@@ -56,8 +69,8 @@ pub fn encode(cells: &[u64], image: &mut [u8])
     ensures { λ _. ⌜ now (image .exit) ≡ imageOf (now (cells .entry)) ⌝ }
 {
     encode_header(cells, image);
-    encode_blocks(cells, image);
-    encode_instructions(cells, image);
+    let end = encode_blocks(cells, image);
+    encode_instructions(cells, end, image);
 }
 
 // Writes a program to the lent image buffer, the whole of it; a refusal leaves the buffer as it was.

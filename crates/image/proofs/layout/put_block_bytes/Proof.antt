@@ -1,92 +1,58 @@
--- `put_block_bytes` meets its contract.
-use mathlib.Core.Path.{refl, _∙_}
-use mathlib.Core.List.{_++_}
-use Prim.Native.Nat.{_+_}
-use lib.ListN.{length-set}
-use Rattle.image.proofs.Rows.{placed}
+use mathlib.Core.Path.{_≡_, refl, ap, _∙_}
+use mathlib.Core.List.{List, _++_}
+use Prim.Native.Nat.{ℕ, _+_}
+use lib.Seq.{sets}
 use Rattle.int64.specs.Little.{bytesOf}
+use Rattle.image.proofs.Rows.{placed}
 use borrow.Author.Needs.{needs}
-use native.Mathlib.Omega.{arith}
 use Rattle.image.proofs.layout.put_block_bytes.Statement.{statement}
 use Rattle.image.proofs.layout.put_block_bytes.Tie as tie
+use Rattle.image.proofs.layout.put_block_bytes.Reads as reads
+use Rattle.image.proofs.layout.put_block_bytes.Lts as lts
+use Rattle.image.proofs.layout.four_bytes.Reads as four-bytes-reads
+use Rattle.int64.proofs.write_u16.Reads as write-u16-reads
+use Rattle.int64.proofs.write_u32.Reads as write-u32-reads
+
+four-bytes-requires : tie.Need-four-bytes-requires
+four-bytes-requires c κs = search needs
 
 write-u16-requires : tie.Need-write-u16-requires
 write-u16-requires c κs = search needs
-
-cast-image : tie.Need-cast-image
-cast-image c = search needs
-
-add-image : tie.Need-add-image
-add-image c = search needs
-
-slice-write-image : tie.Need-slice-write-image
-slice-write-image c = search needs
-
-cast-image-2 : tie.Need-cast-image-2
-cast-image-2 c = search needs
-
-add-image-2 : tie.Need-add-image-2
-add-image-2 c = search needs
-
-slice-write-image-2 : tie.Need-slice-write-image-2
-slice-write-image-2 c = simp length-set (omega arith)
-
-cast-image-3 : tie.Need-cast-image-3
-cast-image-3 c = search needs
-
-add-image-3 : tie.Need-add-image-3
-add-image-3 c = search needs
-
-slice-write-image-3 : tie.Need-slice-write-image-3
-slice-write-image-3 c = simp length-set (omega arith)
-
-cast-image-4 : tie.Need-cast-image-4
-cast-image-4 c = search needs
-
-add-image-4 : tie.Need-add-image-4
-add-image-4 c = search needs
-
-slice-write-image-4 : tie.Need-slice-write-image-4
-slice-write-image-4 c = simp length-set (omega arith)
 
 add-write-u32 : tie.Need-add-write-u32
 add-write-u32 c = search needs
 
 write-u32-requires : tie.Need-write-u32-requires
-write-u32-requires c κs = simp length-set (omega arith)
+write-u32-requires c κs = search needs
+
+add-write-u32-2 : tie.Need-add-write-u32-2
+add-write-u32-2 c = search needs
+
+write-u32-requires-2 : tie.Need-write-u32-requires-2
+write-u32-requires-2 c κs = search needs
 
 same-length : tie.Need-same-length
-same-length c = c .before .before .write-u32 .kept .0 ∙ simp length-set (c .before .before .before .before .before .before .before .before .before .before .write-u16 .kept .0)
+same-length c = search needs
 
 returns : tie.Need-returns
 unfolding bytesOf
-returns c = let at = c .before .before .before .before .before .before .before .before .before .before .before .before .before .args .at in
-    let l = c .before .before .before .before .before .before .before .before .before .before .before .before .before .args .image .now in
-    let k = c .before .before .before .before .before .before .before .before .before .before .before .before .before .args .k in
-    let p1 = placed l _ _ at (at + 2) (bytesOf 2 (k .first)) (bytesOf 1 (k .annotation)) (c .before .before .before .before .before .before .before .before .before .before .write-u16 .ensures) refl refl in
-    let p2 = placed l _ _ at (at + 3) (bytesOf 2 (k .first) ++ bytesOf 1 (k .annotation)) (bytesOf 1 (k .policy)) p1 refl refl in
-    let p3 = placed l _ _ at (at + 4) (bytesOf 2 (k .first) ++ bytesOf 1 (k .annotation) ++ bytesOf 1 (k .policy)) (bytesOf 1 (k .label)) p2 refl refl in
-    let p4 = placed l _ _ at (at + 5) (bytesOf 2 (k .first) ++ bytesOf 1 (k .annotation) ++ bytesOf 1 (k .policy) ++ bytesOf 1 (k .label)) (bytesOf 1 (k .pairs)) p3 refl refl in
-    placed l _ _ at (at + 6) (bytesOf 2 (k .first) ++ bytesOf 1 (k .annotation) ++ bytesOf 1 (k .policy) ++ bytesOf 1 (k .label) ++ bytesOf 1 (k .pairs)) (bytesOf 4 (k .packed)) p4 (c .before .before .write-u32 .ensures) refl
+returns c = let l = c .before .before .before .before .before .before .before .before .before .before .before .before .before .before .args .image .now in
+    let at = c .before .before .before .before .before .before .before .before .before .before .before .before .before .before .args .at in
+    let k = c .before .before .before .before .before .before .before .before .before .before .before .before .before .before .args .k in
+    let middle = c .before .before .before .before .before .before .before .before .before .before .before .before .four-bytes .result in
+    let two = placed l _ _ at (at + 2) (bytesOf 2 (k .first)) (bytesOf 4 middle) (c .before .before .before .before .before .before .before .before .before .before .write-u16 .ensures) (c .before .before .before .before .before .before .write-u32 .ensures) refl in
+    placed l _ _ at (at + 6) (bytesOf 2 (k .first) ++ bytesOf 4 middle) (bytesOf 4 (k .packed)) two (c .before .before .write-u322 .ensures) refl
+    ∙ ap (λ (m : List ℕ). sets l at ((bytesOf 2 (k .first) ++ m) ++ bytesOf 4 (k .packed))) (c .before .before .before .before .before .before .before .before .before .before .before .before .four-bytes .ensures)
 
 pub put-block-bytes-spec : {M : Type 1} → statement M
 put-block-bytes-spec =
     tie.close
     (tie.spec
+    four-bytes-requires
     write-u16-requires
-    cast-image
-    add-image
-    slice-write-image
-    cast-image-2
-    add-image-2
-    slice-write-image-2
-    cast-image-3
-    add-image-3
-    slice-write-image-3
-    cast-image-4
-    add-image-4
-    slice-write-image-4
     add-write-u32
     write-u32-requires
+    add-write-u32-2
+    write-u32-requires-2
     same-length
     returns)

@@ -1,9 +1,17 @@
--- `ask_block` meets its contract.
-use borrow.Author.Tests.{le-leb, lt-leb, not-true, not-false}
-use Rattle.image.specs.Questions.{blockNo}
+use mathlib.Core.Path.{_≡_, sym, ap, ap₂, _∙_}
+use Prim.Native.Nat.{ℕ}
+use borrow.Author.Tests.{le-leb, lt-leb}
+use Rattle.image.specs.declared.Block.{Block}
+use Rattle.image.specs.Layout.{blockCount, instructionCount}
+use Rattle.image.specs.Questions.{blockRecordNo, blockNo}
 use borrow.Author.Needs.{needs}
 use Rattle.image.proofs.questions.ask_block.Statement.{statement}
 use Rattle.image.proofs.questions.ask_block.Tie as tie
+use Rattle.image.proofs.questions.ask_block.Reads as reads
+use Rattle.image.proofs.questions.ask_block.Lts as lts
+use Rattle.image.proofs.layout.block_of.Reads as block-of-reads
+use Rattle.image.proofs.questions.ask_block_record.Reads as ask-block-record-reads
+use Rattle.image.proofs.questions.first_before.Reads as first-before-reads
 
 mul-if1 : tie.Need-mul-if1
 mul-if1 c = search needs
@@ -18,29 +26,24 @@ returns : tie.Need-returns
 unfolding blockNo
 returns c = rw (lt-leb _ _ (c .if1 .taken))
 
-starts-in-order-requires : tie.Need-starts-in-order-requires
-starts-in-order-requires c κs = search needs
-
-returns-2 : tie.Need-returns-2
-unfolding blockNo
-returns-2 c = rw (le-leb _ _ (c .before .before .if1 .left), ← (c .before .starts-in-order .ensures), not-true (c .before .starts-in-order .result) (c .if2 .taken))
+first-before-requires : tie.Need-first-before-requires
+first-before-requires c κs = search needs
 
 block-of-requires : tie.Need-block-of-requires
 block-of-requires c κs = search needs
 
-shared-slice-read-is-annotated : tie.Need-shared-slice-read-is-annotated
-shared-slice-read-is-annotated c = search needs
+shared-slice-read-ask-block-record : tie.Need-shared-slice-read-ask-block-record
+shared-slice-read-ask-block-record c = search needs
 
-is-annotated-requires : tie.Need-is-annotated-requires
-is-annotated-requires c κs = search needs
+shared-slice-read-ask-block-record-2 : tie.Need-shared-slice-read-ask-block-record-2
+shared-slice-read-ask-block-record-2 c = search needs
 
-returns-3 : tie.Need-returns-3
+ask-block-record-requires : tie.Need-ask-block-record-requires
+ask-block-record-requires c κs = search needs
+
+returns-2 : tie.Need-returns-2
 unfolding blockNo
-returns-3 c = rw (le-leb _ _ (c .before .before .before .before .before .before .if1 .left), ← (c .before .before .before .before .before .starts-in-order .ensures), not-false (c .before .before .before .before .before .starts-in-order .result) (c .before .before .before .before .if2 .left), ← (c .before .before .before .block-of .ensures), ← (c .before .is-annotated .ensures), not-true (c .before .is-annotated .result) (c .if3 .taken))
-
-returns-4 : tie.Need-returns-4
-unfolding blockNo
-returns-4 c = rw (le-leb _ _ (c .before .before .before .before .before .before .if1 .left), ← (c .before .before .before .before .before .starts-in-order .ensures), not-false (c .before .before .before .before .before .starts-in-order .result) (c .before .before .before .before .if2 .left), ← (c .before .before .before .block-of .ensures), ← (c .before .is-annotated .ensures), not-false (c .before .is-annotated .result) (c .if3 .left))
+returns-2 c = rw (le-leb _ _ (c .before .before .before .before .before .if1 .left)) (c .ask-block-record .ensures ∙ ap₂ (λ (n : ℕ) (k : Block). blockRecordNo (blockCount (c .before .before .before .before .before .before .before .args .cells .now)) (instructionCount (c .before .before .before .before .before .before .before .args .cells .now)) (c .before .before .before .before .before .before .before .args .b) n k) (c .before .before .before .before .first-before .ensures) (c .before .before .before .block-of .ensures))
 
 pub ask-block-spec : {M : Type 1} → statement M
 ask-block-spec =
@@ -50,10 +53,9 @@ ask-block-spec =
     add-if1
     add-if1-2
     returns
-    starts-in-order-requires
-    returns-2
+    first-before-requires
     block-of-requires
-    shared-slice-read-is-annotated
-    is-annotated-requires
-    returns-3
-    returns-4)
+    shared-slice-read-ask-block-record
+    shared-slice-read-ask-block-record-2
+    ask-block-record-requires
+    returns-2)

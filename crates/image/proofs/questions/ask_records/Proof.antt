@@ -1,14 +1,18 @@
--- `ask_records` meets its contract.
-use mathlib.Core.Path.{refl, sym, _∙_}
-use Rattle.image.specs.Questions.{recordsNo, firstNo, blockNo, instructionNo}
+use mathlib.Core.Path.{_≡_, refl, sym, ap, ap₂, _∙_}
+use native.Mathlib.Omega.{arith}
 use Rattle.image.specs.Layout.{blockCount, instructionCount}
+use Rattle.image.specs.Questions.{recordsNo, firstNo, blockNo, instructionNo}
 use Rattle.image.proofs.Asked.{or-else-no, or-else-yes}
-use Rattle.image.proofs.Marking.{marked-none}
+use Rattle.image.proofs.Marking.{marked-none, ended}
 use Rattle.image.proofs.Counts.{counted, two-cells}
 use borrow.Author.Needs.{needs}
-use native.Mathlib.Omega.{arith}
 use Rattle.image.proofs.questions.ask_records.Statement.{statement}
 use Rattle.image.proofs.questions.ask_records.Tie as tie
+use Rattle.image.proofs.questions.ask_records.Reads as reads
+use Rattle.image.proofs.questions.ask_records.Lts as lts
+use Rattle.image.proofs.questions.all_limits.Reads as all-limits-reads
+use Rattle.image.proofs.questions.ask_blocks.Reads as ask-blocks-reads
+use Rattle.image.proofs.questions.ask_instructions.Reads as ask-instructions-reads
 
 slice-aggregate-ask-blocks : tie.Need-slice-aggregate-ask-blocks
 slice-aggregate-ask-blocks c = search needs
@@ -20,17 +24,20 @@ returns : tie.Need-returns
 unfolding recordsNo
 returns c = c .before .before .ask-blocks .ensures .0 ∙ sym (or-else-no (firstNo (blockNo (c .before .before .before .before .before .args .cells .now)) (blockCount (c .before .before .before .before .before .args .cells .now)) 0) (firstNo (instructionNo (c .before .before .before .before .before .args .cells .now)) (instructionCount (c .before .before .before .before .before .args .cells .now)) 0) (λ e. c .if1 .taken (c .before .before .ask-blocks .ensures .0 ∙ e)))
 
-slice-aggregate-fill-limits : tie.Need-slice-aggregate-fill-limits
-slice-aggregate-fill-limits c = search needs
+shared-slice-read-end : tie.Need-shared-slice-read-end
+shared-slice-read-end c = two-cells (c .before .before .before .before .before .before .args .cells .now) (c .before .before .before .before .before .before .pre)
 
-slice-aggregate-fill-limits-2 : tie.Need-slice-aggregate-fill-limits-2
-slice-aggregate-fill-limits-2 c = search needs
+array-write-marks : tie.Need-array-write-marks
+array-write-marks c = omega (arith, counted (blockCount (c .before .before .before .before .before .before .args .cells .now)) (instructionCount (c .before .before .before .before .before .before .args .cells .now)) (c .before .before .before .before .before .before .pre) .instructions-fit)
 
-fill-limits-requires : tie.Need-fill-limits-requires
-fill-limits-requires c κs = (refl, refl)
+slice-aggregate-all-limits : tie.Need-slice-aggregate-all-limits
+slice-aggregate-all-limits c = search needs
 
-shared-slice-read-t17 : tie.Need-shared-slice-read-t17
-shared-slice-read-t17 c = omega (arith, two-cells (c .before .before .before .before .before .before .before .before .before .before .args .cells .now) (c .before .before .before .before .before .before .before .before .before .before .pre))
+all-limits-requires : tie.Need-all-limits-requires
+all-limits-requires c κs = search needs
+
+shared-slice-read-t11 : tie.Need-shared-slice-read-t11
+shared-slice-read-t11 c = omega (arith, two-cells (c .before .before .before .before .before .before .before .before .before .before .args .cells .now) (c .before .before .before .before .before .before .before .before .before .before .pre))
 
 sub-t18 : tie.Need-sub-t18
 sub-t18 c = counted (blockCount (c .before .before .before .before .before .before .before .before .before .before .args .cells .now)) (instructionCount (c .before .before .before .before .before .before .before .before .before .before .args .cells .now)) (c .before .before .before .before .before .before .before .before .before .before .pre) .some-block
@@ -45,7 +52,7 @@ slice-aggregate-ask-instructions-3 : tie.Need-slice-aggregate-ask-instructions-3
 slice-aggregate-ask-instructions-3 c = search needs
 
 ask-instructions-requires : tie.Need-ask-instructions-requires
-ask-instructions-requires c κs = let k = counted (blockCount (c .before .before .before .before .before .before .before .before .before .before .before .before .before .args .cells .now)) (instructionCount (c .before .before .before .before .before .before .before .before .before .before .before .before .before .args .cells .now)) (c .before .before .before .before .before .before .before .before .before .before .before .before .before .pre) in (record { some-block = k .some-block; limits-are = c .before .before .before .before .before .fill-limits .ensures; largest-are = refl }, two-cells (c .before .before .before .before .before .before .before .before .before .before .before .before .before .args .cells .now) (c .before .before .before .before .before .before .before .before .before .before .before .before .before .pre), k .some-instruction, k .instructions-fit, c .before .before .before .before .before .before .before .before .before .before .ask-blocks .ensures .1 (c .before .before .before .before .before .before .before .before .if1 .left))
+ask-instructions-requires c κs = let k = counted (blockCount (c .before .before .before .before .before .before .before .before .before .before .before .before .before .args .cells .now)) (instructionCount (c .before .before .before .before .before .before .before .before .before .before .before .before .before .args .cells .now)) (c .before .before .before .before .before .before .before .before .before .before .before .before .before .pre) in (record { some-block = k .some-block; limits-are = c .before .before .before .before .before .all-limits .ensures; largest-are = refl }, two-cells (c .before .before .before .before .before .before .before .before .before .before .before .before .before .args .cells .now) (c .before .before .before .before .before .before .before .before .before .before .before .before .before .pre), k .instructions-fit, ended (c .before .before .before .before .before .before .before .before .before .before .before .before .before .args .cells .now) _ (c .before .before .before .before .before .before .before .before .before .before .ask-blocks .ensures .1 (c .before .before .before .before .before .before .before .before .if1 .left)) (k .instructions-fit))
 
 returns-2 : tie.Need-returns-2
 unfolding recordsNo
@@ -58,10 +65,11 @@ ask-records-spec =
     slice-aggregate-ask-blocks
     ask-blocks-requires
     returns
-    slice-aggregate-fill-limits
-    slice-aggregate-fill-limits-2
-    fill-limits-requires
-    shared-slice-read-t17
+    shared-slice-read-end
+    array-write-marks
+    slice-aggregate-all-limits
+    all-limits-requires
+    shared-slice-read-t11
     sub-t18
     slice-aggregate-ask-instructions
     slice-aggregate-ask-instructions-2

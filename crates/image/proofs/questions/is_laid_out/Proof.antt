@@ -1,21 +1,18 @@
--- `is_laid_out` meets its contract.
-use mathlib.Core.Path.{sym, ap, _∙_}
-use Rattle.image.specs.Layout.{blockCount}
-use Rattle.image.specs.Questions.{laidOut}
-use Rattle.image.proofs.Limiting.{no-opcode, past-opcodes, beyond-r, beyond-s, below-kind, beyond-kind, operand-decides, kind-known, row-inside, four-largest}
-use borrow.Author.Needs.{needs}
+use mathlib.Core.Path.{sym}
 use native.Mathlib.Omega.{arith}
+use Rattle.image.specs.Limits.{blocksBy}
+use Rattle.image.proofs.Limiting.{no-opcode, past-opcodes, row-inside, four-largest, beyond-r, beyond-s, below-kind, beyond-kind, operand-decides, kind-known}
+use borrow.Author.Needs.{needs}
 use Rattle.image.proofs.questions.is_laid_out.Statement.{statement}
 use Rattle.image.proofs.questions.is_laid_out.Tie as tie
-
-instruction-of-requires : tie.Need-instruction-of-requires
-instruction-of-requires c κs = search needs
+use Rattle.image.proofs.questions.is_laid_out.Reads as reads
+use Rattle.image.proofs.questions.is_laid_out.Lts as lts
 
 returns : tie.Need-returns
-returns c = sym (ap (laidOut (blockCount (c .before .before .before .before .before .args .cells .now))) (sym (c .before .instruction-of .ensures)) ∙ no-opcode (blockCount (c .before .before .before .before .before .args .cells .now)) (c .before .instruction-of .result) (c .if1 .taken))
+returns c = sym (no-opcode (blocksBy (c .before .args .largest .now)) (c .before .args .x) (c .if1 .taken))
 
 returns-2 : tie.Need-returns-2
-returns-2 c = sym (ap (laidOut (blockCount (c .before .before .before .before .before .before .args .cells .now))) (sym (c .before .before .instruction-of .ensures)) ∙ past-opcodes (blockCount (c .before .before .before .before .before .before .args .cells .now)) (c .before .before .instruction-of .result) (c .if2 .taken))
+returns-2 c = sym (past-opcodes (blocksBy (c .before .before .args .largest .now)) (c .before .before .args .x) (c .if2 .taken))
 
 mul-row : tie.Need-mul-row
 mul-row c = search needs
@@ -24,10 +21,10 @@ mul-if3 : tie.Need-mul-if3
 mul-if3 c = search needs
 
 shared-slice-read-if3 : tie.Need-shared-slice-read-if3
-shared-slice-read-if3 c = omega (arith, row-inside (c .before .before .before .before .before .before .before .args .cells .now) (c .before .before .before .before .before .before .before .args .limits .now) (c .before .before .before .before .before .before .before .args .largest .now) (c .before .before .before .before .before .before .before .pre .0) (c .before .before .before .instruction-of .result) (c .before .before .if1 .left) (c .before .if2 .left))
+shared-slice-read-if3 c = omega (arith, row-inside (blocksBy (c .before .before .before .args .largest .now)) (c .before .before .before .args .limits .now) (c .before .before .before .args .largest .now) (c .before .before .before .pre) (c .before .before .before .args .x) (c .before .before .if1 .left) (c .before .if2 .left))
 
 returns-3 : tie.Need-returns-3
-returns-3 c = sym (ap (laidOut (blockCount (c .before .before .before .before .before .before .before .before .before .args .cells .now))) (sym (c .before .before .before .before .before .instruction-of .ensures)) ∙ beyond-r (c .before .before .before .before .before .before .before .before .before .args .cells .now) (c .before .before .before .before .before .before .before .before .before .args .limits .now) (c .before .before .before .before .before .before .before .before .before .args .largest .now) (c .before .before .before .before .before .before .before .before .before .pre .0) (c .before .before .before .before .before .instruction-of .result) (c .before .before .before .before .if1 .left) (c .before .before .before .if2 .left) (c .if3 .taken))
+returns-3 c = sym (beyond-r (blocksBy (c .before .before .before .before .before .args .largest .now)) (c .before .before .before .before .before .args .limits .now) (c .before .before .before .before .before .args .largest .now) (c .before .before .before .before .before .pre) (c .before .before .before .before .before .args .x) (c .before .before .before .before .if1 .left) (c .before .before .before .if2 .left) (c .if3 .taken))
 
 add-if4 : tie.Need-add-if4
 add-if4 c = search needs
@@ -36,10 +33,10 @@ mul-if4 : tie.Need-mul-if4
 mul-if4 c = search needs
 
 shared-slice-read-if4 : tie.Need-shared-slice-read-if4
-shared-slice-read-if4 c = omega (arith, row-inside (c .before .before .before .before .before .before .before .before .before .before .args .cells .now) (c .before .before .before .before .before .before .before .before .before .before .args .limits .now) (c .before .before .before .before .before .before .before .before .before .before .args .largest .now) (c .before .before .before .before .before .before .before .before .before .before .pre .0) (c .before .before .before .before .before .before .instruction-of .result) (c .before .before .before .before .before .if1 .left) (c .before .before .before .before .if2 .left))
+shared-slice-read-if4 c = omega (arith, row-inside (blocksBy (c .before .before .before .before .before .before .args .largest .now)) (c .before .before .before .before .before .before .args .limits .now) (c .before .before .before .before .before .before .args .largest .now) (c .before .before .before .before .before .before .pre) (c .before .before .before .before .before .before .args .x) (c .before .before .before .before .before .if1 .left) (c .before .before .before .before .if2 .left))
 
 returns-4 : tie.Need-returns-4
-returns-4 c = sym (ap (laidOut (blockCount (c .before .before .before .before .before .before .before .before .before .before .before .before .args .cells .now))) (sym (c .before .before .before .before .before .before .before .before .instruction-of .ensures)) ∙ beyond-s (c .before .before .before .before .before .before .before .before .before .before .before .before .args .cells .now) (c .before .before .before .before .before .before .before .before .before .before .before .before .args .limits .now) (c .before .before .before .before .before .before .before .before .before .before .before .before .args .largest .now) (c .before .before .before .before .before .before .before .before .before .before .before .before .pre .0) (c .before .before .before .before .before .before .before .before .instruction-of .result) (c .before .before .before .before .before .before .before .if1 .left) (c .before .before .before .before .before .before .if2 .left) (c .before .before .before .if3 .left) (c .if4 .taken))
+returns-4 c = sym (beyond-s (blocksBy (c .before .before .before .before .before .before .before .before .args .largest .now)) (c .before .before .before .before .before .before .before .before .args .limits .now) (c .before .before .before .before .before .before .before .before .args .largest .now) (c .before .before .before .before .before .before .before .before .pre) (c .before .before .before .before .before .before .before .before .args .x) (c .before .before .before .before .before .before .before .if1 .left) (c .before .before .before .before .before .before .if2 .left) (c .before .before .before .if3 .left) (c .if4 .taken))
 
 add-if5 : tie.Need-add-if5
 add-if5 c = search needs
@@ -48,10 +45,10 @@ mul-if5 : tie.Need-mul-if5
 mul-if5 c = search needs
 
 shared-slice-read-if5 : tie.Need-shared-slice-read-if5
-shared-slice-read-if5 c = omega (arith, row-inside (c .before .before .before .before .before .before .before .before .before .before .before .before .before .args .cells .now) (c .before .before .before .before .before .before .before .before .before .before .before .before .before .args .limits .now) (c .before .before .before .before .before .before .before .before .before .before .before .before .before .args .largest .now) (c .before .before .before .before .before .before .before .before .before .before .before .before .before .pre .0) (c .before .before .before .before .before .before .before .before .before .instruction-of .result) (c .before .before .before .before .before .before .before .before .if1 .left) (c .before .before .before .before .before .before .before .if2 .left))
+shared-slice-read-if5 c = omega (arith, row-inside (blocksBy (c .before .before .before .before .before .before .before .before .before .args .largest .now)) (c .before .before .before .before .before .before .before .before .before .args .limits .now) (c .before .before .before .before .before .before .before .before .before .args .largest .now) (c .before .before .before .before .before .before .before .before .before .pre) (c .before .before .before .before .before .before .before .before .before .args .x) (c .before .before .before .before .before .before .before .before .if1 .left) (c .before .before .before .before .before .before .before .if2 .left))
 
 returns-5 : tie.Need-returns-5
-returns-5 c = sym (ap (laidOut (blockCount (c .before .before .before .before .before .before .before .before .before .before .before .before .before .before .args .cells .now))) (sym (c .before .before .before .before .before .before .before .before .before .before .instruction-of .ensures)) ∙ below-kind (c .before .before .before .before .before .before .before .before .before .before .before .before .before .before .args .cells .now) (c .before .before .before .before .before .before .before .before .before .before .before .before .before .before .args .limits .now) (c .before .before .before .before .before .before .before .before .before .before .before .before .before .before .args .largest .now) (c .before .before .before .before .before .before .before .before .before .before .before .before .before .before .pre .0) (c .before .before .before .before .before .before .before .before .before .before .instruction-of .result) (c .before .before .before .before .before .before .before .before .before .if1 .left) (c .before .before .before .before .before .before .before .before .if2 .left) (c .before .before .before .before .before .if3 .left) (c .before .before .if4 .left) (c .if5 .taken))
+returns-5 c = sym (below-kind (blocksBy (c .before .before .before .before .before .before .before .before .before .before .args .largest .now)) (c .before .before .before .before .before .before .before .before .before .before .args .limits .now) (c .before .before .before .before .before .before .before .before .before .before .args .largest .now) (c .before .before .before .before .before .before .before .before .before .before .pre) (c .before .before .before .before .before .before .before .before .before .before .args .x) (c .before .before .before .before .before .before .before .before .before .if1 .left) (c .before .before .before .before .before .before .before .before .if2 .left) (c .before .before .before .before .before .if3 .left) (c .before .before .if4 .left) (c .if5 .taken))
 
 add-if6 : tie.Need-add-if6
 add-if6 c = search needs
@@ -60,25 +57,24 @@ mul-if6 : tie.Need-mul-if6
 mul-if6 c = search needs
 
 shared-slice-read-if6 : tie.Need-shared-slice-read-if6
-shared-slice-read-if6 c = omega (arith, row-inside (c .before .before .before .before .before .before .before .before .before .before .before .before .before .before .before .args .cells .now) (c .before .before .before .before .before .before .before .before .before .before .before .before .before .before .before .args .limits .now) (c .before .before .before .before .before .before .before .before .before .before .before .before .before .before .before .args .largest .now) (c .before .before .before .before .before .before .before .before .before .before .before .before .before .before .before .pre .0) (c .before .before .before .before .before .before .before .before .before .before .before .instruction-of .result) (c .before .before .before .before .before .before .before .before .before .before .if1 .left) (c .before .before .before .before .before .before .before .before .before .if2 .left))
+shared-slice-read-if6 c = omega (arith, row-inside (blocksBy (c .before .before .before .before .before .before .before .before .before .before .before .args .largest .now)) (c .before .before .before .before .before .before .before .before .before .before .before .args .limits .now) (c .before .before .before .before .before .before .before .before .before .before .before .args .largest .now) (c .before .before .before .before .before .before .before .before .before .before .before .pre) (c .before .before .before .before .before .before .before .before .before .before .before .args .x) (c .before .before .before .before .before .before .before .before .before .before .if1 .left) (c .before .before .before .before .before .before .before .before .before .if2 .left))
 
 returns-6 : tie.Need-returns-6
-returns-6 c = sym (ap (laidOut (blockCount (c .before .before .before .before .before .before .before .before .before .before .before .before .before .before .before .before .args .cells .now))) (sym (c .before .before .before .before .before .before .before .before .before .before .before .before .instruction-of .ensures)) ∙ beyond-kind (c .before .before .before .before .before .before .before .before .before .before .before .before .before .before .before .before .args .cells .now) (c .before .before .before .before .before .before .before .before .before .before .before .before .before .before .before .before .args .limits .now) (c .before .before .before .before .before .before .before .before .before .before .before .before .before .before .before .before .args .largest .now) (c .before .before .before .before .before .before .before .before .before .before .before .before .before .before .before .before .pre .0) (c .before .before .before .before .before .before .before .before .before .before .before .before .instruction-of .result) (c .before .before .before .before .before .before .before .before .before .before .before .if1 .left) (c .before .before .before .before .before .before .before .before .before .before .if2 .left) (c .before .before .before .before .before .before .before .if3 .left) (c .before .before .before .before .if4 .left) (c .if6 .taken))
+returns-6 c = sym (beyond-kind (blocksBy (c .before .before .before .before .before .before .before .before .before .before .before .before .args .largest .now)) (c .before .before .before .before .before .before .before .before .before .before .before .before .args .limits .now) (c .before .before .before .before .before .before .before .before .before .before .before .before .args .largest .now) (c .before .before .before .before .before .before .before .before .before .before .before .before .pre) (c .before .before .before .before .before .before .before .before .before .before .before .before .args .x) (c .before .before .before .before .before .before .before .before .before .before .before .if1 .left) (c .before .before .before .before .before .before .before .before .before .before .if2 .left) (c .before .before .before .before .before .before .before .if3 .left) (c .before .before .before .before .if4 .left) (c .if6 .taken))
 
 mul-result : tie.Need-mul-result
-mul-result c = omega (arith, kind-known (c .before .before .before .before .before .before .before .before .before .before .before .before .before .before .before .before .args .cells .now) (c .before .before .before .before .before .before .before .before .before .before .before .before .before .before .before .before .args .limits .now) (c .before .before .before .before .before .before .before .before .before .before .before .before .before .before .before .before .args .largest .now) (c .before .before .before .before .before .before .before .before .before .before .before .before .before .before .before .before .pre .0) (c .before .before .before .before .before .before .before .before .before .before .before .before .instruction-of .result) (c .before .before .before .before .before .before .before .before .before .before .before .if1 .left) (c .before .before .before .before .before .before .before .before .before .before .if2 .left) (c .if6 .left))
+mul-result c = omega (arith, kind-known (blocksBy (c .before .before .before .before .before .before .before .before .before .before .before .before .args .largest .now)) (c .before .before .before .before .before .before .before .before .before .before .before .before .args .limits .now) (c .before .before .before .before .before .before .before .before .before .before .before .before .args .largest .now) (c .before .before .before .before .before .before .before .before .before .before .before .before .pre) (c .before .before .before .before .before .before .before .before .before .before .before .before .args .x) (c .before .before .before .before .before .before .before .before .before .before .before .if1 .left) (c .before .before .before .before .before .before .before .before .before .before .if2 .left) (c .if6 .left))
 
 shared-slice-read-result : tie.Need-shared-slice-read-result
-shared-slice-read-result c = omega (arith, kind-known (c .before .before .before .before .before .before .before .before .before .before .before .before .before .before .before .before .before .args .cells .now) (c .before .before .before .before .before .before .before .before .before .before .before .before .before .before .before .before .before .args .limits .now) (c .before .before .before .before .before .before .before .before .before .before .before .before .before .before .before .before .before .args .largest .now) (c .before .before .before .before .before .before .before .before .before .before .before .before .before .before .before .before .before .pre .0) (c .before .before .before .before .before .before .before .before .before .before .before .before .before .instruction-of .result) (c .before .before .before .before .before .before .before .before .before .before .before .before .if1 .left) (c .before .before .before .before .before .before .before .before .before .before .before .if2 .left) (c .before .if6 .left), four-largest (c .before .before .before .before .before .before .before .before .before .before .before .before .before .before .before .before .before .args .cells .now) (c .before .before .before .before .before .before .before .before .before .before .before .before .before .before .before .before .before .args .limits .now) (c .before .before .before .before .before .before .before .before .before .before .before .before .before .before .before .before .before .args .largest .now) (c .before .before .before .before .before .before .before .before .before .before .before .before .before .before .before .before .before .pre .0) (c .before .before .before .before .before .before .before .before .before .before .before .before .before .instruction-of .result) (c .before .before .before .before .before .before .before .before .before .before .before .before .if1 .left) (c .before .before .before .before .before .before .before .before .before .before .before .if2 .left))
+shared-slice-read-result c = omega (arith, kind-known (blocksBy (c .before .before .before .before .before .before .before .before .before .before .before .before .before .args .largest .now)) (c .before .before .before .before .before .before .before .before .before .before .before .before .before .args .limits .now) (c .before .before .before .before .before .before .before .before .before .before .before .before .before .args .largest .now) (c .before .before .before .before .before .before .before .before .before .before .before .before .before .pre) (c .before .before .before .before .before .before .before .before .before .before .before .before .before .args .x) (c .before .before .before .before .before .before .before .before .before .before .before .before .if1 .left) (c .before .before .before .before .before .before .before .before .before .before .before .if2 .left) (c .before .if6 .left), four-largest (blocksBy (c .before .before .before .before .before .before .before .before .before .before .before .before .before .args .largest .now)) (c .before .before .before .before .before .before .before .before .before .before .before .before .before .args .limits .now) (c .before .before .before .before .before .before .before .before .before .before .before .before .before .args .largest .now) (c .before .before .before .before .before .before .before .before .before .before .before .before .before .pre) (c .before .before .before .before .before .before .before .before .before .before .before .before .before .args .x) (c .before .before .before .before .before .before .before .before .before .before .before .before .if1 .left) (c .before .before .before .before .before .before .before .before .before .before .before .if2 .left))
 
 returns-7 : tie.Need-returns-7
-returns-7 c = sym (ap (laidOut (blockCount (c .before .before .before .before .before .before .before .before .before .before .before .before .before .before .before .before .before .before .args .cells .now))) (sym (c .before .before .before .before .before .before .before .before .before .before .before .before .before .before .instruction-of .ensures)) ∙ operand-decides (c .before .before .before .before .before .before .before .before .before .before .before .before .before .before .before .before .before .before .args .cells .now) (c .before .before .before .before .before .before .before .before .before .before .before .before .before .before .before .before .before .before .args .limits .now) (c .before .before .before .before .before .before .before .before .before .before .before .before .before .before .before .before .before .before .args .largest .now) (c .before .before .before .before .before .before .before .before .before .before .before .before .before .before .before .before .before .before .pre .0) (c .before .before .before .before .before .before .before .before .before .before .before .before .before .before .instruction-of .result) (c .before .before .before .before .before .before .before .before .before .before .before .before .before .if1 .left) (c .before .before .before .before .before .before .before .before .before .before .before .before .if2 .left) (c .before .before .before .before .before .before .before .before .before .if3 .left) (c .before .before .before .before .before .before .if4 .left) (c .before .before .before .before .if5 .left) (c .before .before .if6 .left) (omega arith))
+returns-7 c = sym (operand-decides (blocksBy (c .before .before .before .before .before .before .before .before .before .before .before .before .before .before .args .largest .now)) (c .before .before .before .before .before .before .before .before .before .before .before .before .before .before .args .limits .now) (c .before .before .before .before .before .before .before .before .before .before .before .before .before .before .args .largest .now) (c .before .before .before .before .before .before .before .before .before .before .before .before .before .before .pre) (c .before .before .before .before .before .before .before .before .before .before .before .before .before .before .args .x) (c .before .before .before .before .before .before .before .before .before .before .before .before .before .if1 .left) (c .before .before .before .before .before .before .before .before .before .before .before .before .if2 .left) (c .before .before .before .before .before .before .before .before .before .if3 .left) (c .before .before .before .before .before .before .if4 .left) (c .before .before .before .before .if5 .left) (c .before .before .if6 .left) (omega arith))
 
 pub is-laid-out-spec : {M : Type 1} → statement M
 is-laid-out-spec =
     tie.close
     (tie.spec
-    instruction-of-requires
     returns
     returns-2
     mul-row

@@ -1,11 +1,15 @@
--- `encode` meets its contract.
-use mathlib.Core.Path.{_∙_}
-use Rattle.image.proofs.Counts.{counted}
-use Rattle.image.proofs.Counts.{two-cells}
-use Rattle.image.proofs.Written.{encoded}
+use mathlib.Core.Path.{_≡_, refl, sym, ap, ap₂, _∙_}
 use native.Mathlib.Omega.{arith}
+use Rattle.image.proofs.Counts.{counted, two-cells}
+use Rattle.image.proofs.Written.{encoded}
+use borrow.Author.Needs.{needs}
 use Rattle.image.proofs.writer.encode.Statement.{statement}
 use Rattle.image.proofs.writer.encode.Tie as tie
+use Rattle.image.proofs.writer.encode.Reads as reads
+use Rattle.image.proofs.writer.encode.Lts as lts
+use Rattle.image.proofs.writer.encode_blocks.Reads as encode-blocks-reads
+use Rattle.image.proofs.writer.encode_header.Reads as encode-header-reads
+use Rattle.image.proofs.writer.encode_instructions.Reads as encode-instructions-reads
 
 encode-header-requires : tie.Need-encode-header-requires
 encode-header-requires c κs = let k = counted _ _ (c .before .before .before .pre .1) in (two-cells (c .before .before .before .args .cells .now) (c .before .before .before .pre .1), omega arith)
@@ -14,13 +18,13 @@ encode-blocks-requires : tie.Need-encode-blocks-requires
 encode-blocks-requires c κs = let k = counted _ _ (c .before .before .before .before .before .before .before .pre .1) in (c .before .before .before .before .before .before .before .pre .0, k .blocks-fit, omega (arith, c .before .before .before .encode-header .kept .1 .0))
 
 encode-instructions-requires : tie.Need-encode-instructions-requires
-encode-instructions-requires c κs = let k = counted _ _ (c .before .before .before .before .before .before .before .before .before .before .before .pre .1) in (c .before .before .before .before .before .before .before .before .before .before .before .pre .0, k .instructions-fit, c .before .before .before .encode-blocks .kept .1 .0 ∙ c .before .before .before .before .before .before .before .encode-header .kept .1 .0 ∙ c .before .before .before .before .before .before .before .before .before .before .before .pre .2)
+encode-instructions-requires c κs = let k = counted _ _ (c .before .before .before .before .before .before .before .before .before .before .before .pre .1) in (c .before .before .before .before .before .before .before .before .before .before .before .pre .0, k .instructions-fit, c .before .before .before .encode-blocks .ensures .0, c .before .before .before .encode-blocks .kept .1 .0 ∙ c .before .before .before .before .before .before .before .encode-header .kept .1 .0 ∙ c .before .before .before .before .before .before .before .before .before .before .before .pre .2)
 
 same-length : tie.Need-same-length
-same-length c = c .before .before .encode-instructions .kept .1 .0 ∙ c .before .before .before .before .before .before .encode-blocks .kept .1 .0 ∙ c .before .before .before .before .before .before .before .before .before .before .encode-header .kept .1 .0
+same-length c = search needs
 
 returns : tie.Need-returns
-returns c = encoded (c .before .before .before .before .before .before .before .before .before .before .before .before .before .before .args .cells .now) (c .before .before .before .before .before .before .before .before .before .before .before .before .before .before .args .image .now) _ _ _ (c .before .before .before .before .before .before .before .before .before .before .encode-header .ensures) (c .before .before .before .before .before .before .encode-blocks .ensures) (c .before .before .encode-instructions .ensures) (c .before .before .before .before .before .before .before .before .before .before .before .before .before .before .pre .2)
+returns c = encoded (c .before .before .before .before .before .before .before .before .before .before .before .before .before .before .args .cells .now) (c .before .before .before .before .before .before .before .before .before .before .before .before .before .before .args .image .now) _ _ _ (c .before .before .before .before .before .before .before .before .before .before .encode-header .ensures) (c .before .before .before .before .before .before .encode-blocks .ensures .1) (c .before .before .encode-instructions .ensures .1) (c .before .before .before .before .before .before .before .before .before .before .before .before .before .before .pre .2)
 
 pub encode-spec : {M : Type 1} → statement M
 encode-spec =

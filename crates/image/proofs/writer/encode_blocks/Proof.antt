@@ -1,40 +1,43 @@
--- `encode_blocks` meets its contract.
-use mathlib.Core.Path.{_≡_, refl, ap, _∙_}
+use mathlib.Core.Path.{_≡_, refl, sym, ap, ap₂, _∙_}
 use Prim.Native.Nat.{ℕ, _+_, _-_, _*_, _≤_}
 use lib.ListN.{length}
 use lib.Seq.{sets}
-use Rattle.image.specs.declared.Block.{Block}
-use Rattle.image.proofs.Rows.{row-placed}
-use Rattle.int64.specs.Little.{bytesOf}
-use Rattle.image.specs.Layout.{rows, blockCount, blockOf, blockBytes}
 use native.Mathlib.Omega.{arith}
+use Rattle.int64.specs.Little.{bytesOf}
+use Rattle.image.specs.declared.Block.{Block}
+use Rattle.image.specs.Layout.{rows, blockPlace, instructionPlace, blockCount, instructionCount, blockFrom, blockOf, blockBytes}
+use Rattle.image.proofs.Rows.{row-placed}
 use Rattle.image.proofs.writer.encode_blocks.Statement.{statement}
 use Rattle.image.proofs.writer.encode_blocks.Tie as tie
+use Rattle.image.proofs.writer.encode_blocks.Reads as reads
+use Rattle.image.proofs.writer.encode_blocks.Lts as lts
+use Rattle.image.proofs.layout.block_from.Reads as block-from-reads
+use Rattle.image.proofs.layout.put_block_bytes.Reads as put-block-bytes-reads
 
 abbrev Inv-loop : tie.InvT-loop
-Inv-loop cells image₀ blocks b₀ image b = (b ≤ blockCount cells) × (length image ≡ length image₀) × (image ≡ sets image₀ 8 (rows (λ (b : ℕ). blockBytes (blockOf cells b)) b))
+Inv-loop cells image₀ blocks at₀ from₀ b₀ image at from b = (b ≤ blockCount cells) × (at ≡ 8 + 10 * b) × (from ≡ 2 + 6 * b) × (length image ≡ length image₀) × (image ≡ sets image₀ (8) (rows (λ (b : ℕ). blockBytes (blockOf cells b)) b))
 
 abbrev μ-loop : tie.MeasureT-loop
-μ-loop cells image₀ blocks b₀ image b = blockCount cells - b
+μ-loop cells image₀ blocks at₀ from₀ b₀ image at from b = blockCount cells - b
 
 shared-slice-read-blocks : tie.Need-shared-slice-read-blocks Inv-loop μ-loop
 shared-slice-read-blocks c = omega arith
 
 loop-holds : tie.Need-loop-holds Inv-loop μ-loop
 unfolding rows
-loop-holds c = (omega arith, refl, refl)
+loop-holds c = (omega arith, refl, refl, refl, refl)
 
-block-of-requires : tie.Need-block-of-requires Inv-loop μ-loop
-block-of-requires c κs = omega arith
-
-mul-put-block-bytes : tie.Need-mul-put-block-bytes Inv-loop μ-loop
-mul-put-block-bytes c = omega arith
-
-add-put-block-bytes : tie.Need-add-put-block-bytes Inv-loop μ-loop
-add-put-block-bytes c = omega arith
+block-from-requires : tie.Need-block-from-requires Inv-loop μ-loop
+block-from-requires c κs = omega (arith, c .before .loop .inv .2)
 
 put-block-bytes-requires : tie.Need-put-block-bytes-requires Inv-loop μ-loop
-put-block-bytes-requires c κs = omega arith
+put-block-bytes-requires c κs = omega (arith, c .before .before .before .loop .inv .1, c .before .before .before .loop .inv .3)
+
+add-at : tie.Need-add-at Inv-loop μ-loop
+add-at c = omega (arith, c .before .before .before .before .before .before .loop .inv .1)
+
+add-from : tie.Need-add-from Inv-loop μ-loop
+add-from c = omega (arith, c .before .before .before .before .before .before .loop .inv .2)
 
 add-b : tie.Need-add-b Inv-loop μ-loop
 add-b c = omega arith
@@ -44,13 +47,13 @@ loop-less c = omega arith
 
 loop-again : tie.Need-loop-again Inv-loop μ-loop
 unfolding bytesOf
-loop-again c = (omega arith, c .before .before .put-block-bytes .kept .0 ∙ c .before .before .before .before .before .before .loop .inv .1, row-placed (λ (b : ℕ). blockBytes (blockOf (c .before .before .before .before .before .before .before .before .before .before .args .cells .now) b)) 10 (λ b. refl) _ (c .before .before .before .before .before .before .loop .image) _ 8 (c .before .before .before .before .before .before .loop .b) (c .before .before .before .before .before .before .loop .inv .2) (c .before .before .put-block-bytes .ensures ∙ ap (λ (k : Block). sets (c .before .before .before .before .before .before .loop .image) (8 + 10 * c .before .before .before .before .before .before .loop .b) (blockBytes k)) (c .before .before .before .before .block-of .ensures)))
+loop-again c = (omega arith, omega (arith, c .before .before .before .before .before .before .loop .inv .1), omega (arith, c .before .before .before .before .before .before .loop .inv .2), c .before .before .put-block-bytes .kept .0 ∙ c .before .before .before .before .before .before .loop .inv .3, row-placed (λ (b : ℕ). blockBytes (blockOf (c .before .before .before .before .before .before .before .before .before .before .args .cells .now) b)) 10 (λ b. refl) _ (c .before .before .before .before .before .before .loop .image) _ (8) (c .before .before .before .before .before .before .loop .b) (c .before .before .before .before .before .before .loop .inv .4) (c .before .before .put-block-bytes .ensures ∙ ap₂ (λ (n : ℕ) (k : Block). sets (c .before .before .before .before .before .before .loop .image) n (blockBytes k)) (c .before .before .before .before .before .before .loop .inv .1) (c .before .before .before .before .block-from .ensures ∙ ap (blockFrom (c .before .before .before .before .before .before .before .before .before .before .args .cells .now)) (c .before .before .before .before .before .before .loop .inv .2))))
 
 same-length : tie.Need-same-length Inv-loop μ-loop
-same-length c = c .before .loop .inv .1
+same-length c = c .before .loop .inv .3
 
 returns : tie.Need-returns Inv-loop μ-loop
-returns c = c .before .loop .inv .2 ∙ ap (λ (n : ℕ). sets (c .before .before .before .before .before .args .image .now) 8 (rows (λ (b : ℕ). blockBytes (blockOf (c .before .before .before .before .before .args .cells .now) b)) n)) (omega arith)
+returns c = let all : c .before .loop .b ≡ blockCount (c .before .before .before .before .before .args .cells .now) = omega arith in (omega (arith, c .before .loop .inv .1), c .before .loop .inv .4 ∙ ap (λ (n : ℕ). sets (c .before .before .before .before .before .args .image .now) (8) (rows (λ (b : ℕ). blockBytes (blockOf (c .before .before .before .before .before .args .cells .now) b)) n)) all)
 
 pub encode-blocks-spec : {M : Type 1} → statement M
 encode-blocks-spec =
@@ -60,10 +63,10 @@ encode-blocks-spec =
     μ-loop
     shared-slice-read-blocks
     loop-holds
-    block-of-requires
-    mul-put-block-bytes
-    add-put-block-bytes
+    block-from-requires
     put-block-bytes-requires
+    add-at
+    add-from
     add-b
     loop-less
     loop-again

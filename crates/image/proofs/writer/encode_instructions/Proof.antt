@@ -1,49 +1,43 @@
--- `encode_instructions` meets its contract.
-use mathlib.Core.Path.{_≡_, refl, ap, _∙_}
+use mathlib.Core.Path.{_≡_, refl, sym, ap, ap₂, _∙_}
 use Prim.Native.Nat.{ℕ, _+_, _-_, _*_, _≤_}
 use lib.ListN.{length}
 use lib.Seq.{sets}
-use Rattle.image.specs.declared.Instruction.{Instruction}
-use Rattle.image.proofs.Rows.{row-placed}
-use Rattle.int64.specs.Little.{bytesOf}
-use Rattle.image.specs.Layout.{rows, blockCount, instructionCount, instructionOf, instructionBytes}
 use native.Mathlib.Omega.{arith}
+use Rattle.int64.specs.Little.{bytesOf}
+use Rattle.image.specs.declared.Instruction.{Instruction}
+use Rattle.image.specs.Layout.{rows, blockPlace, instructionPlace, blockCount, instructionCount, instructionFrom, instructionOf, instructionBytes}
+use Rattle.image.proofs.Rows.{row-placed}
 use Rattle.image.proofs.writer.encode_instructions.Statement.{statement}
 use Rattle.image.proofs.writer.encode_instructions.Tie as tie
+use Rattle.image.proofs.writer.encode_instructions.Reads as reads
+use Rattle.image.proofs.writer.encode_instructions.Lts as lts
+use Rattle.image.proofs.layout.instruction_from.Reads as instruction-from-reads
+use Rattle.image.proofs.layout.put_instruction_bytes.Reads as put-instruction-bytes-reads
 
 abbrev Inv-loop : tie.InvT-loop
-Inv-loop cells image₀ start instructions i₀ image i = (i ≤ instructionCount cells) × (length image ≡ length image₀) × (image ≡ sets image₀ (8 + 10 * blockCount cells) (rows (λ (i : ℕ). instructionBytes (instructionOf cells i)) i))
+Inv-loop cells start image₀ instructions at₀ from₀ i₀ image at from i = (i ≤ instructionCount cells) × (at ≡ blockPlace (blockCount cells) + 12 * i) × (from ≡ 770 + 5 * i) × (length image ≡ length image₀) × (image ≡ sets image₀ (blockPlace (blockCount cells)) (rows (λ (i : ℕ). instructionBytes (instructionOf cells i)) i))
 
 abbrev μ-loop : tie.MeasureT-loop
-μ-loop cells image₀ start instructions i₀ image i = instructionCount cells - i
-
-shared-slice-read-start : tie.Need-shared-slice-read-start Inv-loop μ-loop
-shared-slice-read-start c = omega arith
-
-mul-start : tie.Need-mul-start Inv-loop μ-loop
-mul-start c = omega arith
-
-add-start : tie.Need-add-start Inv-loop μ-loop
-add-start c = omega arith
+μ-loop cells start image₀ instructions at₀ from₀ i₀ image at from i = instructionCount cells - i
 
 shared-slice-read-instructions : tie.Need-shared-slice-read-instructions Inv-loop μ-loop
 shared-slice-read-instructions c = omega arith
 
 loop-holds : tie.Need-loop-holds Inv-loop μ-loop
 unfolding rows
-loop-holds c = (omega arith, refl, refl)
+loop-holds c = (omega arith, omega (arith, c .before .before .before .pre .2), refl, refl, refl)
 
-instruction-of-requires : tie.Need-instruction-of-requires Inv-loop μ-loop
-instruction-of-requires c κs = omega arith
-
-mul-put-instruction-bytes : tie.Need-mul-put-instruction-bytes Inv-loop μ-loop
-mul-put-instruction-bytes c = omega arith
-
-add-put-instruction-bytes : tie.Need-add-put-instruction-bytes Inv-loop μ-loop
-add-put-instruction-bytes c = omega arith
+instruction-from-requires : tie.Need-instruction-from-requires Inv-loop μ-loop
+instruction-from-requires c κs = omega (arith, c .before .loop .inv .2)
 
 put-instruction-bytes-requires : tie.Need-put-instruction-bytes-requires Inv-loop μ-loop
-put-instruction-bytes-requires c κs = omega arith
+put-instruction-bytes-requires c κs = omega (arith, c .before .before .before .loop .inv .1, c .before .before .before .loop .inv .3)
+
+add-at : tie.Need-add-at Inv-loop μ-loop
+add-at c = omega (arith, c .before .before .before .before .before .before .loop .inv .1)
+
+add-from : tie.Need-add-from Inv-loop μ-loop
+add-from c = omega (arith, c .before .before .before .before .before .before .loop .inv .2)
 
 add-i : tie.Need-add-i Inv-loop μ-loop
 add-i c = omega arith
@@ -53,13 +47,13 @@ loop-less c = omega arith
 
 loop-again : tie.Need-loop-again Inv-loop μ-loop
 unfolding bytesOf
-loop-again c = (omega arith, c .before .before .put-instruction-bytes .kept .0 ∙ c .before .before .before .before .before .before .loop .inv .1, row-placed (λ (i : ℕ). instructionBytes (instructionOf (c .before .before .before .before .before .before .before .before .before .before .before .args .cells .now) i)) 12 (λ i. refl) _ (c .before .before .before .before .before .before .loop .image) _ (8 + 10 * blockCount (c .before .before .before .before .before .before .before .before .before .before .before .args .cells .now)) (c .before .before .before .before .before .before .loop .i) (c .before .before .before .before .before .before .loop .inv .2) (c .before .before .put-instruction-bytes .ensures ∙ ap (λ (x : Instruction). sets (c .before .before .before .before .before .before .loop .image) ((8 + 10 * blockCount (c .before .before .before .before .before .before .before .before .before .before .before .args .cells .now)) + 12 * c .before .before .before .before .before .before .loop .i) (instructionBytes x)) (c .before .before .before .before .instruction-of .ensures)))
+loop-again c = (omega arith, omega (arith, c .before .before .before .before .before .before .loop .inv .1), omega (arith, c .before .before .before .before .before .before .loop .inv .2), c .before .before .put-instruction-bytes .kept .0 ∙ c .before .before .before .before .before .before .loop .inv .3, row-placed (λ (i : ℕ). instructionBytes (instructionOf (c .before .before .before .before .before .before .before .before .before .before .args .cells .now) i)) 12 (λ i. refl) _ (c .before .before .before .before .before .before .loop .image) _ (blockPlace (blockCount (c .before .before .before .before .before .before .before .before .before .before .args .cells .now))) (c .before .before .before .before .before .before .loop .i) (c .before .before .before .before .before .before .loop .inv .4) (c .before .before .put-instruction-bytes .ensures ∙ ap₂ (λ (n : ℕ) (k : Instruction). sets (c .before .before .before .before .before .before .loop .image) n (instructionBytes k)) (c .before .before .before .before .before .before .loop .inv .1) (c .before .before .before .before .instruction-from .ensures ∙ ap (instructionFrom (c .before .before .before .before .before .before .before .before .before .before .args .cells .now)) (c .before .before .before .before .before .before .loop .inv .2))))
 
 same-length : tie.Need-same-length Inv-loop μ-loop
-same-length c = c .before .loop .inv .1
+same-length c = c .before .loop .inv .3
 
 returns : tie.Need-returns Inv-loop μ-loop
-returns c = c .before .loop .inv .2 ∙ ap (λ (n : ℕ). sets (c .before .before .before .before .before .before .args .image .now) (8 + 10 * blockCount (c .before .before .before .before .before .before .args .cells .now)) (rows (λ (i : ℕ). instructionBytes (instructionOf (c .before .before .before .before .before .before .args .cells .now) i)) n)) (omega arith)
+returns c = let all : c .before .loop .i ≡ instructionCount (c .before .before .before .before .before .args .cells .now) = omega arith in (omega (arith, c .before .loop .inv .1), c .before .loop .inv .4 ∙ ap (λ (n : ℕ). sets (c .before .before .before .before .before .args .image .now) (blockPlace (blockCount (c .before .before .before .before .before .args .cells .now))) (rows (λ (i : ℕ). instructionBytes (instructionOf (c .before .before .before .before .before .args .cells .now) i)) n)) all)
 
 pub encode-instructions-spec : {M : Type 1} → statement M
 encode-instructions-spec =
@@ -67,15 +61,12 @@ encode-instructions-spec =
     (tie.spec
     Inv-loop
     μ-loop
-    shared-slice-read-start
-    mul-start
-    add-start
     shared-slice-read-instructions
     loop-holds
-    instruction-of-requires
-    mul-put-instruction-bytes
-    add-put-instruction-bytes
+    instruction-from-requires
     put-instruction-bytes-requires
+    add-at
+    add-from
     add-i
     loop-less
     loop-again

@@ -1,0 +1,35 @@
+use mathlib.Core.Path.{_≡_, sym, ap, ap₂, _∙_}
+use native.Mathlib.Omega.{arith}
+use Rattle.int64.specs.Little.{bytesOf}
+use Rattle.image.proofs.FourBytes.{four-joined}
+use borrow.Author.Needs.{needs}
+use Rattle.image.proofs.layout.four_bytes.Statement.{statement}
+use Rattle.image.proofs.layout.four_bytes.Tie as tie
+use Rattle.image.proofs.layout.four_bytes.Reads as reads
+use Rattle.image.proofs.layout.four_bytes.Lts as lts
+
+mul-result : tie.Need-mul-result
+mul-result c = search needs
+
+add-result : tie.Need-add-result
+add-result c = search needs
+
+mul-result-2 : tie.Need-mul-result-2
+mul-result-2 c = search needs
+
+add-result-2 : tie.Need-add-result-2
+add-result-2 c = search needs
+
+mul-result-3 : tie.Need-mul-result-3
+mul-result-3 c = search needs
+
+add-result-3 : tie.Need-add-result-3
+add-result-3 c = search needs
+
+returns : tie.Need-returns
+returns c = four-joined (c .args .a) (c .args .b) (c .args .c) (c .args .d)
+
+pub four-bytes-spec : {M : Type 1} → statement M
+four-bytes-spec =
+    tie.close
+    (tie.spec mul-result add-result mul-result-2 add-result-2 mul-result-3 add-result-3 returns)

@@ -1,0 +1,47 @@
+use mathlib.Core.Path.{_≡_, refl, sym, ap, ap₂, _∙_}
+use Prim.Native.Nat.{ℕ, _+_, _<_}
+use native.Mathlib.Omega.{arith}
+use lib.ListN.{getD}
+use Rattle.image.specs.Layout.{blocksIn, instructionsIn, instructionCount, instructionIn, cellsIn}
+use Rattle.image.specs.Questions.{lastInBlock, instructionRecordNo}
+use Rattle.image.proofs.Counts.{counted}
+use Rattle.image.proofs.Header.{header, instruction-asked, cells-in-instructions}
+use Rattle.image.proofs.Marking.{mark-told}
+use Rattle.image.proofs.Limiting.{limited-by, asked-by}
+use borrow.Author.Needs.{needs}
+use Rattle.image.proofs.reader.ask_instruction_in.Statement.{statement}
+use Rattle.image.proofs.reader.ask_instruction_in.Tie as tie
+use Rattle.image.proofs.reader.ask_instruction_in.Reads as reads
+use Rattle.image.proofs.reader.ask_instruction_in.Lts as lts
+use Rattle.image.proofs.layout.instruction_in.Reads as instruction-in-reads
+use Rattle.image.proofs.questions.ask_instruction.Reads as ask-instruction-reads
+
+instruction-in-requires : tie.Need-instruction-in-requires
+instruction-in-requires c κs = omega (arith, header (c .before .before .before .before .args .image .now) (c .before .before .before .before .pre .0) .size)
+
+add-ask-instruction : tie.Need-add-ask-instruction
+add-ask-instruction c = let k = counted _ _ (header (c .before .before .before .before .before .args .image .now) (c .before .before .before .before .before .pre .0) .counts) in omega arith
+
+shared-slice-read-ask-instruction : tie.Need-shared-slice-read-ask-instruction
+shared-slice-read-ask-instruction c = let k = counted _ _ (header (c .before .before .before .before .before .before .args .image .now) (c .before .before .before .before .before .before .pre .0) .counts) in omega (arith, c .before .before .before .before .before .before .pre .2 .sized, c .before .before .before .before .before .before .pre .3)
+
+ask-instruction-requires : tie.Need-ask-instruction-requires
+ask-instruction-requires c κs = (limited-by (blocksIn (c .before .before .before .before .before .before .args .image .now)) (c .before .before .before .before .before .before .args .limits .now) (c .before .before .before .before .before .before .args .largest .now) (c .before .before .before .before .before .before .pre .1), mark-told (lastInBlock (cellsIn (c .before .before .before .before .before .before .args .image .now)) (c .before .before .before .before .before .before .args .i)) (getD (c .before .before .before .before .before .before .args .marks .now) (c .before .before .before .before .before .before .args .i + 1) 0) (c .before .before .before .before .before .before .pre .2 .ended (c .before .before .before .before .before .before .args .i) (omega (arith, c .before .before .before .before .before .before .pre .3, cells-in-instructions (c .before .before .before .before .before .before .args .image .now)))) .1)
+
+returns : tie.Need-returns
+returns c = let image = c .before .before .before .before .before .before .before .args .image .now in
+    let i = c .before .before .before .before .before .before .before .args .i in
+    c .ask-instruction .ensures
+    ∙ asked-by (cellsIn image) (c .before .before .before .before .before .before .before .args .marks .now) (blocksIn image) (c .before .before .before .before .before .before .before .args .limits .now) (c .before .before .before .before .before .before .before .args .largest .now) (c .before .before .before .before .before .before .before .pre .1) (c .before .before .before .before .before .before .before .pre .2) i (omega (arith, c .before .before .before .before .before .before .before .pre .3, cells-in-instructions image)) (c .before .before .instruction-in .result)
+    ∙ ap (instructionRecordNo (blocksIn image) (lastInBlock (cellsIn image) i)) (c .before .before .instruction-in .ensures ∙ ap (instructionIn image) (c .before .before .before .before .before .before .before .pre .4))
+    ∙ instruction-asked image (header image (c .before .before .before .before .before .before .before .pre .0)) i (c .before .before .before .before .before .before .before .pre .3)
+
+pub ask-instruction-in-spec : {M : Type 1} → statement M
+ask-instruction-in-spec =
+    tie.close
+    (tie.spec
+    instruction-in-requires
+    add-ask-instruction
+    shared-slice-read-ask-instruction
+    ask-instruction-requires
+    returns)

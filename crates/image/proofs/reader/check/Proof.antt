@@ -1,0 +1,20 @@
+use mathlib.Core.Path.{_≡_, refl, sym, ap, ap₂, _∙_}
+use Rattle.image.proofs.Booleans.{clash}
+use borrow.Author.Needs.{needs}
+use Rattle.image.proofs.reader.check.Statement.{statement}
+use Rattle.image.proofs.reader.check.Tie as tie
+use Rattle.image.proofs.reader.check.Reads as reads
+use Rattle.image.proofs.reader.check.Lts as lts
+use Rattle.image.proofs.reader.walk.Reads as walk-reads
+
+slice-aggregate-walk : tie.Need-slice-aggregate-walk
+slice-aggregate-walk c = search needs
+
+walk-requires : tie.Need-walk-requires
+walk-requires c κs = λ t. clash t refl
+
+returns : tie.Need-returns
+returns c = search needs
+
+pub check-spec : {M : Type 1} → statement M
+check-spec = tie.close (tie.spec slice-aggregate-walk walk-requires returns)

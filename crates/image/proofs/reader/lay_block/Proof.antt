@@ -1,0 +1,31 @@
+use mathlib.Core.Path.{_≡_, refl, sym, ap, ap₂, _∙_}
+use mathlib.Core.Bool.{Bool, cond}
+use lib.Seq.{sets}
+use Rattle.image.specs.declared.Block.{Block}
+use Rattle.image.specs.Layout.{blockIn, blockCells}
+use borrow.Author.Needs.{needs}
+use Rattle.image.proofs.reader.lay_block.Statement.{statement}
+use Rattle.image.proofs.reader.lay_block.Tie as tie
+use Rattle.image.proofs.reader.lay_block.Reads as reads
+use Rattle.image.proofs.reader.lay_block.Lts as lts
+use Rattle.image.proofs.layout.block_in.Reads as block-in-reads
+use Rattle.image.proofs.layout.put_block.Reads as put-block-reads
+
+block-in-requires : tie.Need-block-in-requires
+block-in-requires c κs = search needs
+
+put-block-requires : tie.Need-put-block-requires
+put-block-requires c κs = c .before .before .before .before .before .pre .1 (c .before .before .if1 .taken)
+
+same-length : tie.Need-same-length
+same-length c = search needs
+
+returns : tie.Need-returns
+returns c = c .before .before .put-block .ensures ∙ ap (λ (k : Block). sets (c .before .before .before .before .before .before .before .before .args .cells .now) (c .before .before .before .before .before .before .before .before .args .to) (blockCells k)) (c .before .before .before .before .block-in .ensures) ∙ sym (ap (λ (t : Bool). cond t (sets (c .before .before .before .before .before .before .before .before .args .cells .now) (c .before .before .before .before .before .before .before .before .args .to) (blockCells (blockIn (c .before .before .before .before .before .before .before .before .args .image .now) (c .before .before .before .before .before .before .before .before .args .at)))) (c .before .before .before .before .before .before .before .before .args .cells .now)) (c .before .before .before .before .before .if1 .taken))
+
+returns-2 : tie.Need-returns-2
+returns-2 c = search needs
+
+pub lay-block-spec : {M : Type 1} → statement M
+lay-block-spec =
+    tie.close (tie.spec block-in-requires put-block-requires same-length returns returns-2)

@@ -1,0 +1,32 @@
+use mathlib.Core.Path.{_≡_, refl, sym, ap, ap₂, _∙_}
+use mathlib.Core.Bool.{Bool, cond}
+use lib.Seq.{sets}
+use Rattle.image.specs.declared.Instruction.{Instruction}
+use Rattle.image.specs.Layout.{instructionIn, instructionCells}
+use borrow.Author.Needs.{needs}
+use Rattle.image.proofs.reader.lay_instruction.Statement.{statement}
+use Rattle.image.proofs.reader.lay_instruction.Tie as tie
+use Rattle.image.proofs.reader.lay_instruction.Reads as reads
+use Rattle.image.proofs.reader.lay_instruction.Lts as lts
+use Rattle.image.proofs.layout.instruction_in.Reads as instruction-in-reads
+use Rattle.image.proofs.layout.put_instruction.Reads as put-instruction-reads
+
+instruction-in-requires : tie.Need-instruction-in-requires
+instruction-in-requires c κs = search needs
+
+put-instruction-requires : tie.Need-put-instruction-requires
+put-instruction-requires c κs = c .before .before .before .before .before .pre .1 (c .before .before .if1 .taken)
+
+same-length : tie.Need-same-length
+same-length c = search needs
+
+returns : tie.Need-returns
+returns c = c .before .before .put-instruction .ensures ∙ ap (λ (k : Instruction). sets (c .before .before .before .before .before .before .before .before .args .cells .now) (c .before .before .before .before .before .before .before .before .args .to) (instructionCells k)) (c .before .before .before .before .instruction-in .ensures) ∙ sym (ap (λ (t : Bool). cond t (sets (c .before .before .before .before .before .before .before .before .args .cells .now) (c .before .before .before .before .before .before .before .before .args .to) (instructionCells (instructionIn (c .before .before .before .before .before .before .before .before .args .image .now) (c .before .before .before .before .before .before .before .before .args .at)))) (c .before .before .before .before .before .before .before .before .args .cells .now)) (c .before .before .before .before .before .if1 .taken))
+
+returns-2 : tie.Need-returns-2
+returns-2 c = search needs
+
+pub lay-instruction-spec : {M : Type 1} → statement M
+lay-instruction-spec =
+    tie.close
+    (tie.spec instruction-in-requires put-instruction-requires same-length returns returns-2)

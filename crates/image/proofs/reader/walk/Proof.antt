@@ -1,0 +1,56 @@
+use mathlib.Core.Path.{_≡_, refl, sym, ap, ap₂, _∙_}
+use mathlib.Core.List.{List, [], _∷_}
+use Prim.Native.Nat.{ℕ}
+use lib.ListN.{length, length-replicate}
+use lib.Seq.{sets}
+use native.Mathlib.Omega.{arith}
+use Rattle.image.specs.Layout.{blocksIn, instructionsIn, programCells, recordsLaid, cellsIn}
+use Rattle.image.specs.Questions.{recordsNo}
+use Rattle.image.specs.Doors.{headerNo, imageNo}
+use Rattle.image.proofs.Asked.{or-else-no, or-else-yes}
+use Rattle.image.proofs.Header.{header, decoded}
+use Rattle.image.proofs.Walking.{laid-length, when-wanted}
+use Rattle.image.proofs.Offset.{offset-unread}
+use borrow.Author.Needs.{needs}
+use Rattle.image.proofs.reader.walk.Statement.{statement}
+use Rattle.image.proofs.reader.walk.Tie as tie
+use Rattle.image.proofs.reader.walk.Reads as reads
+use Rattle.image.proofs.reader.walk.Lts as lts
+use Rattle.image.proofs.reader.ask_header.Reads as ask-header-reads
+use Rattle.image.proofs.reader.lay_counts.Reads as lay-counts-reads
+use Rattle.image.proofs.reader.walk_records.Reads as walk-records-reads
+
+ask-header-requires : tie.Need-ask-header-requires
+ask-header-requires c κs = search needs
+
+returns : tie.Need-returns
+unfolding imageNo
+returns c = let refused : headerNo (c .before .before .before .before .args .image .now) ≡ 0 → ⊥ = λ e. c .if1 .taken (c .before .ask-header .ensures ∙ e) in
+    (c .before .ask-header .ensures ∙ sym (or-else-no (headerNo (c .before .before .before .before .args .image .now)) (recordsNo (cellsIn (c .before .before .before .before .args .image .now))) refused), (sym (offset-unread (c .before .before .before .before .args .image .now) refused), λ e. absurd (c .if1 .taken e)))
+
+lay-counts-requires : tie.Need-lay-counts-requires
+lay-counts-requires c κs = (header (c .before .before .before .before .before .args .image .now) (sym (c .before .before .ask-header .ensures) ∙ c .before .if1 .left) .long, λ t. (omega (arith, ap length (c .before .before .before .before .before .pre t), length-replicate {A = ℕ} programCells 0)))
+
+walk-records-requires : tie.Need-walk-records-requires
+walk-records-requires c κs = (sym (c .before .before .before .before .before .before .ask-header .ensures) ∙ c .before .before .before .before .before .if1 .left, λ t. laid-length (c .before .before .before .before .before .before .before .before .before .args .lays) (c .before .before .before .before .before .before .before .before .before .args .cells .now) _ (blocksIn (c .before .before .before .before .before .before .before .before .before .args .image .now) ∷ instructionsIn (c .before .before .before .before .before .before .before .before .before .args .image .now) ∷ []) 0 (c .before .before .before .lay-counts .ensures) ∙ ap length (c .before .before .before .before .before .before .before .before .before .pre t) ∙ length-replicate {A = ℕ} programCells 0)
+
+same-length : tie.Need-same-length
+same-length c = search needs
+
+returns-2 : tie.Need-returns-2
+unfolding imageNo
+returns-2 c = let w = c .before .before .walk-records .ensures in
+    let l = c .before .before .before .before .before .before .before .before .before .before .before .before .args .cells .now in
+    let counts : List ℕ = blocksIn (c .before .before .before .before .before .before .before .before .before .before .before .before .args .image .now) ∷ instructionsIn (c .before .before .before .before .before .before .before .before .before .before .before .before .args .image .now) ∷ [] in
+    (w .0 ∙ sym (or-else-yes (headerNo (c .before .before .before .before .before .before .before .before .before .before .before .before .args .image .now)) (recordsNo (cellsIn (c .before .before .before .before .before .before .before .before .before .before .before .before .args .image .now))) (sym (c .before .before .before .before .before .before .before .before .before .ask-header .ensures) ∙ c .before .before .before .before .before .before .before .before .if1 .left)), (w .1 .0, λ e t. when-wanted (c .before .before .before .before .before .before .before .before .before .before .before .before .args .lays) _ (recordsLaid (c .before .before .before .before .before .before .before .before .before .before .before .before .args .image .now) _) _ t (w .1 .1 e) ∙ decoded (c .before .before .before .before .before .before .before .before .before .before .before .before .args .image .now) l _ (c .before .before .before .before .before .before .before .before .before .before .before .before .pre t) (when-wanted (c .before .before .before .before .before .before .before .before .before .before .before .before .args .lays) _ (sets l 0 counts) l t (c .before .before .before .before .before .before .lay-counts .ensures))))
+
+pub walk-spec : {M : Type 1} → statement M
+walk-spec =
+    tie.close
+    (tie.spec
+    ask-header-requires
+    returns
+    lay-counts-requires
+    walk-records-requires
+    same-length
+    returns-2)

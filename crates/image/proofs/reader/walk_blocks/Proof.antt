@@ -1,0 +1,102 @@
+use Prim.Native.Nat.{_+_, _-_, _*_}
+use borrow.Author.Needs.{needs}
+use mathlib.Core.Path.{_≡_, refl, sym, ap, ap₂, _∙_}
+use native.Mathlib.Omega.{arith}
+use Rattle.int64.specs.Little.{little}
+use Rattle.image.specs.Layout.{blocksIn}
+use Rattle.image.proofs.Counts.{counted}
+use Rattle.image.proofs.Header.{header}
+use Rattle.image.proofs.Walks.{AtBlock, blocks-begin, next-block, block-refused, blocks-end, block-length, first-below}
+use Rattle.image.proofs.reader.walk_blocks.Statement.{statement}
+use Rattle.image.proofs.reader.walk_blocks.Tie as tie
+use Rattle.image.proofs.reader.walk_blocks.Reads as reads
+use Rattle.image.proofs.reader.walk_blocks.Lts as lts
+use Rattle.image.proofs.layout.wide.Reads as wide-reads
+use Rattle.image.proofs.reader.ask_block_in.Reads as ask-block-in-reads
+use Rattle.image.proofs.reader.lay_block.Reads as lay-block-reads
+use Rattle.int64.proofs.read_u16.Reads as read-u16-reads
+
+abbrev Inv-loop : tie.InvT-loop
+Inv-loop image marks₀ lays cells₀ blocks at₀ to₀ before₀ b₀ marks cells at to before b = AtBlock image lays cells₀ marks cells at to before b
+
+abbrev μ-loop : tie.MeasureT-loop
+μ-loop image marks₀ lays cells₀ blocks at₀ to₀ before₀ b₀ marks cells at to before b = blocksIn image - b
+
+shared-slice-read-wide : tie.Need-shared-slice-read-wide Inv-loop μ-loop
+shared-slice-read-wide c = omega (arith, header (c .before .before .before .before .args .image .now) (c .before .before .before .before .pre .0) .long)
+
+wide-requires : tie.Need-wide-requires Inv-loop μ-loop
+wide-requires c κs = search needs
+
+loop-holds : tie.Need-loop-holds Inv-loop μ-loop
+loop-holds c = blocks-begin (c .before .before .before .before .before .args .image .now) (c .before .before .before .before .before .pre .0) (c .before .before .before .before .before .args .lays) (c .before .before .before .before .before .args .cells .now) (c .before .before .before .before .before .args .marks .now) (c .before .before .before .before .before .pre .1)
+
+ask-block-in-requires : tie.Need-ask-block-in-requires Inv-loop μ-loop
+ask-block-in-requires c κs = (c .before .before .before .before .before .before .before .pre .0, omega (arith, c .before .before .wide .ensures), c .before .loop .inv .offset, c .before .loop .inv .predecessor)
+
+same-length : tie.Need-same-length Inv-loop μ-loop
+same-length c = c .before .before .before .loop .inv .marking .sized ∙ sym (c .before .before .before .before .before .before .before .before .before .pre .1 .sized)
+
+same-length-2 : tie.Need-same-length-2 Inv-loop μ-loop
+same-length-2 c = block-length (c .before .before .before .before .before .before .before .before .before .args .image .now) (c .before .before .before .before .before .before .before .before .before .pre .0) (c .before .before .before .before .before .before .before .before .before .args .lays) (c .before .before .before .before .before .before .before .before .before .args .cells .now) (c .before .before .before .loop .marks) (c .before .before .before .loop .cells) (c .before .before .before .loop .at) (c .before .before .before .loop .to) (c .before .before .before .loop .before) (c .before .before .before .loop .b) (c .before .before .before .loop .inv)
+
+returns : tie.Need-returns Inv-loop μ-loop
+returns c = let s = block-refused (c .before .before .before .before .before .before .before .before .before .args .image .now) (c .before .before .before .before .before .before .before .before .before .pre .0) (c .before .before .before .before .before .before .before .before .before .args .lays) (c .before .before .before .before .before .before .before .before .before .args .cells .now) (c .before .before .before .loop .marks) (c .before .before .before .loop .cells) (c .before .before .before .loop .at) (c .before .before .before .loop .to) (c .before .before .before .loop .before) (c .before .before .before .loop .b) (c .before .before .before .loop .inv) (omega (arith, c .before .before .before .before .wide .ensures)) (λ e. c .if1 .taken (c .before .ask-block-in .ensures ∙ e)) in (c .before .ask-block-in .ensures ∙ sym (s .0), (s .1, (λ e. absurd (c .if1 .taken e), λ e. absurd (c .if1 .taken e))))
+
+read-u16-requires : tie.Need-read-u16-requires Inv-loop μ-loop
+read-u16-requires c κs = omega (arith, header (c .before .before .before .before .before .before .before .before .before .args .image .now) (c .before .before .before .before .before .before .before .before .before .pre .0) .size, c .before .before .before .before .wide .ensures, c .before .before .before .loop .inv .offset)
+
+slice-write-marks : tie.Need-slice-write-marks Inv-loop μ-loop
+slice-write-marks c = let first : c .read-u16 .result ≡ little 2 (c .before .before .before .before .before .before .before .before .before .before .args .image .now) (8 + 10 * c .before .before .before .before .loop .b) = c .read-u16 .ensures .equal ∙ ap (little 2 (c .before .before .before .before .before .before .before .before .before .before .args .image .now)) (c .before .before .before .before .loop .inv .offset) in omega (arith, first, first-below (c .before .before .before .before .before .before .before .before .before .before .args .image .now) (c .before .before .before .before .before .before .before .before .before .before .pre .0) (c .before .before .before .before .loop .b) (omega (arith, c .before .before .before .before .before .wide .ensures)) (sym (c .before .before .ask-block-in .ensures) ∙ c .before .if1 .left), counted _ _ (header (c .before .before .before .before .before .before .before .before .before .before .args .image .now) (c .before .before .before .before .before .before .before .before .before .before .pre .0) .counts) .instructions-fit, c .before .before .before .before .loop .inv .marking .sized)
+
+lay-block-requires : tie.Need-lay-block-requires Inv-loop μ-loop
+lay-block-requires c κs = (omega (arith, header (c .before .before .before .before .before .before .before .before .before .before .before .args .image .now) (c .before .before .before .before .before .before .before .before .before .before .before .pre .0) .size, c .before .before .before .before .before .before .wide .ensures, c .before .before .before .before .before .loop .inv .offset), λ t. (omega (arith, c .before .before .before .before .before .before .before .before .before .before .before .pre .2 t, block-length (c .before .before .before .before .before .before .before .before .before .before .before .args .image .now) (c .before .before .before .before .before .before .before .before .before .before .before .pre .0) (c .before .before .before .before .before .before .before .before .before .before .before .args .lays) (c .before .before .before .before .before .before .before .before .before .before .before .args .cells .now) (c .before .before .before .before .before .loop .marks) (c .before .before .before .before .before .loop .cells) (c .before .before .before .before .before .loop .at) (c .before .before .before .before .before .loop .to) (c .before .before .before .before .before .loop .before) (c .before .before .before .before .before .loop .b) (c .before .before .before .before .before .loop .inv), c .before .before .before .before .before .loop .inv .target, c .before .before .before .before .before .before .wide .ensures, counted _ _ (header (c .before .before .before .before .before .before .before .before .before .before .before .args .image .now) (c .before .before .before .before .before .before .before .before .before .before .before .pre .0) .counts) .blocks-fit)))
+
+add-at : tie.Need-add-at Inv-loop μ-loop
+add-at c = omega (arith, c .before .before .before .before .before .before .before .before .loop .inv .offset, c .before .before .before .before .before .before .before .before .before .wide .ensures, counted _ _ (header (c .before .before .before .before .before .before .before .before .before .before .before .before .before .before .args .image .now) (c .before .before .before .before .before .before .before .before .before .before .before .before .before .before .pre .0) .counts) .blocks-fit)
+
+add-to : tie.Need-add-to Inv-loop μ-loop
+add-to c = omega (arith, c .before .before .before .before .before .before .before .before .loop .inv .target, c .before .before .before .before .before .before .before .before .before .wide .ensures, counted _ _ (header (c .before .before .before .before .before .before .before .before .before .before .before .before .before .before .args .image .now) (c .before .before .before .before .before .before .before .before .before .before .before .before .before .before .pre .0) .counts) .blocks-fit)
+
+add-b : tie.Need-add-b Inv-loop μ-loop
+add-b c = omega arith
+
+loop-less : tie.Need-loop-less Inv-loop μ-loop
+loop-less c = omega (arith, c .before .before .before .before .before .before .before .before .before .wide .ensures)
+
+loop-again : tie.Need-loop-again Inv-loop μ-loop
+loop-again c = next-block (c .before .before .before .before .before .before .before .before .before .before .before .before .before .before .args .image .now) (c .before .before .before .before .before .before .before .before .before .before .before .before .before .before .pre .0) (c .before .before .before .before .before .before .before .before .before .before .before .before .before .before .args .lays) (c .before .before .before .before .before .before .before .before .before .before .before .before .before .before .args .cells .now) (c .before .before .before .before .before .before .before .before .loop .marks) (c .before .before .before .before .before .before .before .before .loop .cells) (c .before .before .before .before .before .before .before .before .loop .at) (c .before .before .before .before .before .before .before .before .loop .to) (c .before .before .before .before .before .before .before .before .loop .before) (c .before .before .before .before .before .before .before .before .loop .b) (c .before .before .before .before .before .before .before .before .loop .inv) _ (c .before .before .before .before .read-u16 .result) (omega (arith, c .before .before .before .before .before .before .before .before .before .wide .ensures)) (sym (c .before .before .before .before .before .before .ask-block-in .ensures) ∙ c .before .before .before .before .before .if1 .left) (c .before .before .before .before .read-u16 .ensures .equal) (c .before .before .lay-block .ensures)
+
+same-length-3 : tie.Need-same-length-3 Inv-loop μ-loop
+same-length-3 c = c .before .loop .inv .marking .sized ∙ sym (c .before .before .before .before .before .before .before .pre .1 .sized)
+
+same-length-4 : tie.Need-same-length-4 Inv-loop μ-loop
+same-length-4 c = block-length (c .before .before .before .before .before .before .before .args .image .now) (c .before .before .before .before .before .before .before .pre .0) (c .before .before .before .before .before .before .before .args .lays) (c .before .before .before .before .before .before .before .args .cells .now) (c .before .loop .marks) (c .before .loop .cells) (c .before .loop .at) (c .before .loop .to) (c .before .loop .before) (c .before .loop .b) (c .before .loop .inv)
+
+returns-2 : tie.Need-returns-2 Inv-loop μ-loop
+returns-2 c = let s = blocks-end (c .before .before .before .before .before .before .before .args .image .now) (c .before .before .before .before .before .before .before .pre .0) (c .before .before .before .before .before .before .before .args .lays) (c .before .before .before .before .before .before .before .args .cells .now) (c .before .loop .marks) (c .before .loop .cells) (c .before .loop .at) (c .before .loop .to) (c .before .loop .before) (c .before .loop .b) (c .before .loop .inv) (omega (arith, c .before .before .wide .ensures)) in (sym (s .0), (s .1, (λ _. s .2, λ _. s .3)))
+
+pub walk-blocks-spec : {M : Type 1} → statement M
+walk-blocks-spec =
+    tie.close
+    (tie.spec
+    Inv-loop
+    μ-loop
+    shared-slice-read-wide
+    wide-requires
+    loop-holds
+    ask-block-in-requires
+    same-length
+    same-length-2
+    returns
+    read-u16-requires
+    slice-write-marks
+    lay-block-requires
+    add-at
+    add-to
+    add-b
+    loop-less
+    loop-again
+    same-length-3
+    same-length-4
+    returns-2)

@@ -1,0 +1,79 @@
+use mathlib.Core.Path.{_≡_, refl, sym, ap, ap₂, _∙_}
+use Prim.Native.Nat.{_-_}
+use native.Mathlib.Omega.{arith}
+use Rattle.image.specs.Layout.{instructionsIn}
+use Rattle.image.proofs.Counts.{counted}
+use Rattle.image.proofs.Header.{header}
+use Rattle.image.proofs.Walks.{AtInstruction, instructions-begin, next-instruction, instruction-refused, instructions-end, instruction-length}
+use Rattle.image.proofs.reader.walk_instructions.Statement.{statement}
+use Rattle.image.proofs.reader.walk_instructions.Tie as tie
+use Rattle.image.proofs.reader.walk_instructions.Reads as reads
+use Rattle.image.proofs.reader.walk_instructions.Lts as lts
+use Rattle.image.proofs.reader.ask_instruction_in.Reads as ask-instruction-in-reads
+use Rattle.image.proofs.reader.lay_instruction.Reads as lay-instruction-reads
+use Rattle.int64.proofs.read_u16.Reads as read-u16-reads
+
+abbrev Inv-loop : tie.InvT-loop
+Inv-loop limits largest image marks start lays cells₀ instructions at₀ to₀ i₀ cells at to i = AtInstruction image lays cells₀ cells at to i
+
+abbrev μ-loop : tie.MeasureT-loop
+μ-loop limits largest image marks start lays cells₀ instructions at₀ to₀ i₀ cells at to i = instructionsIn image - i
+
+read-u16-requires : tie.Need-read-u16-requires Inv-loop μ-loop
+read-u16-requires c κs = omega (arith, header (c .before .before .before .before .before .args .image .now) (c .before .before .before .before .before .pre .0) .long)
+
+loop-holds : tie.Need-loop-holds Inv-loop μ-loop
+loop-holds c = instructions-begin (c .before .before .before .before .before .before .args .image .now) (c .before .before .before .before .before .before .pre .0) (c .before .before .before .before .before .before .args .lays) (c .before .before .before .before .before .before .args .cells .now) (c .before .before .before .before .before .before .args .start) (c .before .before .before .before .before .before .pre .3)
+
+ask-instruction-in-requires : tie.Need-ask-instruction-in-requires Inv-loop μ-loop
+ask-instruction-in-requires c κs = (c .before .before .before .before .before .before .before .before .pre .0, c .before .before .before .before .before .before .before .before .pre .1, c .before .before .before .before .before .before .before .before .pre .2, omega (arith, c .before .before .read-u16 .ensures .equal), c .before .loop .inv .offset)
+
+same-length : tie.Need-same-length Inv-loop μ-loop
+same-length c = instruction-length (c .before .before .before .before .before .before .before .before .before .before .args .image .now) (c .before .before .before .before .before .before .before .before .before .before .pre .0) (c .before .before .before .before .before .before .before .before .before .before .args .lays) (c .before .before .before .before .before .before .before .before .before .before .args .cells .now) (c .before .before .before .loop .cells) (c .before .before .before .loop .at) (c .before .before .before .loop .to) (c .before .before .before .loop .i) (c .before .before .before .loop .inv)
+
+returns : tie.Need-returns Inv-loop μ-loop
+returns c = let s = instruction-refused (c .before .before .before .before .before .before .before .before .before .before .args .image .now) (c .before .before .before .before .before .before .before .before .before .before .pre .0) (c .before .before .before .before .before .before .before .before .before .before .args .lays) (c .before .before .before .before .before .before .before .before .before .before .args .cells .now) (c .before .before .before .loop .cells) (c .before .before .before .loop .at) (c .before .before .before .loop .to) (c .before .before .before .loop .i) (c .before .before .before .loop .inv) (omega (arith, c .before .before .before .before .read-u16 .ensures .equal)) (λ e. c .if1 .taken (c .before .ask-instruction-in .ensures ∙ e)) in (c .before .ask-instruction-in .ensures ∙ sym (s .0), (s .1, λ e. absurd (c .if1 .taken e)))
+
+lay-instruction-requires : tie.Need-lay-instruction-requires Inv-loop μ-loop
+lay-instruction-requires c κs = (omega (arith, header (c .before .before .before .before .before .before .before .before .before .before .before .args .image .now) (c .before .before .before .before .before .before .before .before .before .before .before .pre .0) .size, c .before .before .before .before .before .read-u16 .ensures .equal, c .before .before .before .before .loop .inv .offset), λ t. (omega (arith, c .before .before .before .before .before .before .before .before .before .before .before .pre .4 t, instruction-length (c .before .before .before .before .before .before .before .before .before .before .before .args .image .now) (c .before .before .before .before .before .before .before .before .before .before .before .pre .0) (c .before .before .before .before .before .before .before .before .before .before .before .args .lays) (c .before .before .before .before .before .before .before .before .before .before .before .args .cells .now) (c .before .before .before .before .loop .cells) (c .before .before .before .before .loop .at) (c .before .before .before .before .loop .to) (c .before .before .before .before .loop .i) (c .before .before .before .before .loop .inv), c .before .before .before .before .loop .inv .target, c .before .before .before .before .before .read-u16 .ensures .equal, counted _ _ (header (c .before .before .before .before .before .before .before .before .before .before .before .args .image .now) (c .before .before .before .before .before .before .before .before .before .before .before .pre .0) .counts) .instructions-fit)))
+
+add-at : tie.Need-add-at Inv-loop μ-loop
+add-at c = omega (arith, c .before .before .before .before .before .before .before .loop .inv .offset, c .before .before .before .before .before .before .before .before .read-u16 .ensures .equal, counted _ _ (header (c .before .before .before .before .before .before .before .before .before .before .before .before .before .before .args .image .now) (c .before .before .before .before .before .before .before .before .before .before .before .before .before .before .pre .0) .counts) .instructions-fit, counted _ _ (header (c .before .before .before .before .before .before .before .before .before .before .before .before .before .before .args .image .now) (c .before .before .before .before .before .before .before .before .before .before .before .before .before .before .pre .0) .counts) .blocks-fit)
+
+add-to : tie.Need-add-to Inv-loop μ-loop
+add-to c = omega (arith, c .before .before .before .before .before .before .before .loop .inv .target, c .before .before .before .before .before .before .before .before .read-u16 .ensures .equal, counted _ _ (header (c .before .before .before .before .before .before .before .before .before .before .before .before .before .before .args .image .now) (c .before .before .before .before .before .before .before .before .before .before .before .before .before .before .pre .0) .counts) .instructions-fit)
+
+add-i : tie.Need-add-i Inv-loop μ-loop
+add-i c = omega arith
+
+loop-less : tie.Need-loop-less Inv-loop μ-loop
+loop-less c = omega (arith, c .before .before .before .before .before .before .before .before .read-u16 .ensures .equal)
+
+loop-again : tie.Need-loop-again Inv-loop μ-loop
+loop-again c = next-instruction (c .before .before .before .before .before .before .before .before .before .before .before .before .before .before .args .image .now) (c .before .before .before .before .before .before .before .before .before .before .before .before .before .before .pre .0) (c .before .before .before .before .before .before .before .before .before .before .before .before .before .before .args .lays) (c .before .before .before .before .before .before .before .before .before .before .before .before .before .before .args .cells .now) (c .before .before .before .before .before .before .before .loop .cells) (c .before .before .before .before .before .before .before .loop .at) (c .before .before .before .before .before .before .before .loop .to) (c .before .before .before .before .before .before .before .loop .i) (c .before .before .before .before .before .before .before .loop .inv) _ (omega (arith, c .before .before .before .before .before .before .before .before .read-u16 .ensures .equal)) (sym (c .before .before .before .before .before .ask-instruction-in .ensures) ∙ c .before .before .before .before .if1 .left) (c .before .before .lay-instruction .ensures)
+
+same-length-2 : tie.Need-same-length-2 Inv-loop μ-loop
+same-length-2 c = instruction-length (c .before .before .before .before .before .before .before .before .args .image .now) (c .before .before .before .before .before .before .before .before .pre .0) (c .before .before .before .before .before .before .before .before .args .lays) (c .before .before .before .before .before .before .before .before .args .cells .now) (c .before .loop .cells) (c .before .loop .at) (c .before .loop .to) (c .before .loop .i) (c .before .loop .inv)
+
+returns-2 : tie.Need-returns-2 Inv-loop μ-loop
+returns-2 c = let s = instructions-end (c .before .before .before .before .before .before .before .before .args .image .now) (c .before .before .before .before .before .before .before .before .pre .0) (c .before .before .before .before .before .before .before .before .args .lays) (c .before .before .before .before .before .before .before .before .args .cells .now) (c .before .loop .cells) (c .before .loop .at) (c .before .loop .to) (c .before .loop .i) (c .before .loop .inv) (omega (arith, c .before .before .read-u16 .ensures .equal)) in (sym (s .0), (s .1, λ _. s .2))
+
+pub walk-instructions-spec : {M : Type 1} → statement M
+walk-instructions-spec =
+    tie.close
+    (tie.spec
+    Inv-loop
+    μ-loop
+    read-u16-requires
+    loop-holds
+    ask-instruction-in-requires
+    same-length
+    returns
+    lay-instruction-requires
+    add-at
+    add-to
+    add-i
+    loop-less
+    loop-again
+    same-length-2
+    returns-2)

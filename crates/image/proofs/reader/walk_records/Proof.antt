@@ -1,0 +1,104 @@
+use mathlib.Core.Path.{_≡_, refl, sym, ap, ap₂, _∙_}
+use mathlib.Core.List.{List}
+use Prim.Native.Nat.{ℕ}
+use lib.ListN.{length}
+use native.Mathlib.Omega.{arith}
+use Rattle.image.specs.Layout.{blocksIn, instructionsIn, blockCellsIn, instructionCellsIn, cellsIn}
+use Rattle.image.specs.Questions.{firstNo, blockNo, instructionNo}
+use Rattle.image.specs.Limits.{largestOf}
+use Rattle.image.proofs.Asked.{or-else-no, or-else-yes}
+use Rattle.image.proofs.Counts.{counted}
+use Rattle.image.proofs.Header.{header}
+use Rattle.image.proofs.Marking.{marked-none}
+use Rattle.image.proofs.Walking.{laid-length, laid-twice}
+use Rattle.image.proofs.Offset.{records-no, offset-at-block, offset-past-blocks, past-blocks}
+use Rattle.image.proofs.Walks.{end-marked}
+use borrow.Author.Needs.{needs}
+use Rattle.image.proofs.reader.walk_records.Statement.{statement}
+use Rattle.image.proofs.reader.walk_records.Tie as tie
+use Rattle.image.proofs.reader.walk_records.Reads as reads
+use Rattle.image.proofs.reader.walk_records.Lts as lts
+use Rattle.image.proofs.layout.wide.Reads as wide-reads
+use Rattle.image.proofs.questions.all_limits.Reads as all-limits-reads
+use Rattle.image.proofs.reader.walk_blocks.Reads as walk-blocks-reads
+use Rattle.image.proofs.reader.walk_instructions.Reads as walk-instructions-reads
+use Rattle.int64.proofs.read_u16.Reads as read-u16-reads
+
+slice-aggregate-walk-blocks : tie.Need-slice-aggregate-walk-blocks
+slice-aggregate-walk-blocks c = search needs
+
+walk-blocks-requires : tie.Need-walk-blocks-requires
+walk-blocks-requires c κs = (c .before .before .before .before .pre .0, marked-none (cellsIn (c .before .before .before .before .args .image .now)), c .before .before .before .before .pre .1)
+
+same-length : tie.Need-same-length
+same-length c = search needs
+
+returns : tie.Need-returns
+returns c = let e = c .before .before .before .before .before .walk-blocks .ensures in
+    let refused : firstNo (blockNo (cellsIn (c .before .before .before .before .before .before .before .before .before .before .args .image .now))) (blocksIn (c .before .before .before .before .before .before .before .before .before .before .args .image .now)) 0 ≡ 0 → ⊥ = λ z. c .if1 .taken (e .0 ∙ z) in
+    (e .0 ∙ sym (records-no (c .before .before .before .before .before .before .before .before .before .before .args .image .now) ∙ or-else-no (firstNo (blockNo (cellsIn (c .before .before .before .before .before .before .before .before .before .before .args .image .now))) (blocksIn (c .before .before .before .before .before .before .before .before .before .before .args .image .now)) 0) (firstNo (instructionNo (cellsIn (c .before .before .before .before .before .before .before .before .before .before .args .image .now))) (instructionsIn (c .before .before .before .before .before .before .before .before .before .before .args .image .now)) 0) refused), (e .1 .0 ∙ sym (offset-at-block (c .before .before .before .before .before .before .before .before .before .before .args .image .now) (c .before .before .before .before .before .before .before .before .before .before .pre .0) refused), λ z. absurd (c .if1 .taken z)))
+
+read-u16-requires : tie.Need-read-u16-requires
+read-u16-requires c κs = omega (arith, header (c .before .before .before .before .before .before .before .before .before .before .args .image .now) (c .before .before .before .before .before .before .before .before .before .before .pre .0) .long)
+
+array-write-marks : tie.Need-array-write-marks
+array-write-marks c = omega (arith, c .read-u16 .ensures .equal, counted _ _ (header (c .before .before .before .before .before .before .before .before .before .before .before .args .image .now) (c .before .before .before .before .before .before .before .before .before .before .before .pre .0) .counts) .instructions-fit)
+
+slice-aggregate-all-limits : tie.Need-slice-aggregate-all-limits
+slice-aggregate-all-limits c = search needs
+
+all-limits-requires : tie.Need-all-limits-requires
+all-limits-requires c κs = search needs
+
+shared-slice-read-wide : tie.Need-shared-slice-read-wide
+shared-slice-read-wide c = omega (arith, header (c .before .before .before .before .before .before .before .before .before .before .before .before .before .before .before .args .image .now) (c .before .before .before .before .before .before .before .before .before .before .before .before .before .before .before .pre .0) .long)
+
+wide-requires : tie.Need-wide-requires
+wide-requires c κs = search needs
+
+sub-t22 : tie.Need-sub-t22
+sub-t22 c = omega (arith, c .wide .ensures, counted _ _ (header (c .before .before .before .before .before .before .before .before .before .before .before .before .before .before .before .before .args .image .now) (c .before .before .before .before .before .before .before .before .before .before .before .before .before .before .before .before .pre .0) .counts) .some-block)
+
+slice-aggregate-walk-instructions : tie.Need-slice-aggregate-walk-instructions
+slice-aggregate-walk-instructions c = search needs
+
+slice-aggregate-walk-instructions-2 : tie.Need-slice-aggregate-walk-instructions-2
+slice-aggregate-walk-instructions-2 c = search needs
+
+slice-aggregate-walk-instructions-3 : tie.Need-slice-aggregate-walk-instructions-3
+slice-aggregate-walk-instructions-3 c = search needs
+
+walk-instructions-requires : tie.Need-walk-instructions-requires
+walk-instructions-requires c κs = let e = c .before .before .before .before .before .before .before .before .before .before .before .before .before .before .before .walk-blocks .ensures in
+    (c .before .before .before .before .before .before .before .before .before .before .before .before .before .before .before .before .before .before .before .before .pre .0, record { some-block = counted _ _ (header (c .before .before .before .before .before .before .before .before .before .before .before .before .before .before .before .before .before .before .before .before .args .image .now) (c .before .before .before .before .before .before .before .before .before .before .before .before .before .before .before .before .before .before .before .before .pre .0) .counts) .some-block; limits-are = c .before .before .before .before .before .before .before .all-limits .ensures; largest-are = ap largestOf (c .before .before .before .before .wide .ensures) }, end-marked (c .before .before .before .before .before .before .before .before .before .before .before .before .before .before .before .before .before .before .before .before .args .image .now) (c .before .before .before .before .before .before .before .before .before .before .before .before .before .before .before .before .before .before .before .before .pre .0) _ (c .before .before .before .before .before .before .before .before .before .read-u16 .result) (e .1 .1 .0 (c .before .before .before .before .before .before .before .before .before .before .if1 .left)) (c .before .before .before .before .before .before .before .before .before .read-u16 .ensures .equal), e .1 .0 ∙ past-blocks (c .before .before .before .before .before .before .before .before .before .before .before .before .before .before .before .before .before .before .before .before .args .image .now) (sym (e .0) ∙ c .before .before .before .before .before .before .before .before .before .before .if1 .left), λ t. laid-length (c .before .before .before .before .before .before .before .before .before .before .before .before .before .before .before .before .before .before .before .before .args .lays) (c .before .before .before .before .before .before .before .before .before .before .before .before .before .before .before .before .before .before .before .before .args .cells .now) _ (blockCellsIn (c .before .before .before .before .before .before .before .before .before .before .before .before .before .before .before .before .before .before .before .before .args .image .now) (blocksIn (c .before .before .before .before .before .before .before .before .before .before .before .before .before .before .before .before .before .before .before .before .args .image .now))) 2 (e .1 .1 .1 (c .before .before .before .before .before .before .before .before .before .before .if1 .left)) ∙ c .before .before .before .before .before .before .before .before .before .before .before .before .before .before .before .before .before .before .before .before .pre .1 t)
+
+same-length-2 : tie.Need-same-length-2
+same-length-2 c = search needs
+
+returns-2 : tie.Need-returns-2
+returns-2 c = let e = c .before .before .before .before .before .before .before .before .before .before .before .before .before .before .before .before .before .before .walk-blocks .ensures in
+    let w = c .before .before .walk-instructions .ensures in
+    let all : firstNo (blockNo (cellsIn (c .before .before .before .before .before .before .before .before .before .before .before .before .before .before .before .before .before .before .before .before .before .before .before .args .image .now))) (blocksIn (c .before .before .before .before .before .before .before .before .before .before .before .before .before .before .before .before .before .before .before .before .before .before .before .args .image .now)) 0 ≡ 0 = sym (e .0) ∙ c .before .before .before .before .before .before .before .before .before .before .before .before .before .if1 .left in
+    (w .0 ∙ sym (records-no (c .before .before .before .before .before .before .before .before .before .before .before .before .before .before .before .before .before .before .before .before .before .before .before .args .image .now) ∙ or-else-yes (firstNo (blockNo (cellsIn (c .before .before .before .before .before .before .before .before .before .before .before .before .before .before .before .before .before .before .before .before .before .before .before .args .image .now))) (blocksIn (c .before .before .before .before .before .before .before .before .before .before .before .before .before .before .before .before .before .before .before .before .before .before .before .args .image .now)) 0) (firstNo (instructionNo (cellsIn (c .before .before .before .before .before .before .before .before .before .before .before .before .before .before .before .before .before .before .before .before .before .before .before .args .image .now))) (instructionsIn (c .before .before .before .before .before .before .before .before .before .before .before .before .before .before .before .before .before .before .before .before .before .before .before .args .image .now)) 0) all), (w .1 .0 ∙ sym (offset-past-blocks (c .before .before .before .before .before .before .before .before .before .before .before .before .before .before .before .before .before .before .before .before .before .before .before .args .image .now) (c .before .before .before .before .before .before .before .before .before .before .before .before .before .before .before .before .before .before .before .before .before .before .before .pre .0) all), λ z. laid-twice (c .before .before .before .before .before .before .before .before .before .before .before .before .before .before .before .before .before .before .before .before .before .before .before .args .lays) (c .before .before .before .before .before .before .before .before .before .before .before .before .before .before .before .before .before .before .before .before .before .before .before .args .cells .now) _ _ (blockCellsIn (c .before .before .before .before .before .before .before .before .before .before .before .before .before .before .before .before .before .before .before .before .before .before .before .args .image .now) (blocksIn (c .before .before .before .before .before .before .before .before .before .before .before .before .before .before .before .before .before .before .before .before .before .before .before .args .image .now))) (instructionCellsIn (c .before .before .before .before .before .before .before .before .before .before .before .before .before .before .before .before .before .before .before .before .before .before .before .args .image .now) (instructionsIn (c .before .before .before .before .before .before .before .before .before .before .before .before .before .before .before .before .before .before .before .before .before .before .before .args .image .now))) 2 770 (e .1 .1 .1 (c .before .before .before .before .before .before .before .before .before .before .before .before .before .if1 .left)) (w .1 .1 z)))
+
+pub walk-records-spec : {M : Type 1} → statement M
+walk-records-spec =
+    tie.close
+    (tie.spec
+    slice-aggregate-walk-blocks
+    walk-blocks-requires
+    same-length
+    returns
+    read-u16-requires
+    array-write-marks
+    slice-aggregate-all-limits
+    all-limits-requires
+    shared-slice-read-wide
+    wide-requires
+    sub-t22
+    slice-aggregate-walk-instructions
+    slice-aggregate-walk-instructions-2
+    slice-aggregate-walk-instructions-3
+    walk-instructions-requires
+    same-length-2
+    returns-2)

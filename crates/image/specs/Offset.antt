@@ -1,0 +1,47 @@
+-- The reader's running offset (document 02, request 3): where its walk over an image's records comes to.
+use mathlib.Core.Path.{_≡_}
+use mathlib.Core.Bool.{cond}
+use mathlib.Core.List.{List}
+use Prim.Native.Nat.{ℕ, zero, suc, _+_, _<_}
+use lib.ListN.{length}
+use lib.Dec.{eqb}
+use Rattle.image.specs.Layout.{blockPlace, instructionPlace, blocksIn, instructionsIn, cellsIn}
+use Rattle.image.specs.Questions.{firstNo, blockNo, instructionNo}
+use Rattle.image.specs.Doors.{headerNo, imageNo}
+
+-- how many answers of f at i, i + 1, .. (n of them) are 0 before the first that is not
+unfoldable pub passed : (ℕ → ℕ) → ℕ → ℕ → ℕ
+passed f zero i = 0
+passed f (suc n) i = cond (eqb (f i) 0) (suc (passed f n (i + 1))) 0
+
+-- after the blocks: the place of the first one that is refused, else the end of the last
+unfoldable pub blocksOffset : List ℕ → ℕ
+blocksOffset bytes = blockPlace (passed (blockNo (cellsIn bytes)) (blocksIn bytes) 0)
+
+-- after the instructions likewise
+unfoldable pub instructionsOffset : List ℕ → ℕ
+instructionsOffset bytes = instructionPlace (blocksIn bytes) (passed (instructionNo (cellsIn bytes)) (instructionsIn bytes) 0)
+
+-- after the walk: a refused header has none
+unfoldable pub offsetIn : List ℕ → ℕ
+offsetIn bytes =
+    cond (eqb (headerNo bytes) 0)
+    (cond (eqb (firstNo (blockNo (cellsIn bytes)) (blocksIn bytes) 0) 0) (instructionsOffset bytes) (blocksOffset bytes))
+    0
+
+-- what is shown of it; `proofs/Offset.antt` proves it
+pub record KeepsOffset : Type 0 where
+  -- it begins at 8, and each record moves it on to the next one's place
+  pub first-block : blockPlace 0 ≡ 8
+  pub next-block : (b : ℕ) → blockPlace (b + 1) ≡ blockPlace b + 10
+  pub first-instruction : (blocks : ℕ) → instructionPlace blocks 0 ≡ blockPlace blocks
+  pub next-instruction : (blocks i : ℕ) → instructionPlace blocks (i + 1) ≡ instructionPlace blocks i + 12
+  -- at the first record that is refused, it is that record's place
+  pub at-block : (bytes : List ℕ) (b : ℕ) → headerNo bytes ≡ 0 → b < blocksIn bytes
+      → ((j : ℕ) → j < b → blockNo (cellsIn bytes) j ≡ 0) → (blockNo (cellsIn bytes) b ≡ 0 → ⊥) → offsetIn bytes ≡ blockPlace b
+  pub at-instruction : (bytes : List ℕ) (i : ℕ) → headerNo bytes ≡ 0 → i < instructionsIn bytes
+      → ((j : ℕ) → j < blocksIn bytes → blockNo (cellsIn bytes) j ≡ 0)
+      → ((j : ℕ) → j < i → instructionNo (cellsIn bytes) j ≡ 0) → (instructionNo (cellsIn bytes) i ≡ 0 → ⊥)
+      → offsetIn bytes ≡ instructionPlace (blocksIn bytes) i
+  -- after an accepted image's last record, it is the image's length
+  pub after-last : (bytes : List ℕ) → imageNo bytes ≡ 0 → offsetIn bytes ≡ length bytes
