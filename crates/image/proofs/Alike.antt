@@ -1,16 +1,16 @@
 -- Two buffers with the same counts and records get the same answers.
 use mathlib.Core.Path.{_≡_, refl, sym, ap, ap₂, _∙_}
-use mathlib.Core.Bool.{Bool, true, false, cond, _&&_, _||_}
+use mathlib.Core.Bool.{Bool, true, cond, _&&_, _||_}
 use mathlib.Core.List.{List}
 use Prim.Native.Nat.{ℕ, zero, suc, _+_, _*_, _-_, _<_, _≤_}
 use native.Mathlib.Omega.{arith}
 use lib.ListN.{length}
 use lib.Dec.{eqb, ltb, leb}
-use borrow.Author.Tests.{le-leb, eqb-true, eqb-false}
+use borrow.Author.Tests.{le-leb}
 use Rattle.image.specs.declared.Block.{Block}
 use Rattle.image.specs.declared.Instruction.{Instruction}
 use Rattle.image.specs.Layout.{programCells, blockCount, instructionCount, blockOf, instructionOf}
-use Rattle.image.specs.Questions.{ask, orElse, firstNo, inOrder, annotated, blockNo, laidOut, same, startsAt, lastInBlock, instructionNo, recordsNo}
+use Rattle.image.specs.Questions.{firstNo, inOrder, annotated, blockNo, laidOut, same, startsAt, lastInBlock, instructionNo, recordsNo}
 use Rattle.image.proofs.Asked.{ask-yes, or-else-both, or-else-yes, first-no-all, first-no-none}
 
 pub record Alike (p q : List ℕ) : Type 0 where

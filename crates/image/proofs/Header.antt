@@ -1,18 +1,18 @@
 -- What an accepted header tells of an image.
 use mathlib.Core.Path.{_≡_, refl, sym, ap, ap₂, _∙_}
-use mathlib.Core.Bool.{Bool, true, false, _&&_}
+use mathlib.Core.Bool.{Bool, true, _&&_}
 use mathlib.Core.List.{List, [], _∷_}
 use Prim.Native.Nat.{ℕ, zero, suc, _+_, _-_, _*_, _<_, _≤_}
 use native.Mathlib.Omega.{arith}
-use lib.ListN.{length, getD, set, replicate, length-replicate}
+use lib.ListN.{length, getD, replicate}
 use lib.Seq.{sets}
 use lib.Dec.{eqb, leb}
 use borrow.Author.Tests.{leb-true, eqb-true, le-leb, eq-eqb}
 use Rattle.int64.specs.Little.{little}
 use Rattle.image.specs.declared.Block.{Block}
 use Rattle.image.specs.declared.Instruction.{Instruction}
-use Rattle.image.specs.Layout.{rows, blockPlace, instructionPlace, blocksIn, instructionsIn, imageLength, programCells, blockCount, instructionCount, blockOf, instructionOf, blockIn, instructionIn, blockCells, instructionCells, buffer, blockCellsIn, instructionCellsIn, recordsLaid, cellsIn}
-use Rattle.image.specs.Questions.{ask, orElse, countsNo, blockRecordNo, blockNo, lastInBlock, instructionRecordNo, instructionNo}
+use Rattle.image.specs.Layout.{blockPlace, instructionPlace, blocksIn, instructionsIn, imageLength, programCells, blockCount, instructionCount, blockOf, instructionOf, blockIn, instructionIn, buffer, blockCellsIn, instructionCellsIn, recordsLaid, cellsIn}
+use Rattle.image.specs.Questions.{ask, countsNo, blockRecordNo, blockNo, lastInBlock, instructionRecordNo, instructionNo}
 use Rattle.image.specs.Doors.{markIn, headerNo}
 use Rattle.image.proofs.Asked.{ask-yes, or-else-both, or-else-yes}
 use Rattle.image.proofs.Booleans.{both-true}

@@ -2,18 +2,16 @@
 use mathlib.Core.Path.{_≡_, refl, sym, ap, _∙_}
 use mathlib.Core.Bool.{Bool, true, false, _||_}
 use mathlib.Core.List.{List}
-use Prim.Native.Nat.{ℕ, zero, suc, _+_, _*_, _<_, _≤_}
+use Prim.Native.Nat.{ℕ, suc, _+_, _<_, _≤_}
 use native.Mathlib.Omega.{arith}
 use native.Mathlib.Numerals.{add-one}
-use lib.ListN.{length, getD, set, length-set, replicate, length-replicate, getD-replicate}
+use lib.ListN.{getD, set, length-set, replicate, length-replicate, getD-replicate}
 use lib.Seq.{getD-set-same, getD-set-other}
-use lib.Dec.{eqb, ltb, leb}
-use borrow.Author.Tests.{eq-eqb, ne-eqb, eqb-true, eqb-false, ltb-true, leb-true}
+use lib.Dec.{eqb}
+use borrow.Author.Tests.{eq-eqb, ne-eqb, eqb-true, eqb-false}
 use Rattle.image.specs.Layout.{blockCount, instructionCount, blockOf}
-use Rattle.image.specs.Questions.{ask, startsAt, lastInBlock, same, annotated, blockNo}
+use Rattle.image.specs.Questions.{startsAt, lastInBlock, same}
 use Rattle.image.specs.Marks.{flag, Marked, Ended}
-use Rattle.image.proofs.Asked.{ask-yes}
-use Rattle.image.proofs.Booleans.{both-true}
 
 -- ---- the marks
 

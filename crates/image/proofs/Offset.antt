@@ -1,18 +1,17 @@
 -- The reader's offset is at each record the place that the layout gives it, and after an accepted image's last record the image's length.
-use mathlib.Core.Path.{_≡_, refl, sym, ap, _∙_}
-use mathlib.Core.Bool.{Bool, true, false}
+use mathlib.Core.Path.{_≡_, sym, ap, _∙_}
 use mathlib.Core.List.{List}
-use Prim.Native.Nat.{ℕ, _+_, _*_, _<_, _≤_}
+use Prim.Native.Nat.{ℕ, _<_}
 use native.Mathlib.Omega.{arith}
 use lib.ListN.{length}
 use borrow.Author.Tests.{eq-eqb, ne-eqb}
-use Rattle.image.specs.Layout.{blockPlace, instructionPlace, blocksIn, instructionsIn, blockCount, instructionCount, cellsIn}
+use Rattle.image.specs.Layout.{blockPlace, instructionPlace, blocksIn, instructionsIn, cellsIn}
 use Rattle.image.specs.Questions.{orElse, firstNo, blockNo, instructionNo, recordsNo}
 use Rattle.image.specs.Doors.{headerNo, imageNo}
 use Rattle.image.specs.Offset.{passed, blocksOffset, instructionsOffset, offsetIn, KeepsOffset}
-use Rattle.image.proofs.Asked.{or-else-no, or-else-yes, or-else-both, first-no-all, first-no-none}
-use Rattle.image.proofs.Header.{Header, header, cells-in-blocks, cells-in-instructions}
-use Rattle.image.proofs.Walking.{Walking, walk-passed, walk-stops, walk-ends}
+use Rattle.image.proofs.Asked.{or-else-both, first-no-all, first-no-none}
+use Rattle.image.proofs.Header.{header, cells-in-blocks, cells-in-instructions}
+use Rattle.image.proofs.Walking.{walk-passed, walk-stops, walk-ends}
 
 module _ (bytes : List ℕ) where
   abbrev cells : List ℕ

@@ -1,15 +1,15 @@
 -- The image of an accepted program has that program's records in their places.
 use mathlib.Core.Path.{_≡_, refl, sym, ap, _∙_}
 use mathlib.Core.List.{List, [], _∷_, _++_}
-use Prim.Native.Nat.{ℕ, zero, suc, _+_, _*_, _/_, _%_, _^_, _<_, _≤_}
+use Prim.Native.Nat.{ℕ, _+_, _*_, _/_, _%_, _^_, _<_}
 use native.Mathlib.Omega.{arith}
-use lib.ListN.{length, getD, length-append, List·getD-append}
+use lib.ListN.{length, getD, List·getD-append}
 use lib.Seq.{getD-append-add}
 use Rattle.int64.specs.Little.{little, bytesOf}
 use Rattle.int64.proofs.Little.{little-same, little-written}
-use Rattle.image.specs.Layout.{rows, blocksIn, instructionsIn, blockCount, instructionCount, blockOf, instructionOf, blockIn, instructionIn, blockBytes, instructionBytes, headerOf, imageOf}
+use Rattle.image.specs.Layout.{rows, blockPlace, instructionPlace, blocksIn, instructionsIn, blockCount, instructionCount, blockOf, instructionOf, blockIn, instructionIn, blockBytes, instructionBytes, headerOf, imageOf}
 use Rattle.image.proofs.Rows.{getD-rows}
-use Rattle.image.proofs.Written.{block-rows-length, instruction-rows-length}
+use Rattle.image.proofs.Written.{block-rows-length}
 use Rattle.image.proofs.Accepted.{Accepted, BlockAccepted, InstructionAccepted}
 
 -- a number that stands between other bytes
@@ -70,28 +70,28 @@ module _ (cells : List ℕ) (accepted : Accepted cells) (words : (i : ℕ) → g
     abbrev fits : BlockAccepted cells b
     fits = accepted .block b below
 
-    first-back : little 2 image (8 + 10 * b) ≡ blockOf cells b .first
+    first-back : little 2 image (blockPlace b) ≡ blockOf cells b .first
     unfolding bytesOf
     first-back =
         between 2 (blockOf cells b .first) image []
         (bytesOf 1 (blockOf cells b .annotation) ++ (bytesOf 1 (blockOf cells b .policy) ++ (bytesOf 1 (blockOf cells b .label) ++ (bytesOf 1 (blockOf cells b .pairs) ++ bytesOf 4 (blockOf cells b .packed)))))
-        (8 + 10 * b) (omega (arith, fits .first-below, accepted .few-instructions)) (λ j h. block-byte (8 + 10 * b + j) (0 + j) (omega arith) (omega arith))
+        (blockPlace b) (omega (arith, fits .first-below, accepted .few-instructions)) (λ j h. block-byte (blockPlace b + j) (0 + j) (omega arith) (omega arith))
 
-    packed-back : little 4 image (8 + 10 * b + 6) ≡ blockOf cells b .packed
+    packed-back : little 4 image (blockPlace b + 6) ≡ blockOf cells b .packed
     unfolding bytesOf
     packed-back =
         between 4 (blockOf cells b .packed) image
         (blockOf cells b .first % 256 ∷ blockOf cells b .first / 256 % 256 ∷ blockOf cells b .annotation % 256 ∷ blockOf cells b .policy % 256 ∷ blockOf cells b .label % 256 ∷ blockOf cells b .pairs % 256 ∷ [])
-        [] (8 + 10 * b + 6) (fits .packed-fits) (λ j h. block-byte (8 + 10 * b + 6 + j) (6 + j) (omega arith) (omega arith))
+        [] (blockPlace b + 6) (fits .packed-fits) (λ j h. block-byte (blockPlace b + 6 + j) (6 + j) (omega arith) (omega arith))
 
-    pub block-back : blockIn image (8 + 10 * b) ≡ blockOf cells b
+    pub block-back : blockIn image (blockPlace b) ≡ blockOf cells b
     unfolding bytesOf
     block-back = λ i. record {
       first = first-back i;
-      annotation = (block-byte (8 + 10 * b + 2) 2 (omega arith) (omega arith) ∙ low (blockOf cells b .annotation) (omega (arith, fits .annotation-known))) i;
-      policy = (block-byte (8 + 10 * b + 3) 3 (omega arith) (omega arith) ∙ low (blockOf cells b .policy) (omega (arith, fits .policy-known))) i;
-      label = (block-byte (8 + 10 * b + 4) 4 (omega arith) (omega arith) ∙ low (blockOf cells b .label) (omega (arith, fits .label-below, accepted .few-blocks))) i;
-      pairs = (block-byte (8 + 10 * b + 5) 5 (omega arith) (omega arith) ∙ low (blockOf cells b .pairs) (omega (arith, fits .pairs-few))) i;
+      annotation = (block-byte (blockPlace b + 2) 2 (omega arith) (omega arith) ∙ low (blockOf cells b .annotation) (omega (arith, fits .annotation-known))) i;
+      policy = (block-byte (blockPlace b + 3) 3 (omega arith) (omega arith) ∙ low (blockOf cells b .policy) (omega (arith, fits .policy-known))) i;
+      label = (block-byte (blockPlace b + 4) 4 (omega arith) (omega arith) ∙ low (blockOf cells b .label) (omega (arith, fits .label-below, accepted .few-blocks))) i;
+      pairs = (block-byte (blockPlace b + 5) 5 (omega arith) (omega arith) ∙ low (blockOf cells b .pairs) (omega (arith, fits .pairs-few))) i;
       packed = packed-back i;
     }
 
@@ -99,7 +99,7 @@ module _ (cells : List ℕ) (accepted : Accepted cells) (words : (i : ℕ) → g
 
   module _ (x : ℕ) (below : x < instructionCount cells) where
     abbrev at : ℕ
-    at = 8 + 10 * blockCount cells + 12 * x
+    at = instructionPlace (blockCount cells) x
 
     instruction-byte : (n j : ℕ) → j < 12 → n ≡ 8 + (10 * blockCount cells + (12 * x + j)) → getD image n 0 ≡ getD (instructionBytes (instructionOf cells x)) j 0
     unfolding imageOf bytesOf

@@ -1,22 +1,22 @@
 -- The round trip: an accepted image is written back byte for byte, an accepted program read again is that program, two accepted images of
 -- one program are the same image, and the writer accepts exactly the programs that some image reads to.
 use mathlib.Core.Path.{_≡_, refl, sym, ap, ap₂, _∙_, subst}
-use mathlib.Core.List.{List, _++_}
-use Prim.Native.Nat.{ℕ, _+_, _*_, _<_, _≤_}
+use mathlib.Core.List.{List}
+use Prim.Native.Nat.{ℕ}
 use native.Mathlib.Omega.{arith}
-use lib.ListN.{length, getD}
+use lib.ListN.{length}
 use lib.Dec.{eqb}
 use borrow.Author.Tests.{eqb-true, eq-eqb}
 use Rattle.image.specs.declared.Block.{Block}
 use Rattle.image.specs.declared.Instruction.{Instruction}
-use Rattle.image.specs.Layout.{blocksIn, instructionsIn, imageLength, programCells, blockCount, instructionCount, blockOf, instructionOf, blockIn, instructionIn, buffer, cellsIn, imageOf, trimmed}
-use Rattle.image.specs.Questions.{ask, orElse, countsNo, recordsNo, programNo}
+use Rattle.image.specs.Layout.{blockPlace, instructionPlace, imageLength, programCells, blockCount, instructionCount, blockOf, instructionOf, blockIn, instructionIn, buffer, cellsIn, imageOf, trimmed}
+use Rattle.image.specs.Questions.{countsNo, recordsNo, programNo}
 use Rattle.image.specs.Doors.{headerNo, imageNo, writeNo}
 use Rattle.image.specs.RoundTrip.{Bytes, Cells, Writes, RoundTrip}
 use Rattle.image.proofs.Asked.{ask-yes, or-else-both, or-else-yes}
 use Rattle.image.proofs.Counts.{Counted, counted, program-counted}
 use Rattle.image.proofs.Buffer.{buffer-length, buffer-blocks, buffer-instructions, buffer-block, buffer-instruction, buffer-same}
-use Rattle.image.proofs.Header.{Header, header, headed, cells-in-blocks, cells-in-instructions, cells-in-counts, cells-in-length}
+use Rattle.image.proofs.Header.{Header, header, headed, cells-in-counts, cells-in-length}
 use Rattle.image.proofs.Accepted.{Accepted, accepted}
 use Rattle.image.proofs.Written.{image-length}
 use Rattle.image.proofs.SmallBytes.{image-small}
@@ -116,7 +116,7 @@ module _ (cells : List ℕ) (words : Cells cells) (ok : programNo cells ≡ 0) w
   pub same-program : cellsIn image ≡ trimmed cells
   unfolding cellsIn trimmed
   same-program =
-      recount (λ b. blockIn image (8 + 10 * b)) (λ n i. instructionIn image (8 + 10 * n + 12 * i)) (blocks-back cells a words) (instructions-back cells a words)
+      recount (λ b. blockIn image (blockPlace b)) (λ n i. instructionIn image (instructionPlace n i)) (blocks-back cells a words) (instructions-back cells a words)
       ∙ buffer-same (blockCount cells) (instructionCount cells) _ (blockOf cells) _ (instructionOf cells) (block-back cells a words) (instruction-back cells a words)
 
   pub image-read : imageNo image ≡ 0

@@ -1,13 +1,13 @@
 -- The reader's walk over an image's blocks and then its instructions: what holds when it comes to a record, and that each record keeps it.
 use mathlib.Core.Path.{_≡_, refl, sym, ap, _∙_, subst}
-use mathlib.Core.Bool.{Bool, true, false, cond}
+use mathlib.Core.Bool.{Bool, cond}
 use mathlib.Core.List.{List}
 use Prim.Native.Nat.{ℕ, _+_, _-_, _*_, _<_, _≤_}
 use native.Mathlib.Omega.{arith}
 use lib.ListN.{length, set}
 use lib.Seq.{sets}
 use Rattle.image.specs.declared.Block.{Block}
-use Rattle.image.specs.Layout.{blockPlace, instructionPlace, blocksIn, instructionsIn, blockCount, instructionCount, blockOf, blockIn, instructionIn, blockCells, instructionCells, blockCellsIn, instructionCellsIn, cellsIn}
+use Rattle.image.specs.Layout.{blockPlace, instructionPlace, blocksIn, instructionsIn, blockOf, blockIn, instructionIn, blockCells, instructionCells, blockCellsIn, instructionCellsIn, cellsIn}
 use Rattle.image.specs.Questions.{firstNo, blockNo, instructionNo}
 use Rattle.image.specs.Marks.{Marked, Ended}
 use Rattle.image.specs.Doors.{headerNo}

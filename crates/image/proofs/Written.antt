@@ -1,12 +1,12 @@
 -- What the writer's three parts add up to: the image.
 use mathlib.Core.Path.{_≡_, refl, sym, ap, _∙_}
 use mathlib.Core.List.{List, _++_, append-assoc, append-nil}
-use Prim.Native.Nat.{ℕ, _+_, _*_, _≤_}
+use Prim.Native.Nat.{ℕ, _+_, _*_}
 use native.Mathlib.Omega.{arith}
-use lib.ListN.{length, drop, length-append, drop-of-length-le}
+use lib.ListN.{length, length-append, drop-of-length-le}
 use lib.Seq.{sets, sets-eq}
 use Rattle.int64.specs.Little.{bytesOf}
-use Rattle.image.specs.Layout.{rows, imageLength, blockCount, instructionCount, blockOf, instructionOf, blockBytes, instructionBytes, headerOf, imageOf}
+use Rattle.image.specs.Layout.{rows, blockPlace, imageLength, blockCount, instructionCount, blockOf, instructionOf, blockBytes, instructionBytes, headerOf, imageOf}
 use Rattle.image.proofs.Rows.{placed, length-rows}
 
 -- a list that is overwritten whole
@@ -44,10 +44,10 @@ module _ (cells : List ℕ) where
   unfolding imageOf
   whole = append-assoc (headerOf cells) blockRows instructionRows
 
-  pub encoded : (l l₁ l₂ l₃ : List ℕ) → l₁ ≡ sets l 0 (headerOf cells) → l₂ ≡ sets l₁ 8 blockRows → l₃ ≡ sets l₂ (8 + 10 * blockCount cells) instructionRows
+  pub encoded : (l l₁ l₂ l₃ : List ℕ) → l₁ ≡ sets l 0 (headerOf cells) → l₂ ≡ sets l₁ (blockPlace 0) blockRows → l₃ ≡ sets l₂ (blockPlace (blockCount cells)) instructionRows
       → length l ≡ imageLength (blockCount cells) (instructionCount cells) → l₃ ≡ imageOf cells
   encoded l l₁ l₂ l₃ p q r e =
-      let u = placed l l₁ l₂ 0 8 (headerOf cells) blockRows p q (omega (arith, header-length)) in
-      let v = placed l l₂ l₃ 0 (8 + 10 * blockCount cells) (headerOf cells ++ blockRows) instructionRows u r
+      let u = placed l l₁ l₂ 0 (blockPlace 0) (headerOf cells) blockRows p q (omega (arith, header-length)) in
+      let v = placed l l₂ l₃ 0 (blockPlace (blockCount cells)) (headerOf cells ++ blockRows) instructionRows u r
       (omega (arith, length-append (headerOf cells) blockRows, header-length, block-rows-length)) in
       v ∙ ap (sets l 0) whole ∙ sets-whole l (imageOf cells) (image-length ∙ sym e)

@@ -1,12 +1,12 @@
 -- An accepted image is written back byte for byte.
-use mathlib.Core.Path.{_≡_, refl, sym, ap, ap₂, _∙_}
-use mathlib.Core.List.{List, [], _∷_, _++_}
-use Prim.Native.Nat.{ℕ, _+_, _*_, _<_, _≤_}
+use mathlib.Core.Path.{_≡_, sym, ap, ap₂, _∙_}
+use mathlib.Core.List.{List, _++_}
+use Prim.Native.Nat.{ℕ, _+_, _*_, _<_}
 use native.Mathlib.Omega.{arith}
-use lib.ListN.{length, getD, take}
+use lib.ListN.{getD}
 use lib.Seq.{take-all}
-use Rattle.int64.specs.Little.{little, bytesOf}
-use Rattle.image.specs.Layout.{mark, rows, blocksIn, instructionsIn, imageLength, blockCount, instructionCount, blockOf, instructionOf, blockIn, instructionIn, blockBytes, instructionBytes, headerOf, cellsIn, imageOf}
+use Rattle.int64.specs.Little.{bytesOf}
+use Rattle.image.specs.Layout.{mark, rows, blockPlace, instructionPlace, blocksIn, instructionsIn, blockCount, instructionCount, blockOf, instructionOf, blockBytes, instructionBytes, headerOf, cellsIn, imageOf}
 use Rattle.image.proofs.Rows.{rows-same}
 use Rattle.image.proofs.Header.{Header, cells-in-blocks, cells-in-instructions, block-read, instruction-read}
 use Rattle.image.proofs.Chunks.{chunk, chunk-append, rows-chunk, number-chunk, byte-chunk, block-chunk, instruction-chunk}
@@ -41,16 +41,16 @@ module _ (bytes : List ℕ) (small : (i : ℕ) → getD bytes i 0 < 256) (h : He
   blocks-chunk : rows (λ b. blockBytes (blockOf (cellsIn bytes) b)) (blockCount (cellsIn bytes)) ≡ chunk bytes 8 (10 * B)
   blocks-chunk =
       ap (rows (λ b. blockBytes (blockOf (cellsIn bytes) b))) (cells-in-blocks bytes)
-      ∙ rows-same (λ b. blockBytes (blockOf (cellsIn bytes) b)) (λ b. chunk bytes (8 + 10 * b) 10) B
-      (λ b q. ap blockBytes (block-read bytes h b q) ∙ block-chunk bytes small (8 + 10 * b) (omega (arith, h .size)))
+      ∙ rows-same (λ b. blockBytes (blockOf (cellsIn bytes) b)) (λ b. chunk bytes (blockPlace b) 10) B
+      (λ b q. ap blockBytes (block-read bytes h b q) ∙ block-chunk bytes small (blockPlace b) (omega (arith, h .size)))
       ∙ rows-chunk bytes 8 10 B
 
-  instructions-chunk : rows (λ i. instructionBytes (instructionOf (cellsIn bytes) i)) (instructionCount (cellsIn bytes)) ≡ chunk bytes (8 + 10 * B) (12 * I)
+  instructions-chunk : rows (λ i. instructionBytes (instructionOf (cellsIn bytes) i)) (instructionCount (cellsIn bytes)) ≡ chunk bytes (blockPlace B) (12 * I)
   instructions-chunk =
       ap (rows (λ i. instructionBytes (instructionOf (cellsIn bytes) i))) (cells-in-instructions bytes)
-      ∙ rows-same (λ i. instructionBytes (instructionOf (cellsIn bytes) i)) (λ i. chunk bytes (8 + 10 * B + 12 * i) 12) I
-      (λ i q. ap instructionBytes (instruction-read bytes h i q) ∙ instruction-chunk bytes small (8 + 10 * B + 12 * i) (omega (arith, h .size)))
-      ∙ rows-chunk bytes (8 + 10 * B) 12 I
+      ∙ rows-same (λ i. instructionBytes (instructionOf (cellsIn bytes) i)) (λ i. chunk bytes (instructionPlace B i) 12) I
+      (λ i q. ap instructionBytes (instruction-read bytes h i q) ∙ instruction-chunk bytes small (instructionPlace B i) (omega (arith, h .size)))
+      ∙ rows-chunk bytes (blockPlace B) 12 I
 
   pub written-back : imageOf (cellsIn bytes) ≡ bytes
   unfolding imageOf

@@ -1,11 +1,11 @@
 -- What the doors answer, and what they leave in the lent buffers.
 use mathlib.Core.Bool.{Bool, cond, _&&_}
 use mathlib.Core.List.{List}
-use Prim.Native.Nat.{ℕ, _+_, _*_}
+use Prim.Native.Nat.{ℕ}
 use lib.ListN.{length, getD}
 use lib.Dec.{eqb, leb}
 use Rattle.int64.specs.Little.{little}
-use Rattle.image.specs.Layout.{blocksIn, instructionsIn, imageLength, programCells, blockCount, instructionCount, cellsIn, imageOf}
+use Rattle.image.specs.Layout.{blocksIn, instructionsIn, imageLength, programCells, blockCount, instructionCount, cellsIn}
 use Rattle.image.specs.Questions.{ask, orElse, countsNo, recordsNo, programNo}
 
 -- what a lent buffer holds after a call: something new where the call was accepted, else what it held

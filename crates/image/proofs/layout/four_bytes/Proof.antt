@@ -1,12 +1,8 @@
-use mathlib.Core.Path.{_≡_, sym, ap, ap₂, _∙_}
-use native.Mathlib.Omega.{arith}
-use Rattle.int64.specs.Little.{bytesOf}
+-- `four_bytes` meets its contract.
 use Rattle.image.proofs.FourBytes.{four-joined}
 use borrow.Author.Needs.{needs}
 use Rattle.image.proofs.layout.four_bytes.Statement.{statement}
 use Rattle.image.proofs.layout.four_bytes.Tie as tie
-use Rattle.image.proofs.layout.four_bytes.Reads as reads
-use Rattle.image.proofs.layout.four_bytes.Lts as lts
 
 mul-result : tie.Need-mul-result
 mul-result c = search needs

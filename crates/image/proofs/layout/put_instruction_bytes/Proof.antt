@@ -1,4 +1,5 @@
-use mathlib.Core.Path.{_≡_, refl, ap, _∙_}
+-- `put_instruction_bytes` meets its contract.
+use mathlib.Core.Path.{refl, ap, _∙_}
 use mathlib.Core.List.{List, _++_}
 use Prim.Native.Nat.{ℕ, _+_}
 use lib.Seq.{sets}
@@ -7,11 +8,6 @@ use Rattle.image.proofs.Rows.{placed}
 use borrow.Author.Needs.{needs}
 use Rattle.image.proofs.layout.put_instruction_bytes.Statement.{statement}
 use Rattle.image.proofs.layout.put_instruction_bytes.Tie as tie
-use Rattle.image.proofs.layout.put_instruction_bytes.Reads as reads
-use Rattle.image.proofs.layout.put_instruction_bytes.Lts as lts
-use Rattle.image.proofs.layout.four_bytes.Reads as four-bytes-reads
-use Rattle.int64.proofs.write_u32.Reads as write-u32-reads
-use Rattle.int64.proofs.write_u64.Reads as write-u64-reads
 
 four-bytes-requires : tie.Need-four-bytes-requires
 four-bytes-requires c κs = search needs

@@ -1,4 +1,5 @@
-use mathlib.Core.Path.{_≡_, sym, ap, ap₂, _∙_}
+-- `ask_block` meets its contract.
+use mathlib.Core.Path.{ap₂, _∙_}
 use Prim.Native.Nat.{ℕ}
 use borrow.Author.Tests.{le-leb, lt-leb}
 use Rattle.image.specs.declared.Block.{Block}
@@ -7,11 +8,6 @@ use Rattle.image.specs.Questions.{blockRecordNo, blockNo}
 use borrow.Author.Needs.{needs}
 use Rattle.image.proofs.questions.ask_block.Statement.{statement}
 use Rattle.image.proofs.questions.ask_block.Tie as tie
-use Rattle.image.proofs.questions.ask_block.Reads as reads
-use Rattle.image.proofs.questions.ask_block.Lts as lts
-use Rattle.image.proofs.layout.block_of.Reads as block-of-reads
-use Rattle.image.proofs.questions.ask_block_record.Reads as ask-block-record-reads
-use Rattle.image.proofs.questions.first_before.Reads as first-before-reads
 
 mul-if1 : tie.Need-mul-if1
 mul-if1 c = search needs

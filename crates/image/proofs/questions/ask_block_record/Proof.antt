@@ -1,11 +1,8 @@
+-- `ask_block_record` meets its contract.
 use borrow.Author.Tests.{not-true, not-false}
 use borrow.Author.Needs.{needs}
 use Rattle.image.proofs.questions.ask_block_record.Statement.{statement}
 use Rattle.image.proofs.questions.ask_block_record.Tie as tie
-use Rattle.image.proofs.questions.ask_block_record.Reads as reads
-use Rattle.image.proofs.questions.ask_block_record.Lts as lts
-use Rattle.image.proofs.questions.is_annotated.Reads as is-annotated-reads
-use Rattle.image.proofs.questions.starts_in_order.Reads as starts-in-order-reads
 
 starts-in-order-requires : tie.Need-starts-in-order-requires
 starts-in-order-requires c κs = search needs

@@ -1,14 +1,10 @@
-use mathlib.Core.Path.{_≡_, refl, sym, ap, _∙_}
+-- `ask_instruction` meets its contract.
 use lib.Dec.{eqb, leb}
-use borrow.Author.Tests.{not-true, not-false, eq-eqb, ne-eqb}
+use borrow.Author.Tests.{not-true, not-false}
 use Rattle.image.proofs.Marking.{marks-differ, marks-agree}
 use borrow.Author.Needs.{needs}
 use Rattle.image.proofs.questions.ask_instruction.Statement.{statement}
 use Rattle.image.proofs.questions.ask_instruction.Tie as tie
-use Rattle.image.proofs.questions.ask_instruction.Reads as reads
-use Rattle.image.proofs.questions.ask_instruction.Lts as lts
-use Rattle.image.proofs.questions.end_mark.Reads as end-mark-reads
-use Rattle.image.proofs.questions.is_laid_out.Reads as is-laid-out-reads
 
 is-laid-out-requires : tie.Need-is-laid-out-requires
 is-laid-out-requires c κs = search needs

@@ -1,5 +1,6 @@
-use mathlib.Core.Path.{_≡_, refl, sym, ap, ap₂, _∙_}
-use Prim.Native.Nat.{_+_, _-_, _<_, _≤_}
+-- `ask_instructions` meets its contract.
+use mathlib.Core.Path.{_≡_, sym, ap, _∙_}
+use Prim.Native.Nat.{_+_, _-_, _≤_}
 use native.Mathlib.Omega.{arith}
 use lib.ListN.{getD}
 use Rattle.image.specs.Layout.{blockCount, instructionCount}
@@ -9,11 +10,6 @@ use Rattle.image.proofs.Marking.{mark-told}
 use Rattle.image.proofs.Limiting.{limited-by, asked-by, asked-held, not-held}
 use Rattle.image.proofs.questions.ask_instructions.Statement.{statement}
 use Rattle.image.proofs.questions.ask_instructions.Tie as tie
-use Rattle.image.proofs.questions.ask_instructions.Reads as reads
-use Rattle.image.proofs.questions.ask_instructions.Lts as lts
-use Rattle.image.proofs.layout.instruction_of.Reads as instruction-of-reads
-use Rattle.image.proofs.questions.ask_instruction.Reads as ask-instruction-reads
-use Rattle.image.proofs.questions.instructions_held.Reads as instructions-held-reads
 
 abbrev Inv-loop : tie.InvT-loop
 Inv-loop limits largest cells marks held i₀ i = (i ≤ held) × (firstNo (instructionNo cells) (instructionCount cells) 0 ≡ firstNo (instructionNo cells) (instructionCount cells - i) i)

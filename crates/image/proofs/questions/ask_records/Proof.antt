@@ -1,4 +1,5 @@
-use mathlib.Core.Path.{_≡_, refl, sym, ap, ap₂, _∙_}
+-- `ask_records` meets its contract.
+use mathlib.Core.Path.{refl, sym, _∙_}
 use native.Mathlib.Omega.{arith}
 use Rattle.image.specs.Layout.{blockCount, instructionCount}
 use Rattle.image.specs.Questions.{recordsNo, firstNo, blockNo, instructionNo}
@@ -8,11 +9,6 @@ use Rattle.image.proofs.Counts.{counted, two-cells}
 use borrow.Author.Needs.{needs}
 use Rattle.image.proofs.questions.ask_records.Statement.{statement}
 use Rattle.image.proofs.questions.ask_records.Tie as tie
-use Rattle.image.proofs.questions.ask_records.Reads as reads
-use Rattle.image.proofs.questions.ask_records.Lts as lts
-use Rattle.image.proofs.questions.all_limits.Reads as all-limits-reads
-use Rattle.image.proofs.questions.ask_blocks.Reads as ask-blocks-reads
-use Rattle.image.proofs.questions.ask_instructions.Reads as ask-instructions-reads
 
 slice-aggregate-ask-blocks : tie.Need-slice-aggregate-ask-blocks
 slice-aggregate-ask-blocks c = search needs

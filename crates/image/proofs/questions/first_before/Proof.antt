@@ -1,12 +1,11 @@
-use mathlib.Core.Path.{_≡_, sym, ap}
+-- `first_before` meets its contract.
+use mathlib.Core.Path.{_≡_, ap}
 use Prim.Native.Nat.{ℕ, _+_, _-_, _*_}
 use lib.ListN.{getD}
 use native.Mathlib.Omega.{arith}
 use borrow.Author.Needs.{needs}
 use Rattle.image.proofs.questions.first_before.Statement.{statement}
 use Rattle.image.proofs.questions.first_before.Tie as tie
-use Rattle.image.proofs.questions.first_before.Reads as reads
-use Rattle.image.proofs.questions.first_before.Lts as lts
 
 shared-slice-read-result : tie.Need-shared-slice-read-result
 shared-slice-read-result c = search needs

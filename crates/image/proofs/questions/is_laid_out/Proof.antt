@@ -1,3 +1,4 @@
+-- `is_laid_out` meets its contract.
 use mathlib.Core.Path.{sym}
 use native.Mathlib.Omega.{arith}
 use Rattle.image.specs.Limits.{blocksBy}
@@ -5,8 +6,6 @@ use Rattle.image.proofs.Limiting.{no-opcode, past-opcodes, row-inside, 
 use borrow.Author.Needs.{needs}
 use Rattle.image.proofs.questions.is_laid_out.Statement.{statement}
 use Rattle.image.proofs.questions.is_laid_out.Tie as tie
-use Rattle.image.proofs.questions.is_laid_out.Reads as reads
-use Rattle.image.proofs.questions.is_laid_out.Lts as lts
 
 returns : tie.Need-returns
 returns c = sym (no-opcode (blocksBy (c .before .args .largest .now)) (c .before .args .x) (c .if1 .taken))

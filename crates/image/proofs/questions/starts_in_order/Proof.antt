@@ -1,8 +1,7 @@
+-- `starts_in_order` meets its contract.
 use borrow.Author.Tests.{lt-ltb, le-ltb, eq-eqb, ne-eqb}
 use Rattle.image.proofs.questions.starts_in_order.Statement.{statement}
 use Rattle.image.proofs.questions.starts_in_order.Tie as tie
-use Rattle.image.proofs.questions.starts_in_order.Reads as reads
-use Rattle.image.proofs.questions.starts_in_order.Lts as lts
 
 returns : tie.Need-returns
 returns c = rw (le-ltb _ _ (c .if1 .taken))

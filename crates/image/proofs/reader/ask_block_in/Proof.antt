@@ -1,4 +1,5 @@
-use mathlib.Core.Path.{_≡_, refl, sym, ap, ap₂, _∙_}
+-- `ask_block_in` meets its contract.
+use mathlib.Core.Path.{ap, ap₂, _∙_}
 use Prim.Native.Nat.{ℕ}
 use native.Mathlib.Omega.{arith}
 use Rattle.image.specs.Layout.{blocksIn, instructionsIn, blockIn}
@@ -7,12 +8,6 @@ use Rattle.image.proofs.Header.{header, block-asked}
 use borrow.Author.Needs.{needs}
 use Rattle.image.proofs.reader.ask_block_in.Statement.{statement}
 use Rattle.image.proofs.reader.ask_block_in.Tie as tie
-use Rattle.image.proofs.reader.ask_block_in.Reads as reads
-use Rattle.image.proofs.reader.ask_block_in.Lts as lts
-use Rattle.image.proofs.layout.block_in.Reads as block-in-reads
-use Rattle.image.proofs.layout.wide.Reads as wide-reads
-use Rattle.image.proofs.questions.ask_block_record.Reads as ask-block-record-reads
-use Rattle.int64.proofs.read_u16.Reads as read-u16-reads
 
 shared-slice-read-wide : tie.Need-shared-slice-read-wide
 shared-slice-read-wide c = omega (arith, header (c .before .before .args .image .now) (c .before .before .pre .0) .long)

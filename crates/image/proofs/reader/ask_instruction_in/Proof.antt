@@ -1,20 +1,16 @@
-use mathlib.Core.Path.{_≡_, refl, sym, ap, ap₂, _∙_}
-use Prim.Native.Nat.{ℕ, _+_, _<_}
+-- `ask_instruction_in` meets its contract.
+use mathlib.Core.Path.{ap, _∙_}
+use Prim.Native.Nat.{_+_}
 use native.Mathlib.Omega.{arith}
 use lib.ListN.{getD}
-use Rattle.image.specs.Layout.{blocksIn, instructionsIn, instructionCount, instructionIn, cellsIn}
+use Rattle.image.specs.Layout.{blocksIn, instructionIn, cellsIn}
 use Rattle.image.specs.Questions.{lastInBlock, instructionRecordNo}
 use Rattle.image.proofs.Counts.{counted}
 use Rattle.image.proofs.Header.{header, instruction-asked, cells-in-instructions}
 use Rattle.image.proofs.Marking.{mark-told}
 use Rattle.image.proofs.Limiting.{limited-by, asked-by}
-use borrow.Author.Needs.{needs}
 use Rattle.image.proofs.reader.ask_instruction_in.Statement.{statement}
 use Rattle.image.proofs.reader.ask_instruction_in.Tie as tie
-use Rattle.image.proofs.reader.ask_instruction_in.Reads as reads
-use Rattle.image.proofs.reader.ask_instruction_in.Lts as lts
-use Rattle.image.proofs.layout.instruction_in.Reads as instruction-in-reads
-use Rattle.image.proofs.questions.ask_instruction.Reads as ask-instruction-reads
 
 instruction-in-requires : tie.Need-instruction-in-requires
 instruction-in-requires c κs = omega (arith, header (c .before .before .before .before .args .image .now) (c .before .before .before .before .pre .0) .size)

@@ -1,11 +1,9 @@
-use mathlib.Core.Path.{_≡_, refl, sym, ap, ap₂, _∙_}
+-- `check` meets its contract.
+use mathlib.Core.Path.{refl}
 use Rattle.image.proofs.Booleans.{clash}
 use borrow.Author.Needs.{needs}
 use Rattle.image.proofs.reader.check.Statement.{statement}
 use Rattle.image.proofs.reader.check.Tie as tie
-use Rattle.image.proofs.reader.check.Reads as reads
-use Rattle.image.proofs.reader.check.Lts as lts
-use Rattle.image.proofs.reader.walk.Reads as walk-reads
 
 slice-aggregate-walk : tie.Need-slice-aggregate-walk
 slice-aggregate-walk c = search needs

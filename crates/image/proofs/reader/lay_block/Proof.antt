@@ -1,4 +1,5 @@
-use mathlib.Core.Path.{_≡_, refl, sym, ap, ap₂, _∙_}
+-- `lay_block` meets its contract.
+use mathlib.Core.Path.{sym, ap, _∙_}
 use mathlib.Core.Bool.{Bool, cond}
 use lib.Seq.{sets}
 use Rattle.image.specs.declared.Block.{Block}
@@ -6,10 +7,6 @@ use Rattle.image.specs.Layout.{blockIn, blockCells}
 use borrow.Author.Needs.{needs}
 use Rattle.image.proofs.reader.lay_block.Statement.{statement}
 use Rattle.image.proofs.reader.lay_block.Tie as tie
-use Rattle.image.proofs.reader.lay_block.Reads as reads
-use Rattle.image.proofs.reader.lay_block.Lts as lts
-use Rattle.image.proofs.layout.block_in.Reads as block-in-reads
-use Rattle.image.proofs.layout.put_block.Reads as put-block-reads
 
 block-in-requires : tie.Need-block-in-requires
 block-in-requires c κs = search needs

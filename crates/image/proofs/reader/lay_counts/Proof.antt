@@ -1,6 +1,7 @@
-use mathlib.Core.Path.{_≡_, refl, sym, ap, ap₂, _∙_}
+-- `lay_counts` meets its contract.
+use mathlib.Core.Path.{sym, ap, ap₂, _∙_}
 use mathlib.Core.Bool.{Bool, cond}
-use mathlib.Core.List.{List, [], _∷_}
+use mathlib.Core.List.{[], _∷_}
 use Prim.Native.Nat.{ℕ}
 use lib.ListN.{set, length-set}
 use lib.Seq.{sets}
@@ -9,10 +10,6 @@ use Rattle.image.specs.Layout.{blocksIn, instructionsIn}
 use borrow.Author.Needs.{needs}
 use Rattle.image.proofs.reader.lay_counts.Statement.{statement}
 use Rattle.image.proofs.reader.lay_counts.Tie as tie
-use Rattle.image.proofs.reader.lay_counts.Reads as reads
-use Rattle.image.proofs.reader.lay_counts.Lts as lts
-use Rattle.image.proofs.layout.wide.Reads as wide-reads
-use Rattle.int64.proofs.read_u16.Reads as read-u16-reads
 
 shared-slice-read-wide : tie.Need-shared-slice-read-wide
 shared-slice-read-wide c = search needs

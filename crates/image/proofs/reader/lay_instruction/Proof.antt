@@ -1,4 +1,5 @@
-use mathlib.Core.Path.{_≡_, refl, sym, ap, ap₂, _∙_}
+-- `lay_instruction` meets its contract.
+use mathlib.Core.Path.{sym, ap, _∙_}
 use mathlib.Core.Bool.{Bool, cond}
 use lib.Seq.{sets}
 use Rattle.image.specs.declared.Instruction.{Instruction}
@@ -6,10 +7,6 @@ use Rattle.image.specs.Layout.{instructionIn, instructionCells}
 use borrow.Author.Needs.{needs}
 use Rattle.image.proofs.reader.lay_instruction.Statement.{statement}
 use Rattle.image.proofs.reader.lay_instruction.Tie as tie
-use Rattle.image.proofs.reader.lay_instruction.Reads as reads
-use Rattle.image.proofs.reader.lay_instruction.Lts as lts
-use Rattle.image.proofs.layout.instruction_in.Reads as instruction-in-reads
-use Rattle.image.proofs.layout.put_instruction.Reads as put-instruction-reads
 
 instruction-in-requires : tie.Need-instruction-in-requires
 instruction-in-requires c κs = search needs

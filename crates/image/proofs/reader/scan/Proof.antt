@@ -1,10 +1,8 @@
-use mathlib.Core.Path.{_≡_, refl, sym, ap, ap₂, _∙_}
+-- `scan` meets its contract.
+use mathlib.Core.Path.{refl}
 use borrow.Author.Needs.{needs}
 use Rattle.image.proofs.reader.scan.Statement.{statement}
 use Rattle.image.proofs.reader.scan.Tie as tie
-use Rattle.image.proofs.reader.scan.Reads as reads
-use Rattle.image.proofs.reader.scan.Lts as lts
-use Rattle.image.proofs.reader.walk.Reads as walk-reads
 
 walk-requires : tie.Need-walk-requires
 walk-requires c κs = search needs

@@ -1,4 +1,5 @@
-use mathlib.Core.Path.{_≡_, refl, sym, ap, ap₂, _∙_}
+-- `walk` meets its contract.
+use mathlib.Core.Path.{_≡_, sym, ap, _∙_}
 use mathlib.Core.List.{List, [], _∷_}
 use Prim.Native.Nat.{ℕ}
 use lib.ListN.{length, length-replicate}
@@ -14,11 +15,6 @@ use Rattle.image.proofs.Offset.{offset-unread}
 use borrow.Author.Needs.{needs}
 use Rattle.image.proofs.reader.walk.Statement.{statement}
 use Rattle.image.proofs.reader.walk.Tie as tie
-use Rattle.image.proofs.reader.walk.Reads as reads
-use Rattle.image.proofs.reader.walk.Lts as lts
-use Rattle.image.proofs.reader.ask_header.Reads as ask-header-reads
-use Rattle.image.proofs.reader.lay_counts.Reads as lay-counts-reads
-use Rattle.image.proofs.reader.walk_records.Reads as walk-records-reads
 
 ask-header-requires : tie.Need-ask-header-requires
 ask-header-requires c κs = search needs

@@ -1,20 +1,15 @@
-use Prim.Native.Nat.{_+_, _-_, _*_}
+-- `walk_blocks` meets its contract.
+use Prim.Native.Nat.{_-_}
 use borrow.Author.Needs.{needs}
-use mathlib.Core.Path.{_≡_, refl, sym, ap, ap₂, _∙_}
+use mathlib.Core.Path.{_≡_, sym, ap, _∙_}
 use native.Mathlib.Omega.{arith}
 use Rattle.int64.specs.Little.{little}
-use Rattle.image.specs.Layout.{blocksIn}
+use Rattle.image.specs.Layout.{blockPlace, blocksIn}
 use Rattle.image.proofs.Counts.{counted}
 use Rattle.image.proofs.Header.{header}
 use Rattle.image.proofs.Walks.{AtBlock, blocks-begin, next-block, block-refused, blocks-end, block-length, first-below}
 use Rattle.image.proofs.reader.walk_blocks.Statement.{statement}
 use Rattle.image.proofs.reader.walk_blocks.Tie as tie
-use Rattle.image.proofs.reader.walk_blocks.Reads as reads
-use Rattle.image.proofs.reader.walk_blocks.Lts as lts
-use Rattle.image.proofs.layout.wide.Reads as wide-reads
-use Rattle.image.proofs.reader.ask_block_in.Reads as ask-block-in-reads
-use Rattle.image.proofs.reader.lay_block.Reads as lay-block-reads
-use Rattle.int64.proofs.read_u16.Reads as read-u16-reads
 
 abbrev Inv-loop : tie.InvT-loop
 Inv-loop image marks₀ lays cells₀ blocks at₀ to₀ before₀ b₀ marks cells at to before b = AtBlock image lays cells₀ marks cells at to before b
@@ -47,7 +42,7 @@ read-u16-requires : tie.Need-read-u16-requires Inv-loop μ-loop
 read-u16-requires c κs = omega (arith, header (c .before .before .before .before .before .before .before .before .before .args .image .now) (c .before .before .before .before .before .before .before .before .before .pre .0) .size, c .before .before .before .before .wide .ensures, c .before .before .before .loop .inv .offset)
 
 slice-write-marks : tie.Need-slice-write-marks Inv-loop μ-loop
-slice-write-marks c = let first : c .read-u16 .result ≡ little 2 (c .before .before .before .before .before .before .before .before .before .before .args .image .now) (8 + 10 * c .before .before .before .before .loop .b) = c .read-u16 .ensures .equal ∙ ap (little 2 (c .before .before .before .before .before .before .before .before .before .before .args .image .now)) (c .before .before .before .before .loop .inv .offset) in omega (arith, first, first-below (c .before .before .before .before .before .before .before .before .before .before .args .image .now) (c .before .before .before .before .before .before .before .before .before .before .pre .0) (c .before .before .before .before .loop .b) (omega (arith, c .before .before .before .before .before .wide .ensures)) (sym (c .before .before .ask-block-in .ensures) ∙ c .before .if1 .left), counted _ _ (header (c .before .before .before .before .before .before .before .before .before .before .args .image .now) (c .before .before .before .before .before .before .before .before .before .before .pre .0) .counts) .instructions-fit, c .before .before .before .before .loop .inv .marking .sized)
+slice-write-marks c = let first : c .read-u16 .result ≡ little 2 (c .before .before .before .before .before .before .before .before .before .before .args .image .now) (blockPlace (c .before .before .before .before .loop .b)) = c .read-u16 .ensures .equal ∙ ap (little 2 (c .before .before .before .before .before .before .before .before .before .before .args .image .now)) (c .before .before .before .before .loop .inv .offset) in omega (arith, first, first-below (c .before .before .before .before .before .before .before .before .before .before .args .image .now) (c .before .before .before .before .before .before .before .before .before .before .pre .0) (c .before .before .before .before .loop .b) (omega (arith, c .before .before .before .before .before .wide .ensures)) (sym (c .before .before .ask-block-in .ensures) ∙ c .before .if1 .left), counted _ _ (header (c .before .before .before .before .before .before .before .before .before .before .args .image .now) (c .before .before .before .before .before .before .before .before .before .before .pre .0) .counts) .instructions-fit, c .before .before .before .before .loop .inv .marking .sized)
 
 lay-block-requires : tie.Need-lay-block-requires Inv-loop μ-loop
 lay-block-requires c κs = (omega (arith, header (c .before .before .before .before .before .before .before .before .before .before .before .args .image .now) (c .before .before .before .before .before .before .before .before .before .before .before .pre .0) .size, c .before .before .before .before .before .before .wide .ensures, c .before .before .before .before .before .loop .inv .offset), λ t. (omega (arith, c .before .before .before .before .before .before .before .before .before .before .before .pre .2 t, block-length (c .before .before .before .before .before .before .before .before .before .before .before .args .image .now) (c .before .before .before .before .before .before .before .before .before .before .before .pre .0) (c .before .before .before .before .before .before .before .before .before .before .before .args .lays) (c .before .before .before .before .before .before .before .before .before .before .before .args .cells .now) (c .before .before .before .before .before .loop .marks) (c .before .before .before .before .before .loop .cells) (c .before .before .before .before .before .loop .at) (c .before .before .before .before .before .loop .to) (c .before .before .before .before .before .loop .before) (c .before .before .before .before .before .loop .b) (c .before .before .before .before .before .loop .inv), c .before .before .before .before .before .loop .inv .target, c .before .before .before .before .before .before .wide .ensures, counted _ _ (header (c .before .before .before .before .before .before .before .before .before .before .before .args .image .now) (c .before .before .before .before .before .before .before .before .before .before .before .pre .0) .counts) .blocks-fit)))

@@ -1,4 +1,5 @@
-use mathlib.Core.Path.{_≡_, refl, sym, ap, ap₂, _∙_}
+-- `walk_instructions` meets its contract.
+use mathlib.Core.Path.{sym, _∙_}
 use Prim.Native.Nat.{_-_}
 use native.Mathlib.Omega.{arith}
 use Rattle.image.specs.Layout.{instructionsIn}
@@ -7,11 +8,6 @@ use Rattle.image.proofs.Header.{header}
 use Rattle.image.proofs.Walks.{AtInstruction, instructions-begin, next-instruction, instruction-refused, instructions-end, instruction-length}
 use Rattle.image.proofs.reader.walk_instructions.Statement.{statement}
 use Rattle.image.proofs.reader.walk_instructions.Tie as tie
-use Rattle.image.proofs.reader.walk_instructions.Reads as reads
-use Rattle.image.proofs.reader.walk_instructions.Lts as lts
-use Rattle.image.proofs.reader.ask_instruction_in.Reads as ask-instruction-in-reads
-use Rattle.image.proofs.reader.lay_instruction.Reads as lay-instruction-reads
-use Rattle.int64.proofs.read_u16.Reads as read-u16-reads
 
 abbrev Inv-loop : tie.InvT-loop
 Inv-loop limits largest image marks start lays cells₀ instructions at₀ to₀ i₀ cells at to i = AtInstruction image lays cells₀ cells at to i

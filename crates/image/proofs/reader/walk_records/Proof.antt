@@ -1,7 +1,5 @@
-use mathlib.Core.Path.{_≡_, refl, sym, ap, ap₂, _∙_}
-use mathlib.Core.List.{List}
-use Prim.Native.Nat.{ℕ}
-use lib.ListN.{length}
+-- `walk_records` meets its contract.
+use mathlib.Core.Path.{_≡_, sym, ap, _∙_}
 use native.Mathlib.Omega.{arith}
 use Rattle.image.specs.Layout.{blocksIn, instructionsIn, blockCellsIn, instructionCellsIn, cellsIn}
 use Rattle.image.specs.Questions.{firstNo, blockNo, instructionNo}
@@ -16,13 +14,6 @@ use Rattle.image.proofs.Walks.{end-marked}
 use borrow.Author.Needs.{needs}
 use Rattle.image.proofs.reader.walk_records.Statement.{statement}
 use Rattle.image.proofs.reader.walk_records.Tie as tie
-use Rattle.image.proofs.reader.walk_records.Reads as reads
-use Rattle.image.proofs.reader.walk_records.Lts as lts
-use Rattle.image.proofs.layout.wide.Reads as wide-reads
-use Rattle.image.proofs.questions.all_limits.Reads as all-limits-reads
-use Rattle.image.proofs.reader.walk_blocks.Reads as walk-blocks-reads
-use Rattle.image.proofs.reader.walk_instructions.Reads as walk-instructions-reads
-use Rattle.int64.proofs.read_u16.Reads as read-u16-reads
 
 slice-aggregate-walk-blocks : tie.Need-slice-aggregate-walk-blocks
 slice-aggregate-walk-blocks c = search needs

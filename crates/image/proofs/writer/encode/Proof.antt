@@ -1,15 +1,11 @@
-use mathlib.Core.Path.{_≡_, refl, sym, ap, ap₂, _∙_}
+-- `encode` meets its contract.
+use mathlib.Core.Path.{_∙_}
 use native.Mathlib.Omega.{arith}
 use Rattle.image.proofs.Counts.{counted, two-cells}
 use Rattle.image.proofs.Written.{encoded}
 use borrow.Author.Needs.{needs}
 use Rattle.image.proofs.writer.encode.Statement.{statement}
 use Rattle.image.proofs.writer.encode.Tie as tie
-use Rattle.image.proofs.writer.encode.Reads as reads
-use Rattle.image.proofs.writer.encode.Lts as lts
-use Rattle.image.proofs.writer.encode_blocks.Reads as encode-blocks-reads
-use Rattle.image.proofs.writer.encode_header.Reads as encode-header-reads
-use Rattle.image.proofs.writer.encode_instructions.Reads as encode-instructions-reads
 
 encode-header-requires : tie.Need-encode-header-requires
 encode-header-requires c κs = let k = counted _ _ (c .before .before .before .pre .1) in (two-cells (c .before .before .before .args .cells .now) (c .before .before .before .pre .1), omega arith)

@@ -1,21 +1,18 @@
-use mathlib.Core.Path.{_≡_, refl, sym, ap, ap₂, _∙_}
+-- `encode_blocks` meets its contract.
+use mathlib.Core.Path.{_≡_, refl, ap, ap₂, _∙_}
 use Prim.Native.Nat.{ℕ, _+_, _-_, _*_, _≤_}
 use lib.ListN.{length}
 use lib.Seq.{sets}
 use native.Mathlib.Omega.{arith}
 use Rattle.int64.specs.Little.{bytesOf}
 use Rattle.image.specs.declared.Block.{Block}
-use Rattle.image.specs.Layout.{rows, blockPlace, instructionPlace, blockCount, instructionCount, blockFrom, blockOf, blockBytes}
+use Rattle.image.specs.Layout.{rows, blockPlace, blockCount, blockFrom, blockOf, blockBytes}
 use Rattle.image.proofs.Rows.{row-placed}
 use Rattle.image.proofs.writer.encode_blocks.Statement.{statement}
 use Rattle.image.proofs.writer.encode_blocks.Tie as tie
-use Rattle.image.proofs.writer.encode_blocks.Reads as reads
-use Rattle.image.proofs.writer.encode_blocks.Lts as lts
-use Rattle.image.proofs.layout.block_from.Reads as block-from-reads
-use Rattle.image.proofs.layout.put_block_bytes.Reads as put-block-bytes-reads
 
 abbrev Inv-loop : tie.InvT-loop
-Inv-loop cells image₀ blocks at₀ from₀ b₀ image at from b = (b ≤ blockCount cells) × (at ≡ 8 + 10 * b) × (from ≡ 2 + 6 * b) × (length image ≡ length image₀) × (image ≡ sets image₀ (8) (rows (λ (b : ℕ). blockBytes (blockOf cells b)) b))
+Inv-loop cells image₀ blocks at₀ from₀ b₀ image at from b = (b ≤ blockCount cells) × (at ≡ blockPlace b) × (from ≡ 2 + 6 * b) × (length image ≡ length image₀) × (image ≡ sets image₀ (blockPlace 0) (rows (λ (b : ℕ). blockBytes (blockOf cells b)) b))
 
 abbrev μ-loop : tie.MeasureT-loop
 μ-loop cells image₀ blocks at₀ from₀ b₀ image at from b = blockCount cells - b
@@ -47,13 +44,13 @@ loop-less c = omega arith
 
 loop-again : tie.Need-loop-again Inv-loop μ-loop
 unfolding bytesOf
-loop-again c = (omega arith, omega (arith, c .before .before .before .before .before .before .loop .inv .1), omega (arith, c .before .before .before .before .before .before .loop .inv .2), c .before .before .put-block-bytes .kept .0 ∙ c .before .before .before .before .before .before .loop .inv .3, row-placed (λ (b : ℕ). blockBytes (blockOf (c .before .before .before .before .before .before .before .before .before .before .args .cells .now) b)) 10 (λ b. refl) _ (c .before .before .before .before .before .before .loop .image) _ (8) (c .before .before .before .before .before .before .loop .b) (c .before .before .before .before .before .before .loop .inv .4) (c .before .before .put-block-bytes .ensures ∙ ap₂ (λ (n : ℕ) (k : Block). sets (c .before .before .before .before .before .before .loop .image) n (blockBytes k)) (c .before .before .before .before .before .before .loop .inv .1) (c .before .before .before .before .block-from .ensures ∙ ap (blockFrom (c .before .before .before .before .before .before .before .before .before .before .args .cells .now)) (c .before .before .before .before .before .before .loop .inv .2))))
+loop-again c = (omega arith, omega (arith, c .before .before .before .before .before .before .loop .inv .1), omega (arith, c .before .before .before .before .before .before .loop .inv .2), c .before .before .put-block-bytes .kept .0 ∙ c .before .before .before .before .before .before .loop .inv .3, row-placed (λ (b : ℕ). blockBytes (blockOf (c .before .before .before .before .before .before .before .before .before .before .args .cells .now) b)) 10 (λ b. refl) _ (c .before .before .before .before .before .before .loop .image) _ (blockPlace 0) (c .before .before .before .before .before .before .loop .b) (c .before .before .before .before .before .before .loop .inv .4) (c .before .before .put-block-bytes .ensures ∙ ap₂ (λ (n : ℕ) (k : Block). sets (c .before .before .before .before .before .before .loop .image) n (blockBytes k)) (c .before .before .before .before .before .before .loop .inv .1) (c .before .before .before .before .block-from .ensures ∙ ap (blockFrom (c .before .before .before .before .before .before .before .before .before .before .args .cells .now)) (c .before .before .before .before .before .before .loop .inv .2))))
 
 same-length : tie.Need-same-length Inv-loop μ-loop
 same-length c = c .before .loop .inv .3
 
 returns : tie.Need-returns Inv-loop μ-loop
-returns c = let all : c .before .loop .b ≡ blockCount (c .before .before .before .before .before .args .cells .now) = omega arith in (omega (arith, c .before .loop .inv .1), c .before .loop .inv .4 ∙ ap (λ (n : ℕ). sets (c .before .before .before .before .before .args .image .now) (8) (rows (λ (b : ℕ). blockBytes (blockOf (c .before .before .before .before .before .args .cells .now) b)) n)) all)
+returns c = let all : c .before .loop .b ≡ blockCount (c .before .before .before .before .before .args .cells .now) = omega arith in (omega (arith, c .before .loop .inv .1), c .before .loop .inv .4 ∙ ap (λ (n : ℕ). sets (c .before .before .before .before .before .args .image .now) (blockPlace 0) (rows (λ (b : ℕ). blockBytes (blockOf (c .before .before .before .before .before .args .cells .now) b)) n)) all)
 
 pub encode-blocks-spec : {M : Type 1} → statement M
 encode-blocks-spec =

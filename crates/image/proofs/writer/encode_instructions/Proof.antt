@@ -1,4 +1,5 @@
-use mathlib.Core.Path.{_≡_, refl, sym, ap, ap₂, _∙_}
+-- `encode_instructions` meets its contract.
+use mathlib.Core.Path.{_≡_, refl, ap, ap₂, _∙_}
 use Prim.Native.Nat.{ℕ, _+_, _-_, _*_, _≤_}
 use lib.ListN.{length}
 use lib.Seq.{sets}
@@ -9,13 +10,9 @@ use Rattle.image.specs.Layout.{rows, blockPlace, instructionPlace, block
 use Rattle.image.proofs.Rows.{row-placed}
 use Rattle.image.proofs.writer.encode_instructions.Statement.{statement}
 use Rattle.image.proofs.writer.encode_instructions.Tie as tie
-use Rattle.image.proofs.writer.encode_instructions.Reads as reads
-use Rattle.image.proofs.writer.encode_instructions.Lts as lts
-use Rattle.image.proofs.layout.instruction_from.Reads as instruction-from-reads
-use Rattle.image.proofs.layout.put_instruction_bytes.Reads as put-instruction-bytes-reads
 
 abbrev Inv-loop : tie.InvT-loop
-Inv-loop cells start image₀ instructions at₀ from₀ i₀ image at from i = (i ≤ instructionCount cells) × (at ≡ blockPlace (blockCount cells) + 12 * i) × (from ≡ 770 + 5 * i) × (length image ≡ length image₀) × (image ≡ sets image₀ (blockPlace (blockCount cells)) (rows (λ (i : ℕ). instructionBytes (instructionOf cells i)) i))
+Inv-loop cells start image₀ instructions at₀ from₀ i₀ image at from i = (i ≤ instructionCount cells) × (at ≡ instructionPlace (blockCount cells) i) × (from ≡ 770 + 5 * i) × (length image ≡ length image₀) × (image ≡ sets image₀ (blockPlace (blockCount cells)) (rows (λ (i : ℕ). instructionBytes (instructionOf cells i)) i))
 
 abbrev μ-loop : tie.MeasureT-loop
 μ-loop cells start image₀ instructions at₀ from₀ i₀ image at from i = instructionCount cells - i
