@@ -5,14 +5,14 @@ use borrow.Author.Needs.{needs}
 use Rattle.image.proofs.reader.check.Statement.{statement}
 use Rattle.image.proofs.reader.check.Tie as tie
 
-slice-aggregate-walk : tie.Need-slice-aggregate-walk
-slice-aggregate-walk c = search needs
+slice-aggregate-walk-image : tie.Need-slice-aggregate-walk-image
+slice-aggregate-walk-image c = search needs
 
-walk-requires : tie.Need-walk-requires
-walk-requires c κs = λ t. clash t refl
+walk-image-requires : tie.Need-walk-image-requires
+walk-image-requires c κs = λ t. clash t refl
 
 returns : tie.Need-returns
 returns c = search needs
 
 pub check-spec : {M : Type 1} → statement M
-check-spec = tie.close (tie.spec slice-aggregate-walk walk-requires returns)
+check-spec = tie.close (tie.spec slice-aggregate-walk-image walk-image-requires returns)

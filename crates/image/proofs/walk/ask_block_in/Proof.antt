@@ -6,8 +6,8 @@ use Rattle.image.specs.Layout.{blocksIn, instructionsIn, blockIn}
 use Rattle.image.specs.Questions.{blockRecordNo}
 use Rattle.image.proofs.Header.{header, block-asked}
 use borrow.Author.Needs.{needs}
-use Rattle.image.proofs.reader.ask_block_in.Statement.{statement}
-use Rattle.image.proofs.reader.ask_block_in.Tie as tie
+use Rattle.image.proofs.walk.ask_block_in.Statement.{statement}
+use Rattle.image.proofs.walk.ask_block_in.Tie as tie
 
 shared-slice-read-wide : tie.Need-shared-slice-read-wide
 shared-slice-read-wide c = omega (arith, header (c .before .before .args .image .now) (c .before .before .pre .0) .long)

@@ -1,4 +1,4 @@
--- `walk` meets its contract.
+-- `walk_image` meets its contract.
 use mathlib.Core.Path.{_≡_, sym, ap, _∙_}
 use mathlib.Core.List.{List, [], _∷_}
 use Prim.Native.Nat.{ℕ}
@@ -13,8 +13,8 @@ use Rattle.image.proofs.Header.{header, decoded}
 use Rattle.image.proofs.Walking.{laid-length, when-wanted}
 use Rattle.image.proofs.Offset.{offset-unread}
 use borrow.Author.Needs.{needs}
-use Rattle.image.proofs.reader.walk.Statement.{statement}
-use Rattle.image.proofs.reader.walk.Tie as tie
+use Rattle.image.proofs.reader.walk_image.Statement.{statement}
+use Rattle.image.proofs.reader.walk_image.Tie as tie
 
 ask-header-requires : tie.Need-ask-header-requires
 ask-header-requires c κs = search needs
@@ -40,8 +40,8 @@ returns-2 c = let w = c .before .before .walk-records .ensures in
     let counts : List ℕ = blocksIn (c .before .before .before .before .before .before .before .before .before .before .before .before .args .image .now) ∷ instructionsIn (c .before .before .before .before .before .before .before .before .before .before .before .before .args .image .now) ∷ [] in
     (w .0 ∙ sym (or-else-yes (headerNo (c .before .before .before .before .before .before .before .before .before .before .before .before .args .image .now)) (recordsNo (cellsIn (c .before .before .before .before .before .before .before .before .before .before .before .before .args .image .now))) (sym (c .before .before .before .before .before .before .before .before .before .ask-header .ensures) ∙ c .before .before .before .before .before .before .before .before .if1 .left)), (w .1 .0, λ e t. when-wanted (c .before .before .before .before .before .before .before .before .before .before .before .before .args .lays) _ (recordsLaid (c .before .before .before .before .before .before .before .before .before .before .before .before .args .image .now) _) _ t (w .1 .1 e) ∙ decoded (c .before .before .before .before .before .before .before .before .before .before .before .before .args .image .now) l _ (c .before .before .before .before .before .before .before .before .before .before .before .before .pre t) (when-wanted (c .before .before .before .before .before .before .before .before .before .before .before .before .args .lays) _ (sets l 0 counts) l t (c .before .before .before .before .before .before .lay-counts .ensures))))
 
-pub walk-spec : {M : Type 1} → statement M
-walk-spec =
+pub walk-image-spec : {M : Type 1} → statement M
+walk-image-spec =
     tie.close
     (tie.spec
     ask-header-requires

@@ -12,8 +12,8 @@ use Rattle.image.proofs.Walking.{laid-length, laid-twice}
 use Rattle.image.proofs.Offset.{records-no, offset-at-block, offset-past-blocks, past-blocks}
 use Rattle.image.proofs.Walks.{end-marked}
 use borrow.Author.Needs.{needs}
-use Rattle.image.proofs.reader.walk_records.Statement.{statement}
-use Rattle.image.proofs.reader.walk_records.Tie as tie
+use Rattle.image.proofs.walk.walk_records.Statement.{statement}
+use Rattle.image.proofs.walk.walk_records.Tie as tie
 
 slice-aggregate-walk-blocks : tie.Need-slice-aggregate-walk-blocks
 slice-aggregate-walk-blocks c = search needs

@@ -8,8 +8,8 @@ use lib.Seq.{sets}
 use native.Mathlib.Omega.{arith}
 use Rattle.image.specs.Layout.{blocksIn, instructionsIn}
 use borrow.Author.Needs.{needs}
-use Rattle.image.proofs.reader.lay_counts.Statement.{statement}
-use Rattle.image.proofs.reader.lay_counts.Tie as tie
+use Rattle.image.proofs.walk.lay_counts.Statement.{statement}
+use Rattle.image.proofs.walk.lay_counts.Tie as tie
 
 shared-slice-read-wide : tie.Need-shared-slice-read-wide
 shared-slice-read-wide c = search needs

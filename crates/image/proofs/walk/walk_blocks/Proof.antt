@@ -8,8 +8,8 @@ use Rattle.image.specs.Layout.{blockPlace, blocksIn}
 use Rattle.image.proofs.Counts.{counted}
 use Rattle.image.proofs.Header.{header}
 use Rattle.image.proofs.Walks.{AtBlock, blocks-begin, next-block, block-refused, blocks-end, block-length, first-below}
-use Rattle.image.proofs.reader.walk_blocks.Statement.{statement}
-use Rattle.image.proofs.reader.walk_blocks.Tie as tie
+use Rattle.image.proofs.walk.walk_blocks.Statement.{statement}
+use Rattle.image.proofs.walk.walk_blocks.Tie as tie
 
 abbrev Inv-loop : tie.InvT-loop
 Inv-loop image marks₀ lays cells₀ blocks at₀ to₀ before₀ b₀ marks cells at to before b = AtBlock image lays cells₀ marks cells at to before b

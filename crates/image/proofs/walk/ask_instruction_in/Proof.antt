@@ -9,8 +9,8 @@ use Rattle.image.proofs.Counts.{counted}
 use Rattle.image.proofs.Header.{header, instruction-asked, cells-in-instructions}
 use Rattle.image.proofs.Marking.{mark-told}
 use Rattle.image.proofs.Limiting.{limited-by, asked-by}
-use Rattle.image.proofs.reader.ask_instruction_in.Statement.{statement}
-use Rattle.image.proofs.reader.ask_instruction_in.Tie as tie
+use Rattle.image.proofs.walk.ask_instruction_in.Statement.{statement}
+use Rattle.image.proofs.walk.ask_instruction_in.Tie as tie
 
 instruction-in-requires : tie.Need-instruction-in-requires
 instruction-in-requires c κs = omega (arith, header (c .before .before .before .before .args .image .now) (c .before .before .before .before .pre .0) .size)

@@ -5,8 +5,8 @@ use lib.Seq.{sets}
 use Rattle.image.specs.declared.Instruction.{Instruction}
 use Rattle.image.specs.Layout.{instructionIn, instructionCells}
 use borrow.Author.Needs.{needs}
-use Rattle.image.proofs.reader.lay_instruction.Statement.{statement}
-use Rattle.image.proofs.reader.lay_instruction.Tie as tie
+use Rattle.image.proofs.walk.lay_instruction.Statement.{statement}
+use Rattle.image.proofs.walk.lay_instruction.Tie as tie
 
 instruction-in-requires : tie.Need-instruction-in-requires
 instruction-in-requires c κs = search needs

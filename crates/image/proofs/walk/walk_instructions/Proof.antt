@@ -6,8 +6,8 @@ use Rattle.image.specs.Layout.{instructionsIn}
 use Rattle.image.proofs.Counts.{counted}
 use Rattle.image.proofs.Header.{header}
 use Rattle.image.proofs.Walks.{AtInstruction, instructions-begin, next-instruction, instruction-refused, instructions-end, instruction-length}
-use Rattle.image.proofs.reader.walk_instructions.Statement.{statement}
-use Rattle.image.proofs.reader.walk_instructions.Tie as tie
+use Rattle.image.proofs.walk.walk_instructions.Statement.{statement}
+use Rattle.image.proofs.walk.walk_instructions.Tie as tie
 
 abbrev Inv-loop : tie.InvT-loop
 Inv-loop limits largest image marks start lays cells₀ instructions at₀ to₀ i₀ cells at to i = AtInstruction image lays cells₀ cells at to i

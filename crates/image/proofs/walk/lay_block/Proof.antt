@@ -5,8 +5,8 @@ use lib.Seq.{sets}
 use Rattle.image.specs.declared.Block.{Block}
 use Rattle.image.specs.Layout.{blockIn, blockCells}
 use borrow.Author.Needs.{needs}
-use Rattle.image.proofs.reader.lay_block.Statement.{statement}
-use Rattle.image.proofs.reader.lay_block.Tie as tie
+use Rattle.image.proofs.walk.lay_block.Statement.{statement}
+use Rattle.image.proofs.walk.lay_block.Tie as tie
 
 block-in-requires : tie.Need-block-in-requires
 block-in-requires c κs = search needs

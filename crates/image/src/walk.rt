@@ -1,0 +1,163 @@
+// The walk over an image's records, blocks and then instructions, with one offset that each record moves on. Reader and image check both
+// take it: it puts the questions to each record and, where `lays` says that cells are wanted, lays the record into a program buffer.
+use crate::layout;
+use crate::questions;
+ghost use mathlib.Core.Path.{_≡_};
+ghost use mathlib.Core.Bool.{true, cond};
+ghost use mathlib.Core.List.{[], _∷_};
+ghost use Prim.Native.Nat.{_+_, _-_, _<_, _≤_};
+ghost use lib.ListN.{length};
+ghost use lib.Seq.{sets};
+ghost use Rattle.image.specs.Layout.{blockPlace, instructionPlace, blocksIn, instructionsIn, programCells, blockIn, instructionIn, blockCells, instructionCells, blockCellsIn, instructionCellsIn, recordsLaid, cellsIn};
+ghost use Rattle.image.specs.Questions.{firstNo, blockNo, instructionNo, recordsNo};
+ghost use Rattle.image.specs.Marks.{Marked, Ended};
+ghost use Rattle.image.specs.Limits.{Limited};
+ghost use Rattle.image.specs.Doors.{headerNo};
+ghost use Rattle.image.specs.Offset.{blocksOffset, instructionsOffset, offsetIn};
+
+// What the walk came to: the first no, or 0, and the offset there.
+pub struct Walked {
+    pub no: u8,
+    pub at: usize,
+}
+
+// Questions 6 and 7 of block b, whose record is at `at`; its predecessor starts at `before`.
+fn ask_block_in(image: &[u8], b: usize, at: usize, before: u64) -> u8
+    requires { ⌜ (headerNo (now image) ≡ 0) × (b < blocksIn (now image)) × (at ≡ blockPlace b) × (0 < b → before ≡ blockIn (now image) (blockPlace (b - 1)) .first) ⌝ }
+    ensures { λ r. ⌜ r ≡ blockNo (cellsIn (now (image .entry))) b ⌝ }
+{
+    let blocks = layout::wide(image[5]);
+    let instructions = int64::read_u16(image, 6);
+    let k = layout::block_in(image, at);
+    questions::ask_block_record(blocks, instructions, b, before, k)
+}
+
+// Lays the block record at `at` into the cells from `to` on.
+fn lay_block(image: &[u8], at: usize, lays: bool, cells: &mut [u64], to: usize)
+    requires { ⌜ (at + 10 ≤ length (now image)) × (lays ≡ true → to + 6 ≤ length (now cells)) ⌝ }
+    ensures { λ _. ⌜ now (cells .exit) ≡ cond lays (sets (now (cells .entry)) to (blockCells (blockIn (now (image .entry)) at))) (now (cells .entry)) ⌝ }
+{
+    if lays {
+        let k = layout::block_in(image, at);
+        layout::put_block(cells, to, k);
+    }
+}
+
+// Questions 6 and 7 of all blocks. Where all are answered with yes, marks the instructions that start a block.
+fn walk_blocks(image: &[u8], marks: &mut [u8], lays: bool, cells: &mut [u64]) -> Walked
+    requires { ⌜ (headerNo (now image) ≡ 0) × Marked (cellsIn (now image)) 0 (now marks) × (lays ≡ true → length (now cells) ≡ programCells) ⌝ }
+    ensures { λ r. ⌜ r .no ≡ firstNo (blockNo (cellsIn (now (image .entry)))) (blocksIn (now (image .entry))) 0 ⌝ }
+    ensures { λ r. ⌜ r .at ≡ blocksOffset (now (image .entry)) ⌝ }
+    ensures { λ r. ⌜ (r .no ≡ 0 → Marked (cellsIn (now (image .entry))) (blocksIn (now (image .entry))) (now (marks .exit))) ⌝ }
+    ensures { λ r. ⌜ (r .no ≡ 0 → now (cells .exit) ≡ cond lays (sets (now (cells .entry)) 2 (blockCellsIn (now (image .entry)) (blocksIn (now (image .entry))))) (now (cells .entry))) ⌝ }
+{
+    let blocks = layout::wide(image[5]) as usize;
+    let mut at = 8;
+    let mut to = 2;
+    let mut before = 0;
+    let mut b = 0;
+    while b < blocks {
+        let no = ask_block_in(image, b, at, before);
+        if no != 0 {
+            return Walked { no, at };
+        }
+        before = int64::read_u16(image, at);
+        marks[before as usize] = 1;
+        lay_block(image, at, lays, cells, to);
+        at = at + 10;
+        to = to + 6;
+        b = b + 1;
+    }
+    Walked { no: 0, at }
+}
+
+// Questions 8 and 9 of instruction i, whose record is at `at`.
+fn ask_instruction_in(
+    limits: &[u64],
+    largest: &[u64],
+    image: &[u8],
+    marks: &[u8],
+    i: usize,
+    at: usize,
+) -> u8
+    requires { ⌜ (headerNo (now image) ≡ 0) × Limited (blocksIn (now image)) (now limits) (now largest) × Ended (cellsIn (now image)) (now marks) × (i < instructionsIn (now image)) × (at ≡ instructionPlace (blocksIn (now image)) i) ⌝ }
+    ensures { λ r. ⌜ r ≡ instructionNo (cellsIn (now (image .entry))) i ⌝ }
+{
+    let x = layout::instruction_in(image, at);
+    questions::ask_instruction(limits, largest, x, marks[i + 1])
+}
+
+// Lays the instruction record at `at` into the cells from `to` on.
+fn lay_instruction(image: &[u8], at: usize, lays: bool, cells: &mut [u64], to: usize)
+    requires { ⌜ (at + 12 ≤ length (now image)) × (lays ≡ true → to + 5 ≤ length (now cells)) ⌝ }
+    ensures { λ _. ⌜ now (cells .exit) ≡ cond lays (sets (now (cells .entry)) to (instructionCells (instructionIn (now (image .entry)) at))) (now (cells .entry)) ⌝ }
+{
+    if lays {
+        let x = layout::instruction_in(image, at);
+        layout::put_instruction(cells, to, x);
+    }
+}
+
+// Questions 8 and 9 of all instructions, whose records begin at `start`, the last block's end.
+fn walk_instructions(
+    limits: &[u64],
+    largest: &[u64],
+    image: &[u8],
+    marks: &[u8],
+    start: usize,
+    lays: bool,
+    cells: &mut [u64],
+) -> Walked
+    requires { ⌜ (headerNo (now image) ≡ 0) × Limited (blocksIn (now image)) (now limits) (now largest) × Ended (cellsIn (now image)) (now marks) × (start ≡ blockPlace (blocksIn (now image))) × (lays ≡ true → length (now cells) ≡ programCells) ⌝ }
+    ensures { λ r. ⌜ r .no ≡ firstNo (instructionNo (cellsIn (now (image .entry)))) (instructionsIn (now (image .entry))) 0 ⌝ }
+    ensures { λ r. ⌜ r .at ≡ instructionsOffset (now (image .entry)) ⌝ }
+    ensures { λ r. ⌜ (r .no ≡ 0 → now (cells .exit) ≡ cond lays (sets (now (cells .entry)) 770 (instructionCellsIn (now (image .entry)) (instructionsIn (now (image .entry))))) (now (cells .entry))) ⌝ }
+{
+    let instructions = int64::read_u16(image, 6) as usize;
+    let mut at = start;
+    let mut to = 770;
+    let mut i = 0;
+    while i < instructions {
+        let no = ask_instruction_in(limits, largest, image, marks, i, at);
+        if no != 0 {
+            return Walked { no, at };
+        }
+        lay_instruction(image, at, lays, cells, to);
+        at = at + 12;
+        to = to + 5;
+        i = i + 1;
+    }
+    Walked { no: 0, at }
+}
+
+// Questions 6 to 9. The reader alone calls it, after the header's questions.
+pub fn walk_records(image: &[u8], lays: bool, cells: &mut [u64]) -> Walked
+    requires { ⌜ (headerNo (now image) ≡ 0) × (lays ≡ true → length (now cells) ≡ programCells) ⌝ }
+    ensures { λ r. ⌜ r .no ≡ recordsNo (cellsIn (now (image .entry))) ⌝ }
+    ensures { λ r. ⌜ r .at ≡ offsetIn (now (image .entry)) ⌝ }
+    ensures { λ r. ⌜ (r .no ≡ 0 → now (cells .exit) ≡ cond lays (recordsLaid (now (image .entry)) (now (cells .entry))) (now (cells .entry))) ⌝ }
+{
+    let mut marks = [0u8; 1025];
+    let walked = walk_blocks(image, &mut marks, lays, cells);
+    if walked.no != 0 {
+        return walked;
+    }
+    let end = int64::read_u16(image, 6) as usize;
+    marks[end] = 1;
+    let mut limits = [0u64; 60];
+    questions::all_limits(&mut limits);
+    // Of each kind of operand: absent, register, label, integer.
+    let largest = [0, 15, layout::wide(image[5]) - 1, u64::MAX];
+    walk_instructions(&limits, &largest, image, &marks, walked.at, lays, cells)
+}
+
+// Lays the two counts into the first cells. The reader alone calls it, with an image that has a header.
+pub fn lay_counts(image: &[u8], lays: bool, cells: &mut [u64])
+    requires { ⌜ (8 ≤ length (now image)) × (lays ≡ true → 1 < length (now cells)) ⌝ }
+    ensures { λ _. ⌜ now (cells .exit) ≡ cond lays (sets (now (cells .entry)) 0 (blocksIn (now (image .entry)) ∷ instructionsIn (now (image .entry)) ∷ [])) (now (cells .entry)) ⌝ }
+{
+    if lays {
+        cells[0] = layout::wide(image[5]);
+        cells[1] = int64::read_u16(image, 6);
+    }
+}
