@@ -33,10 +33,19 @@ shared-slice-read-ask-instruction : tie.Need-shared-slice-read-ask-instruction I
 shared-slice-read-ask-instruction c = omega (arith, c .before .before .before .before .before .before .before .before .before .pre .3 .sized, c .before .before .before .before .instructions-held .ensures .0)
 
 ask-instruction-requires : tie.Need-ask-instruction-requires Inv-loop μ-loop
-ask-instruction-requires c κs = (limited-by (blockCount (c .before .before .before .before .before .before .before .before .before .args .cells .now)) (c .before .before .before .before .before .before .before .before .before .args .limits .now) (c .before .before .before .before .before .before .before .before .before .args .largest .now) (c .before .before .before .before .before .before .before .before .before .pre .0), mark-told (lastInBlock (c .before .before .before .before .before .before .before .before .before .args .cells .now) (c .before .before .before .loop .i)) (getD (c .before .before .before .before .before .before .before .before .before .args .marks .now) (c .before .before .before .loop .i + 1) 0) (c .before .before .before .before .before .before .before .before .before .pre .3 .ended (c .before .before .before .loop .i) (omega (arith, c .before .before .before .before .instructions-held .ensures .0))) .1)
+ask-instruction-requires c κs =
+    let cells = c .before .before .before .before .before .before .before .before .before .args .cells .now in
+    let l = c .before .before .before .loop in
+    let held = c .before .before .before .before .instructions-held .ensures in
+    (limited-by (blockCount cells) (c .before .before .before .before .before .before .before .before .before .args .limits .now) (c .before .before .before .before .before .before .before .before .before .args .largest .now) (c .before .before .before .before .before .before .before .before .before .pre .0), mark-told (lastInBlock cells (l .i)) (getD (c .before .before .before .before .before .before .before .before .before .args .marks .now) (l .i + 1) 0) (c .before .before .before .before .before .before .before .before .before .pre .3 .ended (l .i) (omega (arith, held .0))) .1)
 
 returns : tie.Need-returns Inv-loop μ-loop
-returns c = let no = c .before .ask-instruction .ensures ∙ asked-by (c .before .before .before .before .before .before .before .before .before .before .before .args .cells .now) (c .before .before .before .before .before .before .before .before .before .before .before .args .marks .now) (blockCount (c .before .before .before .before .before .before .before .before .before .before .before .args .cells .now)) (c .before .before .before .before .before .before .before .before .before .before .before .args .limits .now) (c .before .before .before .before .before .before .before .before .before .before .before .args .largest .now) (c .before .before .before .before .before .before .before .before .before .before .before .pre .0) (c .before .before .before .before .before .before .before .before .before .before .before .pre .3) (c .before .before .before .before .before .loop .i) (omega (arith, c .before .before .before .before .before .before .instructions-held .ensures .0)) (c .before .before .before .instruction-of .result) ∙ ap (instructionRecordNo (blockCount (c .before .before .before .before .before .before .before .before .before .before .before .args .cells .now)) (lastInBlock (c .before .before .before .before .before .before .before .before .before .before .before .args .cells .now) (c .before .before .before .before .before .loop .i))) (c .before .before .before .instruction-of .ensures) ∙ asked-held (c .before .before .before .before .before .before .before .before .before .before .before .args .cells .now) (c .before .before .before .before .before .loop .i) (c .before .before .before .before .before .before .instructions-held .ensures .1 (c .before .before .before .before .before .loop .i) (c .before .before .before .before .loop-test .taken)) in no ∙ sym (c .before .before .before .before .before .loop .inv .1 ∙ decides (instructionNo (c .before .before .before .before .before .before .before .before .before .before .before .args .cells .now)) (instructionCount (c .before .before .before .before .before .before .before .before .before .before .before .args .cells .now)) (c .before .before .before .before .before .loop .i) (omega (arith, c .before .before .before .before .before .before .instructions-held .ensures .0)) (λ e. c .if1 .taken (no ∙ e)))
+returns c =
+    let cells = c .before .before .before .before .before .before .before .before .before .before .before .args .cells .now in
+    let l = c .before .before .before .before .before .loop in
+    let held = c .before .before .before .before .before .before .instructions-held .ensures in
+    let no = c .before .ask-instruction .ensures ∙ asked-by cells (c .before .before .before .before .before .before .before .before .before .before .before .args .marks .now) (blockCount cells) (c .before .before .before .before .before .before .before .before .before .before .before .args .limits .now) (c .before .before .before .before .before .before .before .before .before .before .before .args .largest .now) (c .before .before .before .before .before .before .before .before .before .before .before .pre .0) (c .before .before .before .before .before .before .before .before .before .before .before .pre .3) (l .i) (omega (arith, held .0)) (c .before .before .before .instruction-of .result) ∙ ap (instructionRecordNo (blockCount cells) (lastInBlock cells (l .i))) (c .before .before .before .instruction-of .ensures) ∙ asked-held cells (l .i) (held .1 (l .i) (c .before .before .before .before .loop-test .taken)) in
+    no ∙ sym (l .inv .1 ∙ decides (instructionNo cells) (instructionCount cells) (l .i) (omega (arith, held .0)) (λ e. c .if1 .taken (no ∙ e)))
 
 add-i : tie.Need-add-i Inv-loop μ-loop
 add-i c = omega arith
@@ -45,13 +54,22 @@ loop-less : tie.Need-loop-less Inv-loop μ-loop
 loop-less c = omega arith
 
 loop-again : tie.Need-loop-again Inv-loop μ-loop
-loop-again c = let no = c .before .ask-instruction .ensures ∙ asked-by (c .before .before .before .before .before .before .before .before .before .before .before .args .cells .now) (c .before .before .before .before .before .before .before .before .before .before .before .args .marks .now) (blockCount (c .before .before .before .before .before .before .before .before .before .before .before .args .cells .now)) (c .before .before .before .before .before .before .before .before .before .before .before .args .limits .now) (c .before .before .before .before .before .before .before .before .before .before .before .args .largest .now) (c .before .before .before .before .before .before .before .before .before .before .before .pre .0) (c .before .before .before .before .before .before .before .before .before .before .before .pre .3) (c .before .before .before .before .before .loop .i) (omega (arith, c .before .before .before .before .before .before .instructions-held .ensures .0)) (c .before .before .before .instruction-of .result) ∙ ap (instructionRecordNo (blockCount (c .before .before .before .before .before .before .before .before .before .before .before .args .cells .now)) (lastInBlock (c .before .before .before .before .before .before .before .before .before .before .before .args .cells .now) (c .before .before .before .before .before .loop .i))) (c .before .before .before .instruction-of .ensures) ∙ asked-held (c .before .before .before .before .before .before .before .before .before .before .before .args .cells .now) (c .before .before .before .before .before .loop .i) (c .before .before .before .before .before .before .instructions-held .ensures .1 (c .before .before .before .before .before .loop .i) (c .before .before .before .before .loop-test .taken)) in (omega arith, c .before .before .before .before .before .loop .inv .1 ∙ goes-on (instructionNo (c .before .before .before .before .before .before .before .before .before .before .before .args .cells .now)) (instructionCount (c .before .before .before .before .before .before .before .before .before .before .before .args .cells .now)) (c .before .before .before .before .before .loop .i) (omega (arith, c .before .before .before .before .before .before .instructions-held .ensures .0)) (sym no ∙ c .if1 .left))
+loop-again c =
+    let cells = c .before .before .before .before .before .before .before .before .before .before .before .args .cells .now in
+    let l = c .before .before .before .before .before .loop in
+    let held = c .before .before .before .before .before .before .instructions-held .ensures in
+    let no = c .before .ask-instruction .ensures ∙ asked-by cells (c .before .before .before .before .before .before .before .before .before .before .before .args .marks .now) (blockCount cells) (c .before .before .before .before .before .before .before .before .before .before .before .args .limits .now) (c .before .before .before .before .before .before .before .before .before .before .before .args .largest .now) (c .before .before .before .before .before .before .before .before .before .before .before .pre .0) (c .before .before .before .before .before .before .before .before .before .before .before .pre .3) (l .i) (omega (arith, held .0)) (c .before .before .before .instruction-of .result) ∙ ap (instructionRecordNo (blockCount cells) (lastInBlock cells (l .i))) (c .before .before .before .instruction-of .ensures) ∙ asked-held cells (l .i) (held .1 (l .i) (c .before .before .before .before .loop-test .taken)) in
+    (omega arith, l .inv .1 ∙ goes-on (instructionNo cells) (instructionCount cells) (l .i) (omega (arith, held .0)) (sym no ∙ c .if1 .left))
 
 shared-slice-read-if2 : tie.Need-shared-slice-read-if2 Inv-loop μ-loop
 shared-slice-read-if2 c = omega arith
 
 returns-2 : tie.Need-returns-2 Inv-loop μ-loop
-returns-2 c = let short = not-held (c .before .before .before .before .before .before .before .before .before .args .cells .now) (c .before .before .before .loop .i) (omega (arith, c .before .before .before .before .instructions-held .ensures .2 (c .if2 .taken))) in sym (c .before .before .before .loop .inv .1 ∙ decides (instructionNo (c .before .before .before .before .before .before .before .before .before .args .cells .now)) (instructionCount (c .before .before .before .before .before .before .before .before .before .args .cells .now)) (c .before .before .before .loop .i) (omega arith) (λ e. (omega (arith, short, e))) ∙ short)
+returns-2 c =
+    let cells = c .before .before .before .before .before .before .before .before .before .args .cells .now in
+    let l = c .before .before .before .loop in
+    let short = not-held cells (l .i) (omega (arith, c .before .before .before .before .instructions-held .ensures .2 (c .if2 .taken))) in
+    sym (l .inv .1 ∙ decides (instructionNo cells) (instructionCount cells) (l .i) (omega arith) (λ e. (omega (arith, short, e))) ∙ short)
 
 returns-3 : tie.Need-returns-3 Inv-loop μ-loop
 returns-3 c = sym (c .before .before .before .loop .inv .1 ∙ no-more (instructionNo (c .before .before .before .before .before .before .before .before .before .args .cells .now)) (instructionCount (c .before .before .before .before .before .before .before .before .before .args .cells .now)) (c .before .before .before .loop .i) (omega arith))

@@ -14,17 +14,27 @@ slice-aggregate-ask-blocks : tie.Need-slice-aggregate-ask-blocks
 slice-aggregate-ask-blocks c = search needs
 
 ask-blocks-requires : tie.Need-ask-blocks-requires
-ask-blocks-requires c κs = let k = counted (blockCount (c .before .before .args .cells .now)) (instructionCount (c .before .before .args .cells .now)) (c .before .before .pre) in (two-cells (c .before .before .args .cells .now) (c .before .before .pre), k .blocks-fit, k .instructions-fit, marked-none (c .before .before .args .cells .now))
+ask-blocks-requires c κs =
+    let cells = c .before .before .args .cells .now in
+    let ok = c .before .before .pre in
+    let k = counted (blockCount cells) (instructionCount cells) ok in
+    (two-cells cells ok, k .blocks-fit, k .instructions-fit, marked-none cells)
 
 returns : tie.Need-returns
 unfolding recordsNo
-returns c = c .before .before .ask-blocks .ensures .0 ∙ sym (or-else-no (firstNo (blockNo (c .before .before .before .before .before .args .cells .now)) (blockCount (c .before .before .before .before .before .args .cells .now)) 0) (firstNo (instructionNo (c .before .before .before .before .before .args .cells .now)) (instructionCount (c .before .before .before .before .before .args .cells .now)) 0) (λ e. c .if1 .taken (c .before .before .ask-blocks .ensures .0 ∙ e)))
+returns c =
+    let cells = c .before .before .before .before .before .args .cells .now in
+    let asked = c .before .before .ask-blocks .ensures .0 in
+    asked ∙ sym (or-else-no (firstNo (blockNo cells) (blockCount cells) 0) (firstNo (instructionNo cells) (instructionCount cells) 0) (λ e. c .if1 .taken (asked ∙ e)))
 
 shared-slice-read-end : tie.Need-shared-slice-read-end
 shared-slice-read-end c = two-cells (c .before .before .before .before .before .before .args .cells .now) (c .before .before .before .before .before .before .pre)
 
 array-write-marks : tie.Need-array-write-marks
-array-write-marks c = omega (arith, counted (blockCount (c .before .before .before .before .before .before .args .cells .now)) (instructionCount (c .before .before .before .before .before .before .args .cells .now)) (c .before .before .before .before .before .before .pre) .instructions-fit)
+array-write-marks c =
+    let cells = c .before .before .before .before .before .before .args .cells .now in
+    let ok = c .before .before .before .before .before .before .pre in
+    omega (arith, counted (blockCount cells) (instructionCount cells) ok .instructions-fit)
 
 slice-aggregate-all-limits : tie.Need-slice-aggregate-all-limits
 slice-aggregate-all-limits c = search needs
@@ -36,7 +46,10 @@ shared-slice-read-t11 : tie.Need-shared-slice-read-t11
 shared-slice-read-t11 c = omega (arith, two-cells (c .before .before .before .before .before .before .before .before .before .before .args .cells .now) (c .before .before .before .before .before .before .before .before .before .before .pre))
 
 sub-t18 : tie.Need-sub-t18
-sub-t18 c = counted (blockCount (c .before .before .before .before .before .before .before .before .before .before .args .cells .now)) (instructionCount (c .before .before .before .before .before .before .before .before .before .before .args .cells .now)) (c .before .before .before .before .before .before .before .before .before .before .pre) .some-block
+sub-t18 c =
+    let cells = c .before .before .before .before .before .before .before .before .before .before .args .cells .now in
+    let ok = c .before .before .before .before .before .before .before .before .before .before .pre in
+    counted (blockCount cells) (instructionCount cells) ok .some-block
 
 slice-aggregate-ask-instructions : tie.Need-slice-aggregate-ask-instructions
 slice-aggregate-ask-instructions c = search needs
@@ -48,11 +61,17 @@ slice-aggregate-ask-instructions-3 : tie.Need-slice-aggregate-ask-instructions-3
 slice-aggregate-ask-instructions-3 c = search needs
 
 ask-instructions-requires : tie.Need-ask-instructions-requires
-ask-instructions-requires c κs = let k = counted (blockCount (c .before .before .before .before .before .before .before .before .before .before .before .before .before .args .cells .now)) (instructionCount (c .before .before .before .before .before .before .before .before .before .before .before .before .before .args .cells .now)) (c .before .before .before .before .before .before .before .before .before .before .before .before .before .pre) in (record { some-block = k .some-block; limits-are = c .before .before .before .before .before .all-limits .ensures; largest-are = refl }, two-cells (c .before .before .before .before .before .before .before .before .before .before .before .before .before .args .cells .now) (c .before .before .before .before .before .before .before .before .before .before .before .before .before .pre), k .instructions-fit, ended (c .before .before .before .before .before .before .before .before .before .before .before .before .before .args .cells .now) _ (c .before .before .before .before .before .before .before .before .before .before .ask-blocks .ensures .1 (c .before .before .before .before .before .before .before .before .if1 .left)) (k .instructions-fit))
+ask-instructions-requires c κs =
+    let cells = c .before .before .before .before .before .before .before .before .before .before .before .before .before .args .cells .now in
+    let ok = c .before .before .before .before .before .before .before .before .before .before .before .before .before .pre in
+    let k = counted (blockCount cells) (instructionCount cells) ok in
+    (record { some-block = k .some-block; limits-are = c .before .before .before .before .before .all-limits .ensures; largest-are = refl }, two-cells cells ok, k .instructions-fit, ended cells _ (c .before .before .before .before .before .before .before .before .before .before .ask-blocks .ensures .1 (c .before .before .before .before .before .before .before .before .if1 .left)) (k .instructions-fit))
 
 returns-2 : tie.Need-returns-2
 unfolding recordsNo
-returns-2 c = c .ask-instructions .ensures ∙ sym (or-else-yes (firstNo (blockNo (c .before .before .before .before .before .before .before .before .before .before .before .before .before .before .args .cells .now)) (blockCount (c .before .before .before .before .before .before .before .before .before .before .before .before .before .before .args .cells .now)) 0) (firstNo (instructionNo (c .before .before .before .before .before .before .before .before .before .before .before .before .before .before .args .cells .now)) (instructionCount (c .before .before .before .before .before .before .before .before .before .before .before .before .before .before .args .cells .now)) 0) (sym (c .before .before .before .before .before .before .before .before .before .before .before .ask-blocks .ensures .0) ∙ c .before .before .before .before .before .before .before .before .before .if1 .left))
+returns-2 c =
+    let cells = c .before .before .before .before .before .before .before .before .before .before .before .before .before .before .args .cells .now in
+    c .ask-instructions .ensures ∙ sym (or-else-yes (firstNo (blockNo cells) (blockCount cells) 0) (firstNo (instructionNo cells) (instructionCount cells) 0) (sym (c .before .before .before .before .before .before .before .before .before .before .before .ask-blocks .ensures .0) ∙ c .before .before .before .before .before .before .before .before .before .if1 .left))
 
 pub ask-records-spec : {M : Type 1} → statement M
 ask-records-spec =

@@ -20,10 +20,22 @@ mul-if3 : tie.Need-mul-if3
 mul-if3 c = search needs
 
 shared-slice-read-if3 : tie.Need-shared-slice-read-if3
-shared-slice-read-if3 c = omega (arith, row-inside (blocksBy (c .before .before .before .args .largest .now)) (c .before .before .before .args .limits .now) (c .before .before .before .args .largest .now) (c .before .before .before .pre) (c .before .before .before .args .x) (c .before .before .if1 .left) (c .before .if2 .left))
+shared-slice-read-if3 c =
+    let limits = c .before .before .before .args .limits .now in
+    let largest = c .before .before .before .args .largest .now in
+    let B = blocksBy largest in
+    let L = c .before .before .before .pre in
+    let x = c .before .before .before .args .x in
+    omega (arith, row-inside B limits largest L x (c .before .before .if1 .left) (c .before .if2 .left))
 
 returns-3 : tie.Need-returns-3
-returns-3 c = sym (beyond-r (blocksBy (c .before .before .before .before .before .args .largest .now)) (c .before .before .before .before .before .args .limits .now) (c .before .before .before .before .before .args .largest .now) (c .before .before .before .before .before .pre) (c .before .before .before .before .before .args .x) (c .before .before .before .before .if1 .left) (c .before .before .before .if2 .left) (c .if3 .taken))
+returns-3 c =
+    let limits = c .before .before .before .before .before .args .limits .now in
+    let largest = c .before .before .before .before .before .args .largest .now in
+    let B = blocksBy largest in
+    let L = c .before .before .before .before .before .pre in
+    let x = c .before .before .before .before .before .args .x in
+    sym (beyond-r B limits largest L x (c .before .before .before .before .if1 .left) (c .before .before .before .if2 .left) (c .if3 .taken))
 
 add-if4 : tie.Need-add-if4
 add-if4 c = search needs
@@ -32,10 +44,22 @@ mul-if4 : tie.Need-mul-if4
 mul-if4 c = search needs
 
 shared-slice-read-if4 : tie.Need-shared-slice-read-if4
-shared-slice-read-if4 c = omega (arith, row-inside (blocksBy (c .before .before .before .before .before .before .args .largest .now)) (c .before .before .before .before .before .before .args .limits .now) (c .before .before .before .before .before .before .args .largest .now) (c .before .before .before .before .before .before .pre) (c .before .before .before .before .before .before .args .x) (c .before .before .before .before .before .if1 .left) (c .before .before .before .before .if2 .left))
+shared-slice-read-if4 c =
+    let limits = c .before .before .before .before .before .before .args .limits .now in
+    let largest = c .before .before .before .before .before .before .args .largest .now in
+    let B = blocksBy largest in
+    let L = c .before .before .before .before .before .before .pre in
+    let x = c .before .before .before .before .before .before .args .x in
+    omega (arith, row-inside B limits largest L x (c .before .before .before .before .before .if1 .left) (c .before .before .before .before .if2 .left))
 
 returns-4 : tie.Need-returns-4
-returns-4 c = sym (beyond-s (blocksBy (c .before .before .before .before .before .before .before .before .args .largest .now)) (c .before .before .before .before .before .before .before .before .args .limits .now) (c .before .before .before .before .before .before .before .before .args .largest .now) (c .before .before .before .before .before .before .before .before .pre) (c .before .before .before .before .before .before .before .before .args .x) (c .before .before .before .before .before .before .before .if1 .left) (c .before .before .before .before .before .before .if2 .left) (c .before .before .before .if3 .left) (c .if4 .taken))
+returns-4 c =
+    let limits = c .before .before .before .before .before .before .before .before .args .limits .now in
+    let largest = c .before .before .before .before .before .before .before .before .args .largest .now in
+    let B = blocksBy largest in
+    let L = c .before .before .before .before .before .before .before .before .pre in
+    let x = c .before .before .before .before .before .before .before .before .args .x in
+    sym (beyond-s B limits largest L x (c .before .before .before .before .before .before .before .if1 .left) (c .before .before .before .before .before .before .if2 .left) (c .before .before .before .if3 .left) (c .if4 .taken))
 
 add-if5 : tie.Need-add-if5
 add-if5 c = search needs
@@ -44,10 +68,22 @@ mul-if5 : tie.Need-mul-if5
 mul-if5 c = search needs
 
 shared-slice-read-if5 : tie.Need-shared-slice-read-if5
-shared-slice-read-if5 c = omega (arith, row-inside (blocksBy (c .before .before .before .before .before .before .before .before .before .args .largest .now)) (c .before .before .before .before .before .before .before .before .before .args .limits .now) (c .before .before .before .before .before .before .before .before .before .args .largest .now) (c .before .before .before .before .before .before .before .before .before .pre) (c .before .before .before .before .before .before .before .before .before .args .x) (c .before .before .before .before .before .before .before .before .if1 .left) (c .before .before .before .before .before .before .before .if2 .left))
+shared-slice-read-if5 c =
+    let limits = c .before .before .before .before .before .before .before .before .before .args .limits .now in
+    let largest = c .before .before .before .before .before .before .before .before .before .args .largest .now in
+    let B = blocksBy largest in
+    let L = c .before .before .before .before .before .before .before .before .before .pre in
+    let x = c .before .before .before .before .before .before .before .before .before .args .x in
+    omega (arith, row-inside B limits largest L x (c .before .before .before .before .before .before .before .before .if1 .left) (c .before .before .before .before .before .before .before .if2 .left))
 
 returns-5 : tie.Need-returns-5
-returns-5 c = sym (below-kind (blocksBy (c .before .before .before .before .before .before .before .before .before .before .args .largest .now)) (c .before .before .before .before .before .before .before .before .before .before .args .limits .now) (c .before .before .before .before .before .before .before .before .before .before .args .largest .now) (c .before .before .before .before .before .before .before .before .before .before .pre) (c .before .before .before .before .before .before .before .before .before .before .args .x) (c .before .before .before .before .before .before .before .before .before .if1 .left) (c .before .before .before .before .before .before .before .before .if2 .left) (c .before .before .before .before .before .if3 .left) (c .before .before .if4 .left) (c .if5 .taken))
+returns-5 c =
+    let limits = c .before .before .before .before .before .before .before .before .before .before .args .limits .now in
+    let largest = c .before .before .before .before .before .before .before .before .before .before .args .largest .now in
+    let B = blocksBy largest in
+    let L = c .before .before .before .before .before .before .before .before .before .before .pre in
+    let x = c .before .before .before .before .before .before .before .before .before .before .args .x in
+    sym (below-kind B limits largest L x (c .before .before .before .before .before .before .before .before .before .if1 .left) (c .before .before .before .before .before .before .before .before .if2 .left) (c .before .before .before .before .before .if3 .left) (c .before .before .if4 .left) (c .if5 .taken))
 
 add-if6 : tie.Need-add-if6
 add-if6 c = search needs
@@ -56,19 +92,51 @@ mul-if6 : tie.Need-mul-if6
 mul-if6 c = search needs
 
 shared-slice-read-if6 : tie.Need-shared-slice-read-if6
-shared-slice-read-if6 c = omega (arith, row-inside (blocksBy (c .before .before .before .before .before .before .before .before .before .before .before .args .largest .now)) (c .before .before .before .before .before .before .before .before .before .before .before .args .limits .now) (c .before .before .before .before .before .before .before .before .before .before .before .args .largest .now) (c .before .before .before .before .before .before .before .before .before .before .before .pre) (c .before .before .before .before .before .before .before .before .before .before .before .args .x) (c .before .before .before .before .before .before .before .before .before .before .if1 .left) (c .before .before .before .before .before .before .before .before .before .if2 .left))
+shared-slice-read-if6 c =
+    let limits = c .before .before .before .before .before .before .before .before .before .before .before .args .limits .now in
+    let largest = c .before .before .before .before .before .before .before .before .before .before .before .args .largest .now in
+    let B = blocksBy largest in
+    let L = c .before .before .before .before .before .before .before .before .before .before .before .pre in
+    let x = c .before .before .before .before .before .before .before .before .before .before .before .args .x in
+    omega (arith, row-inside B limits largest L x (c .before .before .before .before .before .before .before .before .before .before .if1 .left) (c .before .before .before .before .before .before .before .before .before .if2 .left))
 
 returns-6 : tie.Need-returns-6
-returns-6 c = sym (beyond-kind (blocksBy (c .before .before .before .before .before .before .before .before .before .before .before .before .args .largest .now)) (c .before .before .before .before .before .before .before .before .before .before .before .before .args .limits .now) (c .before .before .before .before .before .before .before .before .before .before .before .before .args .largest .now) (c .before .before .before .before .before .before .before .before .before .before .before .before .pre) (c .before .before .before .before .before .before .before .before .before .before .before .before .args .x) (c .before .before .before .before .before .before .before .before .before .before .before .if1 .left) (c .before .before .before .before .before .before .before .before .before .before .if2 .left) (c .before .before .before .before .before .before .before .if3 .left) (c .before .before .before .before .if4 .left) (c .if6 .taken))
+returns-6 c =
+    let limits = c .before .before .before .before .before .before .before .before .before .before .before .before .args .limits .now in
+    let largest = c .before .before .before .before .before .before .before .before .before .before .before .before .args .largest .now in
+    let B = blocksBy largest in
+    let L = c .before .before .before .before .before .before .before .before .before .before .before .before .pre in
+    let x = c .before .before .before .before .before .before .before .before .before .before .before .before .args .x in
+    sym (beyond-kind B limits largest L x (c .before .before .before .before .before .before .before .before .before .before .before .if1 .left) (c .before .before .before .before .before .before .before .before .before .before .if2 .left) (c .before .before .before .before .before .before .before .if3 .left) (c .before .before .before .before .if4 .left) (c .if6 .taken))
 
 mul-result : tie.Need-mul-result
-mul-result c = omega (arith, kind-known (blocksBy (c .before .before .before .before .before .before .before .before .before .before .before .before .args .largest .now)) (c .before .before .before .before .before .before .before .before .before .before .before .before .args .limits .now) (c .before .before .before .before .before .before .before .before .before .before .before .before .args .largest .now) (c .before .before .before .before .before .before .before .before .before .before .before .before .pre) (c .before .before .before .before .before .before .before .before .before .before .before .before .args .x) (c .before .before .before .before .before .before .before .before .before .before .before .if1 .left) (c .before .before .before .before .before .before .before .before .before .before .if2 .left) (c .if6 .left))
+mul-result c =
+    let limits = c .before .before .before .before .before .before .before .before .before .before .before .before .args .limits .now in
+    let largest = c .before .before .before .before .before .before .before .before .before .before .before .before .args .largest .now in
+    let B = blocksBy largest in
+    let L = c .before .before .before .before .before .before .before .before .before .before .before .before .pre in
+    let x = c .before .before .before .before .before .before .before .before .before .before .before .before .args .x in
+    omega (arith, kind-known B limits largest L x (c .before .before .before .before .before .before .before .before .before .before .before .if1 .left) (c .before .before .before .before .before .before .before .before .before .before .if2 .left) (c .if6 .left))
 
 shared-slice-read-result : tie.Need-shared-slice-read-result
-shared-slice-read-result c = omega (arith, kind-known (blocksBy (c .before .before .before .before .before .before .before .before .before .before .before .before .before .args .largest .now)) (c .before .before .before .before .before .before .before .before .before .before .before .before .before .args .limits .now) (c .before .before .before .before .before .before .before .before .before .before .before .before .before .args .largest .now) (c .before .before .before .before .before .before .before .before .before .before .before .before .before .pre) (c .before .before .before .before .before .before .before .before .before .before .before .before .before .args .x) (c .before .before .before .before .before .before .before .before .before .before .before .before .if1 .left) (c .before .before .before .before .before .before .before .before .before .before .before .if2 .left) (c .before .if6 .left), four-largest (blocksBy (c .before .before .before .before .before .before .before .before .before .before .before .before .before .args .largest .now)) (c .before .before .before .before .before .before .before .before .before .before .before .before .before .args .limits .now) (c .before .before .before .before .before .before .before .before .before .before .before .before .before .args .largest .now) (c .before .before .before .before .before .before .before .before .before .before .before .before .before .pre) (c .before .before .before .before .before .before .before .before .before .before .before .before .before .args .x) (c .before .before .before .before .before .before .before .before .before .before .before .before .if1 .left) (c .before .before .before .before .before .before .before .before .before .before .before .if2 .left))
+shared-slice-read-result c =
+    let limits = c .before .before .before .before .before .before .before .before .before .before .before .before .before .args .limits .now in
+    let largest = c .before .before .before .before .before .before .before .before .before .before .before .before .before .args .largest .now in
+    let B = blocksBy largest in
+    let L = c .before .before .before .before .before .before .before .before .before .before .before .before .before .pre in
+    let x = c .before .before .before .before .before .before .before .before .before .before .before .before .before .args .x in
+    let least = c .before .before .before .before .before .before .before .before .before .before .before .before .if1 .left in
+    let most = c .before .before .before .before .before .before .before .before .before .before .before .if2 .left in
+    omega (arith, kind-known B limits largest L x least most (c .before .if6 .left), four-largest B limits largest L x least most)
 
 returns-7 : tie.Need-returns-7
-returns-7 c = sym (operand-decides (blocksBy (c .before .before .before .before .before .before .before .before .before .before .before .before .before .before .args .largest .now)) (c .before .before .before .before .before .before .before .before .before .before .before .before .before .before .args .limits .now) (c .before .before .before .before .before .before .before .before .before .before .before .before .before .before .args .largest .now) (c .before .before .before .before .before .before .before .before .before .before .before .before .before .before .pre) (c .before .before .before .before .before .before .before .before .before .before .before .before .before .before .args .x) (c .before .before .before .before .before .before .before .before .before .before .before .before .before .if1 .left) (c .before .before .before .before .before .before .before .before .before .before .before .before .if2 .left) (c .before .before .before .before .before .before .before .before .before .if3 .left) (c .before .before .before .before .before .before .if4 .left) (c .before .before .before .before .if5 .left) (c .before .before .if6 .left) (omega arith))
+returns-7 c =
+    let limits = c .before .before .before .before .before .before .before .before .before .before .before .before .before .before .args .limits .now in
+    let largest = c .before .before .before .before .before .before .before .before .before .before .before .before .before .before .args .largest .now in
+    let B = blocksBy largest in
+    let L = c .before .before .before .before .before .before .before .before .before .before .before .before .before .before .pre in
+    let x = c .before .before .before .before .before .before .before .before .before .before .before .before .before .before .args .x in
+    sym (operand-decides B limits largest L x (c .before .before .before .before .before .before .before .before .before .before .before .before .before .if1 .left) (c .before .before .before .before .before .before .before .before .before .before .before .before .if2 .left) (c .before .before .before .before .before .before .before .before .before .if3 .left) (c .before .before .before .before .before .before .if4 .left) (c .before .before .before .before .if5 .left) (c .before .before .if6 .left) (omega arith))
 
 pub is-laid-out-spec : {M : Type 1} → statement M
 is-laid-out-spec =

@@ -21,24 +21,34 @@ ask-header-requires c κs = search needs
 
 returns : tie.Need-returns
 unfolding imageNo
-returns c = let refused : headerNo (c .before .before .before .before .args .image .now) ≡ 0 → ⊥ = λ e. c .if1 .taken (c .before .ask-header .ensures ∙ e) in
-    (c .before .ask-header .ensures ∙ sym (or-else-no (headerNo (c .before .before .before .before .args .image .now)) (recordsNo (cellsIn (c .before .before .before .before .args .image .now))) refused), (sym (offset-unread (c .before .before .before .before .args .image .now) refused), λ e. absurd (c .if1 .taken e)))
+returns c =
+    let image = c .before .before .before .before .args .image .now in
+    let asked = c .before .ask-header .ensures in
+    let refused : headerNo image ≡ 0 → ⊥ = λ e. c .if1 .taken (asked ∙ e) in
+    (asked ∙ sym (or-else-no (headerNo image) (recordsNo (cellsIn image)) refused), (sym (offset-unread image refused), λ e. absurd (c .if1 .taken e)))
 
 lay-counts-requires : tie.Need-lay-counts-requires
 lay-counts-requires c κs = (header (c .before .before .before .before .before .args .image .now) (sym (c .before .before .ask-header .ensures) ∙ c .before .if1 .left) .long, λ t. (omega (arith, ap length (c .before .before .before .before .before .pre t), length-replicate {A = ℕ} programCells 0)))
 
 walk-records-requires : tie.Need-walk-records-requires
-walk-records-requires c κs = (sym (c .before .before .before .before .before .before .ask-header .ensures) ∙ c .before .before .before .before .before .if1 .left, λ t. laid-length (c .before .before .before .before .before .before .before .before .before .args .lays) (c .before .before .before .before .before .before .before .before .before .args .cells .now) _ (blocksIn (c .before .before .before .before .before .before .before .before .before .args .image .now) ∷ instructionsIn (c .before .before .before .before .before .before .before .before .before .args .image .now) ∷ []) 0 (c .before .before .before .lay-counts .ensures) ∙ ap length (c .before .before .before .before .before .before .before .before .before .pre t) ∙ length-replicate {A = ℕ} programCells 0)
+walk-records-requires c κs =
+    let image = c .before .before .before .before .before .before .before .before .before .args .image .now in
+    let cells = c .before .before .before .before .before .before .before .before .before .args .cells .now in
+    let counts : List ℕ = blocksIn image ∷ instructionsIn image ∷ [] in
+    (sym (c .before .before .before .before .before .before .ask-header .ensures) ∙ c .before .before .before .before .before .if1 .left, λ t. laid-length (c .before .before .before .before .before .before .before .before .before .args .lays) cells _ counts 0 (c .before .before .before .lay-counts .ensures) ∙ ap length (c .before .before .before .before .before .before .before .before .before .pre t) ∙ length-replicate {A = ℕ} programCells 0)
 
 same-length : tie.Need-same-length
 same-length c = search needs
 
 returns-2 : tie.Need-returns-2
 unfolding imageNo
-returns-2 c = let w = c .before .before .walk-records .ensures in
-    let l = c .before .before .before .before .before .before .before .before .before .before .before .before .args .cells .now in
-    let counts : List ℕ = blocksIn (c .before .before .before .before .before .before .before .before .before .before .before .before .args .image .now) ∷ instructionsIn (c .before .before .before .before .before .before .before .before .before .before .before .before .args .image .now) ∷ [] in
-    (w .0 ∙ sym (or-else-yes (headerNo (c .before .before .before .before .before .before .before .before .before .before .before .before .args .image .now)) (recordsNo (cellsIn (c .before .before .before .before .before .before .before .before .before .before .before .before .args .image .now))) (sym (c .before .before .before .before .before .before .before .before .before .ask-header .ensures) ∙ c .before .before .before .before .before .before .before .before .if1 .left)), (w .1 .0, λ e t. when-wanted (c .before .before .before .before .before .before .before .before .before .before .before .before .args .lays) _ (recordsLaid (c .before .before .before .before .before .before .before .before .before .before .before .before .args .image .now) _) _ t (w .1 .1 e) ∙ decoded (c .before .before .before .before .before .before .before .before .before .before .before .before .args .image .now) l _ (c .before .before .before .before .before .before .before .before .before .before .before .before .pre t) (when-wanted (c .before .before .before .before .before .before .before .before .before .before .before .before .args .lays) _ (sets l 0 counts) l t (c .before .before .before .before .before .before .lay-counts .ensures))))
+returns-2 c =
+    let image = c .before .before .before .before .before .before .before .before .before .before .before .before .args .image .now in
+    let cells = c .before .before .before .before .before .before .before .before .before .before .before .before .args .cells .now in
+    let lays = c .before .before .before .before .before .before .before .before .before .before .before .before .args .lays in
+    let w = c .before .before .walk-records .ensures in
+    let counts : List ℕ = blocksIn image ∷ instructionsIn image ∷ [] in
+    (w .0 ∙ sym (or-else-yes (headerNo image) (recordsNo (cellsIn image)) (sym (c .before .before .before .before .before .before .before .before .before .ask-header .ensures) ∙ c .before .before .before .before .before .before .before .before .if1 .left)), (w .1 .0, λ e t. when-wanted lays _ (recordsLaid image _) _ t (w .1 .1 e) ∙ decoded image cells _ (c .before .before .before .before .before .before .before .before .before .before .before .before .pre t) (when-wanted lays _ (sets cells 0 counts) cells t (c .before .before .before .before .before .before .lay-counts .ensures))))
 
 pub walk-image-spec : {M : Type 1} → statement M
 walk-image-spec =

@@ -22,7 +22,11 @@ shared-slice-read-ask-instruction : tie.Need-shared-slice-read-ask-instruction
 shared-slice-read-ask-instruction c = let k = counted _ _ (header (c .before .before .before .before .before .before .args .image .now) (c .before .before .before .before .before .before .pre .0) .counts) in omega (arith, c .before .before .before .before .before .before .pre .2 .sized, c .before .before .before .before .before .before .pre .3)
 
 ask-instruction-requires : tie.Need-ask-instruction-requires
-ask-instruction-requires c κs = (limited-by (blocksIn (c .before .before .before .before .before .before .args .image .now)) (c .before .before .before .before .before .before .args .limits .now) (c .before .before .before .before .before .before .args .largest .now) (c .before .before .before .before .before .before .pre .1), mark-told (lastInBlock (cellsIn (c .before .before .before .before .before .before .args .image .now)) (c .before .before .before .before .before .before .args .i)) (getD (c .before .before .before .before .before .before .args .marks .now) (c .before .before .before .before .before .before .args .i + 1) 0) (c .before .before .before .before .before .before .pre .2 .ended (c .before .before .before .before .before .before .args .i) (omega (arith, c .before .before .before .before .before .before .pre .3, cells-in-instructions (c .before .before .before .before .before .before .args .image .now)))) .1)
+ask-instruction-requires c κs =
+    let image = c .before .before .before .before .before .before .args .image .now in
+    let i = c .before .before .before .before .before .before .args .i in
+    let below = cells-in-instructions image in
+    (limited-by (blocksIn image) (c .before .before .before .before .before .before .args .limits .now) (c .before .before .before .before .before .before .args .largest .now) (c .before .before .before .before .before .before .pre .1), mark-told (lastInBlock (cellsIn image) i) (getD (c .before .before .before .before .before .before .args .marks .now) (i + 1) 0) (c .before .before .before .before .before .before .pre .2 .ended i (omega (arith, c .before .before .before .before .before .before .pre .3, below))) .1)
 
 returns : tie.Need-returns
 returns c = let image = c .before .before .before .before .before .before .before .args .image .now in

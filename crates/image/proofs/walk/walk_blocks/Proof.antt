@@ -33,19 +33,41 @@ same-length : tie.Need-same-length Inv-loop μ-loop
 same-length c = c .before .before .before .loop .inv .marking .sized ∙ sym (c .before .before .before .before .before .before .before .before .before .pre .1 .sized)
 
 same-length-2 : tie.Need-same-length-2 Inv-loop μ-loop
-same-length-2 c = block-length (c .before .before .before .before .before .before .before .before .before .args .image .now) (c .before .before .before .before .before .before .before .before .before .pre .0) (c .before .before .before .before .before .before .before .before .before .args .lays) (c .before .before .before .before .before .before .before .before .before .args .cells .now) (c .before .before .before .loop .marks) (c .before .before .before .loop .cells) (c .before .before .before .loop .at) (c .before .before .before .loop .to) (c .before .before .before .loop .before) (c .before .before .before .loop .b) (c .before .before .before .loop .inv)
+same-length-2 c =
+    let image = c .before .before .before .before .before .before .before .before .before .args .image .now in
+    let ok = c .before .before .before .before .before .before .before .before .before .pre .0 in
+    let l = c .before .before .before .loop in
+    block-length image ok (c .before .before .before .before .before .before .before .before .before .args .lays) (c .before .before .before .before .before .before .before .before .before .args .cells .now) (l .marks) (l .cells) (l .at) (l .to) (l .before) (l .b) (l .inv)
 
 returns : tie.Need-returns Inv-loop μ-loop
-returns c = let s = block-refused (c .before .before .before .before .before .before .before .before .before .args .image .now) (c .before .before .before .before .before .before .before .before .before .pre .0) (c .before .before .before .before .before .before .before .before .before .args .lays) (c .before .before .before .before .before .before .before .before .before .args .cells .now) (c .before .before .before .loop .marks) (c .before .before .before .loop .cells) (c .before .before .before .loop .at) (c .before .before .before .loop .to) (c .before .before .before .loop .before) (c .before .before .before .loop .b) (c .before .before .before .loop .inv) (omega (arith, c .before .before .before .before .wide .ensures)) (λ e. c .if1 .taken (c .before .ask-block-in .ensures ∙ e)) in (c .before .ask-block-in .ensures ∙ sym (s .0), (s .1, (λ e. absurd (c .if1 .taken e), λ e. absurd (c .if1 .taken e))))
+returns c =
+    let image = c .before .before .before .before .before .before .before .before .before .args .image .now in
+    let ok = c .before .before .before .before .before .before .before .before .before .pre .0 in
+    let l = c .before .before .before .loop in
+    let asked = c .before .ask-block-in .ensures in
+    let s = block-refused image ok (c .before .before .before .before .before .before .before .before .before .args .lays) (c .before .before .before .before .before .before .before .before .before .args .cells .now) (l .marks) (l .cells) (l .at) (l .to) (l .before) (l .b) (l .inv) (omega (arith, c .before .before .before .before .wide .ensures)) (λ e. c .if1 .taken (asked ∙ e)) in
+    (asked ∙ sym (s .0), (s .1, (λ e. absurd (c .if1 .taken e), λ e. absurd (c .if1 .taken e))))
 
 read-u16-requires : tie.Need-read-u16-requires Inv-loop μ-loop
 read-u16-requires c κs = omega (arith, header (c .before .before .before .before .before .before .before .before .before .args .image .now) (c .before .before .before .before .before .before .before .before .before .pre .0) .size, c .before .before .before .before .wide .ensures, c .before .before .before .loop .inv .offset)
 
 slice-write-marks : tie.Need-slice-write-marks Inv-loop μ-loop
-slice-write-marks c = let first : c .read-u16 .result ≡ little 2 (c .before .before .before .before .before .before .before .before .before .before .args .image .now) (blockPlace (c .before .before .before .before .loop .b)) = c .read-u16 .ensures .equal ∙ ap (little 2 (c .before .before .before .before .before .before .before .before .before .before .args .image .now)) (c .before .before .before .before .loop .inv .offset) in omega (arith, first, first-below (c .before .before .before .before .before .before .before .before .before .before .args .image .now) (c .before .before .before .before .before .before .before .before .before .before .pre .0) (c .before .before .before .before .loop .b) (omega (arith, c .before .before .before .before .before .wide .ensures)) (sym (c .before .before .ask-block-in .ensures) ∙ c .before .if1 .left), counted _ _ (header (c .before .before .before .before .before .before .before .before .before .before .args .image .now) (c .before .before .before .before .before .before .before .before .before .before .pre .0) .counts) .instructions-fit, c .before .before .before .before .loop .inv .marking .sized)
+slice-write-marks c =
+    let image = c .before .before .before .before .before .before .before .before .before .before .args .image .now in
+    let ok = c .before .before .before .before .before .before .before .before .before .before .pre .0 in
+    let l = c .before .before .before .before .loop in
+    let first : c .read-u16 .result ≡ little 2 image (blockPlace (l .b)) = c .read-u16 .ensures .equal ∙ ap (little 2 image) (l .inv .offset) in
+    let below = first-below image ok (l .b) (omega (arith, c .before .before .before .before .before .wide .ensures)) (sym (c .before .before .ask-block-in .ensures) ∙ c .before .if1 .left) in
+    omega (arith, first, below, counted _ _ (header image ok .counts) .instructions-fit, l .inv .marking .sized)
 
 lay-block-requires : tie.Need-lay-block-requires Inv-loop μ-loop
-lay-block-requires c κs = (omega (arith, header (c .before .before .before .before .before .before .before .before .before .before .before .args .image .now) (c .before .before .before .before .before .before .before .before .before .before .before .pre .0) .size, c .before .before .before .before .before .before .wide .ensures, c .before .before .before .before .before .loop .inv .offset), λ t. (omega (arith, c .before .before .before .before .before .before .before .before .before .before .before .pre .2 t, block-length (c .before .before .before .before .before .before .before .before .before .before .before .args .image .now) (c .before .before .before .before .before .before .before .before .before .before .before .pre .0) (c .before .before .before .before .before .before .before .before .before .before .before .args .lays) (c .before .before .before .before .before .before .before .before .before .before .before .args .cells .now) (c .before .before .before .before .before .loop .marks) (c .before .before .before .before .before .loop .cells) (c .before .before .before .before .before .loop .at) (c .before .before .before .before .before .loop .to) (c .before .before .before .before .before .loop .before) (c .before .before .before .before .before .loop .b) (c .before .before .before .before .before .loop .inv), c .before .before .before .before .before .loop .inv .target, c .before .before .before .before .before .before .wide .ensures, counted _ _ (header (c .before .before .before .before .before .before .before .before .before .before .before .args .image .now) (c .before .before .before .before .before .before .before .before .before .before .before .pre .0) .counts) .blocks-fit)))
+lay-block-requires c κs =
+    let image = c .before .before .before .before .before .before .before .before .before .before .before .args .image .now in
+    let ok = c .before .before .before .before .before .before .before .before .before .before .before .pre .0 in
+    let l = c .before .before .before .before .before .loop in
+    let below = c .before .before .before .before .before .before .wide .ensures in
+    let few = counted _ _ (header image ok .counts) .blocks-fit in
+    (omega (arith, header image ok .size, below, l .inv .offset), λ t. (omega (arith, c .before .before .before .before .before .before .before .before .before .before .before .pre .2 t, block-length image ok (c .before .before .before .before .before .before .before .before .before .before .before .args .lays) (c .before .before .before .before .before .before .before .before .before .before .before .args .cells .now) (l .marks) (l .cells) (l .at) (l .to) (l .before) (l .b) (l .inv), l .inv .target, below, few)))
 
 add-at : tie.Need-add-at Inv-loop μ-loop
 add-at c = omega (arith, c .before .before .before .before .before .before .before .before .loop .inv .offset, c .before .before .before .before .before .before .before .before .before .wide .ensures, counted _ _ (header (c .before .before .before .before .before .before .before .before .before .before .before .before .before .before .args .image .now) (c .before .before .before .before .before .before .before .before .before .before .before .before .before .before .pre .0) .counts) .blocks-fit)
@@ -60,16 +82,29 @@ loop-less : tie.Need-loop-less Inv-loop μ-loop
 loop-less c = omega (arith, c .before .before .before .before .before .before .before .before .before .wide .ensures)
 
 loop-again : tie.Need-loop-again Inv-loop μ-loop
-loop-again c = next-block (c .before .before .before .before .before .before .before .before .before .before .before .before .before .before .args .image .now) (c .before .before .before .before .before .before .before .before .before .before .before .before .before .before .pre .0) (c .before .before .before .before .before .before .before .before .before .before .before .before .before .before .args .lays) (c .before .before .before .before .before .before .before .before .before .before .before .before .before .before .args .cells .now) (c .before .before .before .before .before .before .before .before .loop .marks) (c .before .before .before .before .before .before .before .before .loop .cells) (c .before .before .before .before .before .before .before .before .loop .at) (c .before .before .before .before .before .before .before .before .loop .to) (c .before .before .before .before .before .before .before .before .loop .before) (c .before .before .before .before .before .before .before .before .loop .b) (c .before .before .before .before .before .before .before .before .loop .inv) _ (c .before .before .before .before .read-u16 .result) (omega (arith, c .before .before .before .before .before .before .before .before .before .wide .ensures)) (sym (c .before .before .before .before .before .before .ask-block-in .ensures) ∙ c .before .before .before .before .before .if1 .left) (c .before .before .before .before .read-u16 .ensures .equal) (c .before .before .lay-block .ensures)
+loop-again c =
+    let image = c .before .before .before .before .before .before .before .before .before .before .before .before .before .before .args .image .now in
+    let ok = c .before .before .before .before .before .before .before .before .before .before .before .before .before .before .pre .0 in
+    let l = c .before .before .before .before .before .before .before .before .loop in
+    next-block image ok (c .before .before .before .before .before .before .before .before .before .before .before .before .before .before .args .lays) (c .before .before .before .before .before .before .before .before .before .before .before .before .before .before .args .cells .now) (l .marks) (l .cells) (l .at) (l .to) (l .before) (l .b) (l .inv) _ (c .before .before .before .before .read-u16 .result) (omega (arith, c .before .before .before .before .before .before .before .before .before .wide .ensures)) (sym (c .before .before .before .before .before .before .ask-block-in .ensures) ∙ c .before .before .before .before .before .if1 .left) (c .before .before .before .before .read-u16 .ensures .equal) (c .before .before .lay-block .ensures)
 
 same-length-3 : tie.Need-same-length-3 Inv-loop μ-loop
 same-length-3 c = c .before .loop .inv .marking .sized ∙ sym (c .before .before .before .before .before .before .before .pre .1 .sized)
 
 same-length-4 : tie.Need-same-length-4 Inv-loop μ-loop
-same-length-4 c = block-length (c .before .before .before .before .before .before .before .args .image .now) (c .before .before .before .before .before .before .before .pre .0) (c .before .before .before .before .before .before .before .args .lays) (c .before .before .before .before .before .before .before .args .cells .now) (c .before .loop .marks) (c .before .loop .cells) (c .before .loop .at) (c .before .loop .to) (c .before .loop .before) (c .before .loop .b) (c .before .loop .inv)
+same-length-4 c =
+    let image = c .before .before .before .before .before .before .before .args .image .now in
+    let ok = c .before .before .before .before .before .before .before .pre .0 in
+    let l = c .before .loop in
+    block-length image ok (c .before .before .before .before .before .before .before .args .lays) (c .before .before .before .before .before .before .before .args .cells .now) (l .marks) (l .cells) (l .at) (l .to) (l .before) (l .b) (l .inv)
 
 returns-2 : tie.Need-returns-2 Inv-loop μ-loop
-returns-2 c = let s = blocks-end (c .before .before .before .before .before .before .before .args .image .now) (c .before .before .before .before .before .before .before .pre .0) (c .before .before .before .before .before .before .before .args .lays) (c .before .before .before .before .before .before .before .args .cells .now) (c .before .loop .marks) (c .before .loop .cells) (c .before .loop .at) (c .before .loop .to) (c .before .loop .before) (c .before .loop .b) (c .before .loop .inv) (omega (arith, c .before .before .wide .ensures)) in (sym (s .0), (s .1, (λ _. s .2, λ _. s .3)))
+returns-2 c =
+    let image = c .before .before .before .before .before .before .before .args .image .now in
+    let ok = c .before .before .before .before .before .before .before .pre .0 in
+    let l = c .before .loop in
+    let s = blocks-end image ok (c .before .before .before .before .before .before .before .args .lays) (c .before .before .before .before .before .before .before .args .cells .now) (l .marks) (l .cells) (l .at) (l .to) (l .before) (l .b) (l .inv) (omega (arith, c .before .before .wide .ensures)) in
+    (sym (s .0), (s .1, (λ _. s .2, λ _. s .3)))
 
 pub walk-blocks-spec : {M : Type 1} → statement M
 walk-blocks-spec =

@@ -25,16 +25,34 @@ ask-instruction-in-requires : tie.Need-ask-instruction-in-requires Inv-loop μ-l
 ask-instruction-in-requires c κs = (c .before .before .before .before .before .before .before .before .pre .0, c .before .before .before .before .before .before .before .before .pre .1, c .before .before .before .before .before .before .before .before .pre .2, omega (arith, c .before .before .read-u16 .ensures .equal), c .before .loop .inv .offset)
 
 same-length : tie.Need-same-length Inv-loop μ-loop
-same-length c = instruction-length (c .before .before .before .before .before .before .before .before .before .before .args .image .now) (c .before .before .before .before .before .before .before .before .before .before .pre .0) (c .before .before .before .before .before .before .before .before .before .before .args .lays) (c .before .before .before .before .before .before .before .before .before .before .args .cells .now) (c .before .before .before .loop .cells) (c .before .before .before .loop .at) (c .before .before .before .loop .to) (c .before .before .before .loop .i) (c .before .before .before .loop .inv)
+same-length c =
+    let image = c .before .before .before .before .before .before .before .before .before .before .args .image .now in
+    let ok = c .before .before .before .before .before .before .before .before .before .before .pre .0 in
+    let l = c .before .before .before .loop in
+    instruction-length image ok (c .before .before .before .before .before .before .before .before .before .before .args .lays) (c .before .before .before .before .before .before .before .before .before .before .args .cells .now) (l .cells) (l .at) (l .to) (l .i) (l .inv)
 
 returns : tie.Need-returns Inv-loop μ-loop
-returns c = let s = instruction-refused (c .before .before .before .before .before .before .before .before .before .before .args .image .now) (c .before .before .before .before .before .before .before .before .before .before .pre .0) (c .before .before .before .before .before .before .before .before .before .before .args .lays) (c .before .before .before .before .before .before .before .before .before .before .args .cells .now) (c .before .before .before .loop .cells) (c .before .before .before .loop .at) (c .before .before .before .loop .to) (c .before .before .before .loop .i) (c .before .before .before .loop .inv) (omega (arith, c .before .before .before .before .read-u16 .ensures .equal)) (λ e. c .if1 .taken (c .before .ask-instruction-in .ensures ∙ e)) in (c .before .ask-instruction-in .ensures ∙ sym (s .0), (s .1, λ e. absurd (c .if1 .taken e)))
+returns c =
+    let image = c .before .before .before .before .before .before .before .before .before .before .args .image .now in
+    let ok = c .before .before .before .before .before .before .before .before .before .before .pre .0 in
+    let l = c .before .before .before .loop in
+    let asked = c .before .ask-instruction-in .ensures in
+    let s = instruction-refused image ok (c .before .before .before .before .before .before .before .before .before .before .args .lays) (c .before .before .before .before .before .before .before .before .before .before .args .cells .now) (l .cells) (l .at) (l .to) (l .i) (l .inv) (omega (arith, c .before .before .before .before .read-u16 .ensures .equal)) (λ e. c .if1 .taken (asked ∙ e)) in
+    (asked ∙ sym (s .0), (s .1, λ e. absurd (c .if1 .taken e)))
 
 lay-instruction-requires : tie.Need-lay-instruction-requires Inv-loop μ-loop
-lay-instruction-requires c κs = (omega (arith, header (c .before .before .before .before .before .before .before .before .before .before .before .args .image .now) (c .before .before .before .before .before .before .before .before .before .before .before .pre .0) .size, c .before .before .before .before .before .read-u16 .ensures .equal, c .before .before .before .before .loop .inv .offset), λ t. (omega (arith, c .before .before .before .before .before .before .before .before .before .before .before .pre .4 t, instruction-length (c .before .before .before .before .before .before .before .before .before .before .before .args .image .now) (c .before .before .before .before .before .before .before .before .before .before .before .pre .0) (c .before .before .before .before .before .before .before .before .before .before .before .args .lays) (c .before .before .before .before .before .before .before .before .before .before .before .args .cells .now) (c .before .before .before .before .loop .cells) (c .before .before .before .before .loop .at) (c .before .before .before .before .loop .to) (c .before .before .before .before .loop .i) (c .before .before .before .before .loop .inv), c .before .before .before .before .loop .inv .target, c .before .before .before .before .before .read-u16 .ensures .equal, counted _ _ (header (c .before .before .before .before .before .before .before .before .before .before .before .args .image .now) (c .before .before .before .before .before .before .before .before .before .before .before .pre .0) .counts) .instructions-fit)))
+lay-instruction-requires c κs =
+    let image = c .before .before .before .before .before .before .before .before .before .before .before .args .image .now in
+    let ok = c .before .before .before .before .before .before .before .before .before .before .before .pre .0 in
+    let l = c .before .before .before .before .loop in
+    let below = c .before .before .before .before .before .read-u16 .ensures .equal in
+    let few = counted _ _ (header image ok .counts) .instructions-fit in
+    (omega (arith, header image ok .size, below, l .inv .offset), λ t. (omega (arith, c .before .before .before .before .before .before .before .before .before .before .before .pre .4 t, instruction-length image ok (c .before .before .before .before .before .before .before .before .before .before .before .args .lays) (c .before .before .before .before .before .before .before .before .before .before .before .args .cells .now) (l .cells) (l .at) (l .to) (l .i) (l .inv), l .inv .target, below, few)))
 
 add-at : tie.Need-add-at Inv-loop μ-loop
-add-at c = omega (arith, c .before .before .before .before .before .before .before .loop .inv .offset, c .before .before .before .before .before .before .before .before .read-u16 .ensures .equal, counted _ _ (header (c .before .before .before .before .before .before .before .before .before .before .before .before .before .before .args .image .now) (c .before .before .before .before .before .before .before .before .before .before .before .before .before .before .pre .0) .counts) .instructions-fit, counted _ _ (header (c .before .before .before .before .before .before .before .before .before .before .before .before .before .before .args .image .now) (c .before .before .before .before .before .before .before .before .before .before .before .before .before .before .pre .0) .counts) .blocks-fit)
+add-at c =
+    let k = counted _ _ (header (c .before .before .before .before .before .before .before .before .before .before .before .before .before .before .args .image .now) (c .before .before .before .before .before .before .before .before .before .before .before .before .before .before .pre .0) .counts) in
+    omega (arith, c .before .before .before .before .before .before .before .loop .inv .offset, c .before .before .before .before .before .before .before .before .read-u16 .ensures .equal, k .instructions-fit, k .blocks-fit)
 
 add-to : tie.Need-add-to Inv-loop μ-loop
 add-to c = omega (arith, c .before .before .before .before .before .before .before .loop .inv .target, c .before .before .before .before .before .before .before .before .read-u16 .ensures .equal, counted _ _ (header (c .before .before .before .before .before .before .before .before .before .before .before .before .before .before .args .image .now) (c .before .before .before .before .before .before .before .before .before .before .before .before .before .before .pre .0) .counts) .instructions-fit)
@@ -46,13 +64,26 @@ loop-less : tie.Need-loop-less Inv-loop μ-loop
 loop-less c = omega (arith, c .before .before .before .before .before .before .before .before .read-u16 .ensures .equal)
 
 loop-again : tie.Need-loop-again Inv-loop μ-loop
-loop-again c = next-instruction (c .before .before .before .before .before .before .before .before .before .before .before .before .before .before .args .image .now) (c .before .before .before .before .before .before .before .before .before .before .before .before .before .before .pre .0) (c .before .before .before .before .before .before .before .before .before .before .before .before .before .before .args .lays) (c .before .before .before .before .before .before .before .before .before .before .before .before .before .before .args .cells .now) (c .before .before .before .before .before .before .before .loop .cells) (c .before .before .before .before .before .before .before .loop .at) (c .before .before .before .before .before .before .before .loop .to) (c .before .before .before .before .before .before .before .loop .i) (c .before .before .before .before .before .before .before .loop .inv) _ (omega (arith, c .before .before .before .before .before .before .before .before .read-u16 .ensures .equal)) (sym (c .before .before .before .before .before .ask-instruction-in .ensures) ∙ c .before .before .before .before .if1 .left) (c .before .before .lay-instruction .ensures)
+loop-again c =
+    let image = c .before .before .before .before .before .before .before .before .before .before .before .before .before .before .args .image .now in
+    let ok = c .before .before .before .before .before .before .before .before .before .before .before .before .before .before .pre .0 in
+    let l = c .before .before .before .before .before .before .before .loop in
+    next-instruction image ok (c .before .before .before .before .before .before .before .before .before .before .before .before .before .before .args .lays) (c .before .before .before .before .before .before .before .before .before .before .before .before .before .before .args .cells .now) (l .cells) (l .at) (l .to) (l .i) (l .inv) _ (omega (arith, c .before .before .before .before .before .before .before .before .read-u16 .ensures .equal)) (sym (c .before .before .before .before .before .ask-instruction-in .ensures) ∙ c .before .before .before .before .if1 .left) (c .before .before .lay-instruction .ensures)
 
 same-length-2 : tie.Need-same-length-2 Inv-loop μ-loop
-same-length-2 c = instruction-length (c .before .before .before .before .before .before .before .before .args .image .now) (c .before .before .before .before .before .before .before .before .pre .0) (c .before .before .before .before .before .before .before .before .args .lays) (c .before .before .before .before .before .before .before .before .args .cells .now) (c .before .loop .cells) (c .before .loop .at) (c .before .loop .to) (c .before .loop .i) (c .before .loop .inv)
+same-length-2 c =
+    let image = c .before .before .before .before .before .before .before .before .args .image .now in
+    let ok = c .before .before .before .before .before .before .before .before .pre .0 in
+    let l = c .before .loop in
+    instruction-length image ok (c .before .before .before .before .before .before .before .before .args .lays) (c .before .before .before .before .before .before .before .before .args .cells .now) (l .cells) (l .at) (l .to) (l .i) (l .inv)
 
 returns-2 : tie.Need-returns-2 Inv-loop μ-loop
-returns-2 c = let s = instructions-end (c .before .before .before .before .before .before .before .before .args .image .now) (c .before .before .before .before .before .before .before .before .pre .0) (c .before .before .before .before .before .before .before .before .args .lays) (c .before .before .before .before .before .before .before .before .args .cells .now) (c .before .loop .cells) (c .before .loop .at) (c .before .loop .to) (c .before .loop .i) (c .before .loop .inv) (omega (arith, c .before .before .read-u16 .ensures .equal)) in (sym (s .0), (s .1, λ _. s .2))
+returns-2 c =
+    let image = c .before .before .before .before .before .before .before .before .args .image .now in
+    let ok = c .before .before .before .before .before .before .before .before .pre .0 in
+    let l = c .before .loop in
+    let s = instructions-end image ok (c .before .before .before .before .before .before .before .before .args .lays) (c .before .before .before .before .before .before .before .before .args .cells .now) (l .cells) (l .at) (l .to) (l .i) (l .inv) (omega (arith, c .before .before .read-u16 .ensures .equal)) in
+    (sym (s .0), (s .1, λ _. s .2))
 
 pub walk-instructions-spec : {M : Type 1} → statement M
 walk-instructions-spec =

@@ -25,9 +25,12 @@ same-length : tie.Need-same-length
 same-length c = search needs
 
 returns : tie.Need-returns
-returns c = let e = c .before .before .before .before .before .walk-blocks .ensures in
-    let refused : firstNo (blockNo (cellsIn (c .before .before .before .before .before .before .before .before .before .before .args .image .now))) (blocksIn (c .before .before .before .before .before .before .before .before .before .before .args .image .now)) 0 ≡ 0 → ⊥ = λ z. c .if1 .taken (e .0 ∙ z) in
-    (e .0 ∙ sym (records-no (c .before .before .before .before .before .before .before .before .before .before .args .image .now) ∙ or-else-no (firstNo (blockNo (cellsIn (c .before .before .before .before .before .before .before .before .before .before .args .image .now))) (blocksIn (c .before .before .before .before .before .before .before .before .before .before .args .image .now)) 0) (firstNo (instructionNo (cellsIn (c .before .before .before .before .before .before .before .before .before .before .args .image .now))) (instructionsIn (c .before .before .before .before .before .before .before .before .before .before .args .image .now)) 0) refused), (e .1 .0 ∙ sym (offset-at-block (c .before .before .before .before .before .before .before .before .before .before .args .image .now) (c .before .before .before .before .before .before .before .before .before .before .pre .0) refused), λ z. absurd (c .if1 .taken z)))
+returns c =
+    let image = c .before .before .before .before .before .before .before .before .before .before .args .image .now in
+    let ok = c .before .before .before .before .before .before .before .before .before .before .pre .0 in
+    let e = c .before .before .before .before .before .walk-blocks .ensures in
+    let refused : firstNo (blockNo (cellsIn image)) (blocksIn image) 0 ≡ 0 → ⊥ = λ z. c .if1 .taken (e .0 ∙ z) in
+    (e .0 ∙ sym (records-no image ∙ or-else-no (firstNo (blockNo (cellsIn image)) (blocksIn image) 0) (firstNo (instructionNo (cellsIn image)) (instructionsIn image) 0) refused), (e .1 .0 ∙ sym (offset-at-block image ok refused), λ z. absurd (c .if1 .taken z)))
 
 read-u16-requires : tie.Need-read-u16-requires
 read-u16-requires c κs = omega (arith, header (c .before .before .before .before .before .before .before .before .before .before .args .image .now) (c .before .before .before .before .before .before .before .before .before .before .pre .0) .long)
@@ -60,17 +63,28 @@ slice-aggregate-walk-instructions-3 : tie.Need-slice-aggregate-walk-instructions
 slice-aggregate-walk-instructions-3 c = search needs
 
 walk-instructions-requires : tie.Need-walk-instructions-requires
-walk-instructions-requires c κs = let e = c .before .before .before .before .before .before .before .before .before .before .before .before .before .before .before .walk-blocks .ensures in
-    (c .before .before .before .before .before .before .before .before .before .before .before .before .before .before .before .before .before .before .before .before .pre .0, record { some-block = counted _ _ (header (c .before .before .before .before .before .before .before .before .before .before .before .before .before .before .before .before .before .before .before .before .args .image .now) (c .before .before .before .before .before .before .before .before .before .before .before .before .before .before .before .before .before .before .before .before .pre .0) .counts) .some-block; limits-are = c .before .before .before .before .before .before .before .all-limits .ensures; largest-are = ap largestOf (c .before .before .before .before .wide .ensures) }, end-marked (c .before .before .before .before .before .before .before .before .before .before .before .before .before .before .before .before .before .before .before .before .args .image .now) (c .before .before .before .before .before .before .before .before .before .before .before .before .before .before .before .before .before .before .before .before .pre .0) _ (c .before .before .before .before .before .before .before .before .before .read-u16 .result) (e .1 .1 .0 (c .before .before .before .before .before .before .before .before .before .before .if1 .left)) (c .before .before .before .before .before .before .before .before .before .read-u16 .ensures .equal), e .1 .0 ∙ past-blocks (c .before .before .before .before .before .before .before .before .before .before .before .before .before .before .before .before .before .before .before .before .args .image .now) (sym (e .0) ∙ c .before .before .before .before .before .before .before .before .before .before .if1 .left), λ t. laid-length (c .before .before .before .before .before .before .before .before .before .before .before .before .before .before .before .before .before .before .before .before .args .lays) (c .before .before .before .before .before .before .before .before .before .before .before .before .before .before .before .before .before .before .before .before .args .cells .now) _ (blockCellsIn (c .before .before .before .before .before .before .before .before .before .before .before .before .before .before .before .before .before .before .before .before .args .image .now) (blocksIn (c .before .before .before .before .before .before .before .before .before .before .before .before .before .before .before .before .before .before .before .before .args .image .now))) 2 (e .1 .1 .1 (c .before .before .before .before .before .before .before .before .before .before .if1 .left)) ∙ c .before .before .before .before .before .before .before .before .before .before .before .before .before .before .before .before .before .before .before .before .pre .1 t)
+walk-instructions-requires c κs =
+    let image = c .before .before .before .before .before .before .before .before .before .before .before .before .before .before .before .before .before .before .before .before .args .image .now in
+    let ok = c .before .before .before .before .before .before .before .before .before .before .before .before .before .before .before .before .before .before .before .before .pre .0 in
+    let lays = c .before .before .before .before .before .before .before .before .before .before .before .before .before .before .before .before .before .before .before .before .args .lays in
+    let e = c .before .before .before .before .before .before .before .before .before .before .before .before .before .before .before .walk-blocks .ensures in
+    let end = c .before .before .before .before .before .before .before .before .before .read-u16 .result in
+    let accepted = c .before .before .before .before .before .before .before .before .before .before .if1 .left in
+    (ok, record { some-block = counted _ _ (header image ok .counts) .some-block; limits-are = c .before .before .before .before .before .before .before .all-limits .ensures; largest-are = ap largestOf (c .before .before .before .before .wide .ensures) }, end-marked image ok _ end (e .1 .1 .0 accepted) (c .before .before .before .before .before .before .before .before .before .read-u16 .ensures .equal), e .1 .0 ∙ past-blocks image (sym (e .0) ∙ accepted), λ t. laid-length lays (c .before .before .before .before .before .before .before .before .before .before .before .before .before .before .before .before .before .before .before .before .args .cells .now) _ (blockCellsIn image (blocksIn image)) 2 (e .1 .1 .1 accepted) ∙ c .before .before .before .before .before .before .before .before .before .before .before .before .before .before .before .before .before .before .before .before .pre .1 t)
 
 same-length-2 : tie.Need-same-length-2
 same-length-2 c = search needs
 
 returns-2 : tie.Need-returns-2
-returns-2 c = let e = c .before .before .before .before .before .before .before .before .before .before .before .before .before .before .before .before .before .before .walk-blocks .ensures in
+returns-2 c =
+    let image = c .before .before .before .before .before .before .before .before .before .before .before .before .before .before .before .before .before .before .before .before .before .before .before .args .image .now in
+    let ok = c .before .before .before .before .before .before .before .before .before .before .before .before .before .before .before .before .before .before .before .before .before .before .before .pre .0 in
+    let e = c .before .before .before .before .before .before .before .before .before .before .before .before .before .before .before .before .before .before .walk-blocks .ensures in
     let w = c .before .before .walk-instructions .ensures in
-    let all : firstNo (blockNo (cellsIn (c .before .before .before .before .before .before .before .before .before .before .before .before .before .before .before .before .before .before .before .before .before .before .before .args .image .now))) (blocksIn (c .before .before .before .before .before .before .before .before .before .before .before .before .before .before .before .before .before .before .before .before .before .before .before .args .image .now)) 0 ≡ 0 = sym (e .0) ∙ c .before .before .before .before .before .before .before .before .before .before .before .before .before .if1 .left in
-    (w .0 ∙ sym (records-no (c .before .before .before .before .before .before .before .before .before .before .before .before .before .before .before .before .before .before .before .before .before .before .before .args .image .now) ∙ or-else-yes (firstNo (blockNo (cellsIn (c .before .before .before .before .before .before .before .before .before .before .before .before .before .before .before .before .before .before .before .before .before .before .before .args .image .now))) (blocksIn (c .before .before .before .before .before .before .before .before .before .before .before .before .before .before .before .before .before .before .before .before .before .before .before .args .image .now)) 0) (firstNo (instructionNo (cellsIn (c .before .before .before .before .before .before .before .before .before .before .before .before .before .before .before .before .before .before .before .before .before .before .before .args .image .now))) (instructionsIn (c .before .before .before .before .before .before .before .before .before .before .before .before .before .before .before .before .before .before .before .before .before .before .before .args .image .now)) 0) all), (w .1 .0 ∙ sym (offset-past-blocks (c .before .before .before .before .before .before .before .before .before .before .before .before .before .before .before .before .before .before .before .before .before .before .before .args .image .now) (c .before .before .before .before .before .before .before .before .before .before .before .before .before .before .before .before .before .before .before .before .before .before .before .pre .0) all), λ z. laid-twice (c .before .before .before .before .before .before .before .before .before .before .before .before .before .before .before .before .before .before .before .before .before .before .before .args .lays) (c .before .before .before .before .before .before .before .before .before .before .before .before .before .before .before .before .before .before .before .before .before .before .before .args .cells .now) _ _ (blockCellsIn (c .before .before .before .before .before .before .before .before .before .before .before .before .before .before .before .before .before .before .before .before .before .before .before .args .image .now) (blocksIn (c .before .before .before .before .before .before .before .before .before .before .before .before .before .before .before .before .before .before .before .before .before .before .before .args .image .now))) (instructionCellsIn (c .before .before .before .before .before .before .before .before .before .before .before .before .before .before .before .before .before .before .before .before .before .before .before .args .image .now) (instructionsIn (c .before .before .before .before .before .before .before .before .before .before .before .before .before .before .before .before .before .before .before .before .before .before .before .args .image .now))) 2 770 (e .1 .1 .1 (c .before .before .before .before .before .before .before .before .before .before .before .before .before .if1 .left)) (w .1 .1 z)))
+    let accepted = c .before .before .before .before .before .before .before .before .before .before .before .before .before .if1 .left in
+    let all : firstNo (blockNo (cellsIn image)) (blocksIn image) 0 ≡ 0 = sym (e .0) ∙ accepted in
+    let laid = laid-twice (c .before .before .before .before .before .before .before .before .before .before .before .before .before .before .before .before .before .before .before .before .before .before .before .args .lays) (c .before .before .before .before .before .before .before .before .before .before .before .before .before .before .before .before .before .before .before .before .before .before .before .args .cells .now) _ _ (blockCellsIn image (blocksIn image)) (instructionCellsIn image (instructionsIn image)) 2 770 (e .1 .1 .1 accepted) in
+    (w .0 ∙ sym (records-no image ∙ or-else-yes (firstNo (blockNo (cellsIn image)) (blocksIn image) 0) (firstNo (instructionNo (cellsIn image)) (instructionsIn image) 0) all), (w .1 .0 ∙ sym (offset-past-blocks image ok all), λ z. laid (w .1 .1 z)))
 
 pub walk-records-spec : {M : Type 1} → statement M
 walk-records-spec =

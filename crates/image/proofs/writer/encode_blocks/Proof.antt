@@ -44,7 +44,11 @@ loop-less c = omega arith
 
 loop-again : tie.Need-loop-again Inv-loop μ-loop
 unfolding bytesOf
-loop-again c = (omega arith, omega (arith, c .before .before .before .before .before .before .loop .inv .1), omega (arith, c .before .before .before .before .before .before .loop .inv .2), c .before .before .put-block-bytes .kept .0 ∙ c .before .before .before .before .before .before .loop .inv .3, row-placed (λ (b : ℕ). blockBytes (blockOf (c .before .before .before .before .before .before .before .before .before .before .args .cells .now) b)) 10 (λ b. refl) _ (c .before .before .before .before .before .before .loop .image) _ (blockPlace 0) (c .before .before .before .before .before .before .loop .b) (c .before .before .before .before .before .before .loop .inv .4) (c .before .before .put-block-bytes .ensures ∙ ap₂ (λ (n : ℕ) (k : Block). sets (c .before .before .before .before .before .before .loop .image) n (blockBytes k)) (c .before .before .before .before .before .before .loop .inv .1) (c .before .before .before .before .block-from .ensures ∙ ap (blockFrom (c .before .before .before .before .before .before .before .before .before .before .args .cells .now)) (c .before .before .before .before .before .before .loop .inv .2))))
+loop-again c =
+    let cells = c .before .before .before .before .before .before .before .before .before .before .args .cells .now in
+    let l = c .before .before .before .before .before .before .loop in
+    let rest = c .before .before .before .before .block-from .ensures ∙ ap (blockFrom cells) (l .inv .2) in
+    (omega arith, omega (arith, l .inv .1), omega (arith, l .inv .2), c .before .before .put-block-bytes .kept .0 ∙ l .inv .3, row-placed (λ (b : ℕ). blockBytes (blockOf cells b)) 10 (λ b. refl) _ (l .image) _ (blockPlace 0) (l .b) (l .inv .4) (c .before .before .put-block-bytes .ensures ∙ ap₂ (λ (n : ℕ) (k : Block). sets (l .image) n (blockBytes k)) (l .inv .1) rest))
 
 same-length : tie.Need-same-length Inv-loop μ-loop
 same-length c = c .before .loop .inv .3

@@ -44,7 +44,11 @@ loop-less c = omega arith
 
 loop-again : tie.Need-loop-again Inv-loop μ-loop
 unfolding bytesOf
-loop-again c = (omega arith, omega (arith, c .before .before .before .before .before .before .loop .inv .1), omega (arith, c .before .before .before .before .before .before .loop .inv .2), c .before .before .put-instruction-bytes .kept .0 ∙ c .before .before .before .before .before .before .loop .inv .3, row-placed (λ (i : ℕ). instructionBytes (instructionOf (c .before .before .before .before .before .before .before .before .before .before .args .cells .now) i)) 12 (λ i. refl) _ (c .before .before .before .before .before .before .loop .image) _ (blockPlace (blockCount (c .before .before .before .before .before .before .before .before .before .before .args .cells .now))) (c .before .before .before .before .before .before .loop .i) (c .before .before .before .before .before .before .loop .inv .4) (c .before .before .put-instruction-bytes .ensures ∙ ap₂ (λ (n : ℕ) (k : Instruction). sets (c .before .before .before .before .before .before .loop .image) n (instructionBytes k)) (c .before .before .before .before .before .before .loop .inv .1) (c .before .before .before .before .instruction-from .ensures ∙ ap (instructionFrom (c .before .before .before .before .before .before .before .before .before .before .args .cells .now)) (c .before .before .before .before .before .before .loop .inv .2))))
+loop-again c =
+    let cells = c .before .before .before .before .before .before .before .before .before .before .args .cells .now in
+    let l = c .before .before .before .before .before .before .loop in
+    let rest = c .before .before .before .before .instruction-from .ensures ∙ ap (instructionFrom cells) (l .inv .2) in
+    (omega arith, omega (arith, l .inv .1), omega (arith, l .inv .2), c .before .before .put-instruction-bytes .kept .0 ∙ l .inv .3, row-placed (λ (i : ℕ). instructionBytes (instructionOf cells i)) 12 (λ i. refl) _ (l .image) _ (blockPlace (blockCount cells)) (l .i) (l .inv .4) (c .before .before .put-instruction-bytes .ensures ∙ ap₂ (λ (n : ℕ) (k : Instruction). sets (l .image) n (instructionBytes k)) (l .inv .1) rest))
 
 same-length : tie.Need-same-length Inv-loop μ-loop
 same-length c = c .before .loop .inv .3
