@@ -1,11 +1,12 @@
 -- Every case of the table is right: antt computes the test of each, and the test is enough.
 use mathlib.Core.Path.{_≡_, refl}
 use mathlib.Core.Bool.{true}
-use lib.ListN.{length}
+use lib.ListN.{length, set}
 use Rattle.int64.specs.Little.{little, bytesOf}
 use Rattle.image.specs.Layout.{rows, buffer, cellsIn}
-use Rattle.image.specs.Questions.{orElse, firstNo, countsNo, starts, rising, unjoined, joined, annotated, blockNo, register, operandFits, laidOut, startsAt, lastInBlock, instructionNo, recordsNo}
+use Rattle.image.specs.Questions.{orElse, firstNo, countsNo, rising, unjoined, joined, annotated, blockNo, register, operandFits, laidOut, startsAt, lastInBlock, instructionNo, recordsNo}
 use Rattle.image.specs.Doors.{markIn, headerNo, imageNo}
+use Rattle.image.specs.Offset.{passed, blocksOffset, instructionsOffset, offsetIn}
 use Rattle.agreement.specs.Plain.{eval}
 use Rattle.agreement.specs.Slots.{settle, carry}
 use Rattle.agreement.specs.Picks.{pick, play}
@@ -23,7 +24,7 @@ use Rattle.cases.proofs.Enough.{every-at, right}
 pub all-pass : every passes table ≡ true
 unfolding table imageF caseF onePlace eitherFault sideHalts product2 product3 product4 onInterval belowInterval towardZero leastNegated
     trueIsZero sumWraps assembled forking twoFaults haltInSide product bytesOf little rows buffer cellsIn
-    imageNo markIn headerNo orElse firstNo countsNo starts rising unjoined joined annotated blockNo register operandFits laidOut startsAt
+    imageNo markIn headerNo orElse firstNo countsNo rising unjoined joined annotated blockNo register operandFits laidOut startsAt
     lastInBlock instructionNo recordsNo
     eval step operand asked promotes belong fits copied join
     play pick carry settle reads rank fresh
@@ -37,6 +38,13 @@ f-assembled = refl
 pub f-bytes : length imageF ≡ 156
 unfolding imageF
 f-bytes = refl
+
+-- the reader's offset after F's last record; at its block 2, with an annotation that there is not; at its instruction 5, with such an opcode
+pub f-offsets : (offsetIn imageF ≡ 156) × (offsetIn (set imageF 30 3) ≡ 28) × (offsetIn (set imageF 108 16) ≡ 108)
+unfolding imageF offsetIn blocksOffset instructionsOffset passed
+    little rows buffer cellsIn markIn headerNo orElse firstNo countsNo rising unjoined joined annotated blockNo register operandFits laidOut
+    startsAt lastInBlock instructionNo
+f-offsets = (refl, refl, refl)
 
 pub starred-cases : StarredCases
 starred-cases x h = right x (every-at passes table all-pass x h)
