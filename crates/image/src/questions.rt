@@ -10,7 +10,7 @@ ghost use lib.Seq.{sets};
 ghost use Rattle.image.specs.Layout.{blockCount, instructionCount, blockOf};
 ghost use Rattle.image.specs.Questions.{countsNo, inOrder, rising, unjoined, joined, annotated, blockRecordNo, blockNo, firstNo, fields, laidOut, instructionRecordNo, instructionNo, recordsNo, programNo};
 ghost use Rattle.image.specs.Marks.{flag, Marked, Ended};
-ghost use Rattle.image.specs.Limits.{limitRow, limitRows, Limited, blocksBy};
+ghost use Rattle.image.specs.Limits.{limitRow, limitRows, largestOf, Limited, blocksBy};
 
 // The flags of the table's rows: an opcode has r, s, v.
 const R: u8 = 4;
@@ -198,13 +198,21 @@ fn fill_limits(table: &[u8], limits: &mut [u64])
     }
 }
 
-// The limits of all opcodes, by the table.
+// The limits of all opcodes, by the table. The crate itself calls it, with four numbers for each of the fifteen.
 pub fn all_limits(limits: &mut [u64])
     requires { ⌜ length (now limits) ≡ 60 ⌝ }
     ensures { λ _. ⌜ now (limits .exit) ≡ limitRows ⌝ }
 {
     let table = FIELDS;
     fill_limits(&table, limits);
+}
+
+// The largest operand of each kind: absent, register, label, integer. The crate itself calls it, for a program that has a block.
+pub fn largest_operands(blocks: u64) -> [u64; 4]
+    requires { ⌜ 1 ≤ blocks ⌝ }
+    ensures { λ r. ⌜ r ≡ largestOf blocks ⌝ }
+{
+    [0, 15, blocks - 1, u64::MAX]
 }
 
 // Question 8, by comparing each field with its limit: no branch depends on which opcode it is.
@@ -331,8 +339,7 @@ pub fn ask_records(cells: &[u64]) -> u8
     marks[end] = 1;
     let mut limits = [0u64; 60];
     all_limits(&mut limits);
-    // Of each kind of operand: absent, register, label, integer.
-    let largest = [0, 15, cells[0] - 1, u64::MAX];
+    let largest = largest_operands(cells[0]);
     ask_instructions(&limits, &largest, cells, &marks)
 }
 

@@ -146,8 +146,7 @@ pub fn walk_records(image: &[u8], lays: bool, cells: &mut [u64]) -> Walked
     marks[end] = 1;
     let mut limits = [0u64; 60];
     questions::all_limits(&mut limits);
-    // Of each kind of operand: absent, register, label, integer.
-    let largest = [0, 15, layout::wide(image[5]) - 1, u64::MAX];
+    let largest = questions::largest_operands(layout::wide(image[5]));
     walk_instructions(&limits, &largest, image, &marks, walked.at, lays, cells)
 }
 

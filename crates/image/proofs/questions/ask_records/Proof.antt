@@ -1,5 +1,5 @@
 -- `ask_records` meets its contract.
-use mathlib.Core.Path.{refl, sym, _∙_}
+use mathlib.Core.Path.{sym, _∙_}
 use native.Mathlib.Omega.{arith}
 use Rattle.image.specs.Layout.{blockCount, instructionCount}
 use Rattle.image.specs.Questions.{recordsNo, firstNo, blockNo, instructionNo}
@@ -42,11 +42,11 @@ slice-aggregate-all-limits c = search needs
 all-limits-requires : tie.Need-all-limits-requires
 all-limits-requires c κs = search needs
 
-shared-slice-read-t11 : tie.Need-shared-slice-read-t11
-shared-slice-read-t11 c = omega (arith, two-cells (c .before .before .before .before .before .before .before .before .before .before .args .cells .now) (c .before .before .before .before .before .before .before .before .before .before .pre))
+shared-slice-read-largest-operands : tie.Need-shared-slice-read-largest-operands
+shared-slice-read-largest-operands c = omega (arith, two-cells (c .before .before .before .before .before .before .before .before .before .before .args .cells .now) (c .before .before .before .before .before .before .before .before .before .before .pre))
 
-sub-t18 : tie.Need-sub-t18
-sub-t18 c =
+largest-operands-requires : tie.Need-largest-operands-requires
+largest-operands-requires c κs =
     let cells = c .before .before .before .before .before .before .before .before .before .before .args .cells .now in
     let ok = c .before .before .before .before .before .before .before .before .before .before .pre in
     counted (blockCount cells) (instructionCount cells) ok .some-block
@@ -62,16 +62,16 @@ slice-aggregate-ask-instructions-3 c = search needs
 
 ask-instructions-requires : tie.Need-ask-instructions-requires
 ask-instructions-requires c κs =
-    let cells = c .before .before .before .before .before .before .before .before .before .before .before .before .before .args .cells .now in
-    let ok = c .before .before .before .before .before .before .before .before .before .before .before .before .before .pre in
+    let cells = c .before .before .before .before .before .before .before .before .before .before .before .before .before .before .args .cells .now in
+    let ok = c .before .before .before .before .before .before .before .before .before .before .before .before .before .before .pre in
     let k = counted (blockCount cells) (instructionCount cells) ok in
-    (record { some-block = k .some-block; limits-are = c .before .before .before .before .before .all-limits .ensures; largest-are = refl }, two-cells cells ok, k .instructions-fit, ended cells _ (c .before .before .before .before .before .before .before .before .before .before .ask-blocks .ensures .1 (c .before .before .before .before .before .before .before .before .if1 .left)) (k .instructions-fit))
+    (record { some-block = k .some-block; limits-are = c .before .before .before .before .before .before .all-limits .ensures; largest-are = c .before .before .before .largest-operands .ensures }, two-cells cells ok, k .instructions-fit, ended cells _ (c .before .before .before .before .before .before .before .before .before .before .before .ask-blocks .ensures .1 (c .before .before .before .before .before .before .before .before .before .if1 .left)) (k .instructions-fit))
 
 returns-2 : tie.Need-returns-2
 unfolding recordsNo
 returns-2 c =
-    let cells = c .before .before .before .before .before .before .before .before .before .before .before .before .before .before .args .cells .now in
-    c .ask-instructions .ensures ∙ sym (or-else-yes (firstNo (blockNo cells) (blockCount cells) 0) (firstNo (instructionNo cells) (instructionCount cells) 0) (sym (c .before .before .before .before .before .before .before .before .before .before .before .ask-blocks .ensures .0) ∙ c .before .before .before .before .before .before .before .before .before .if1 .left))
+    let cells = c .before .before .before .before .before .before .before .before .before .before .before .before .before .before .before .args .cells .now in
+    c .ask-instructions .ensures ∙ sym (or-else-yes (firstNo (blockNo cells) (blockCount cells) 0) (firstNo (instructionNo cells) (instructionCount cells) 0) (sym (c .before .before .before .before .before .before .before .before .before .before .before .before .ask-blocks .ensures .0) ∙ c .before .before .before .before .before .before .before .before .before .before .if1 .left))
 
 pub ask-records-spec : {M : Type 1} → statement M
 ask-records-spec =
@@ -84,8 +84,8 @@ ask-records-spec =
     array-write-marks
     slice-aggregate-all-limits
     all-limits-requires
-    shared-slice-read-t11
-    sub-t18
+    shared-slice-read-largest-operands
+    largest-operands-requires
     slice-aggregate-ask-instructions
     slice-aggregate-ask-instructions-2
     slice-aggregate-ask-instructions-3

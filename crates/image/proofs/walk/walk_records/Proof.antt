@@ -50,8 +50,8 @@ shared-slice-read-wide c = omega (arith, header (c .before .before .before .befo
 wide-requires : tie.Need-wide-requires
 wide-requires c κs = search needs
 
-sub-t22 : tie.Need-sub-t22
-sub-t22 c = omega (arith, c .wide .ensures, counted _ _ (header (c .before .before .before .before .before .before .before .before .before .before .before .before .before .before .before .before .args .image .now) (c .before .before .before .before .before .before .before .before .before .before .before .before .before .before .before .before .pre .0) .counts) .some-block)
+largest-operands-requires : tie.Need-largest-operands-requires
+largest-operands-requires c κs = omega (arith, c .wide .ensures, counted _ _ (header (c .before .before .before .before .before .before .before .before .before .before .before .before .before .before .before .before .args .image .now) (c .before .before .before .before .before .before .before .before .before .before .before .before .before .before .before .before .pre .0) .counts) .some-block)
 
 slice-aggregate-walk-instructions : tie.Need-slice-aggregate-walk-instructions
 slice-aggregate-walk-instructions c = search needs
@@ -64,26 +64,27 @@ slice-aggregate-walk-instructions-3 c = search needs
 
 walk-instructions-requires : tie.Need-walk-instructions-requires
 walk-instructions-requires c κs =
-    let image = c .before .before .before .before .before .before .before .before .before .before .before .before .before .before .before .before .before .before .before .before .args .image .now in
-    let ok = c .before .before .before .before .before .before .before .before .before .before .before .before .before .before .before .before .before .before .before .before .pre .0 in
-    let lays = c .before .before .before .before .before .before .before .before .before .before .before .before .before .before .before .before .before .before .before .before .args .lays in
-    let e = c .before .before .before .before .before .before .before .before .before .before .before .before .before .before .before .walk-blocks .ensures in
-    let end = c .before .before .before .before .before .before .before .before .before .read-u16 .result in
-    let accepted = c .before .before .before .before .before .before .before .before .before .before .if1 .left in
-    (ok, record { some-block = counted _ _ (header image ok .counts) .some-block; limits-are = c .before .before .before .before .before .before .before .all-limits .ensures; largest-are = ap largestOf (c .before .before .before .before .wide .ensures) }, end-marked image ok _ end (e .1 .1 .0 accepted) (c .before .before .before .before .before .before .before .before .before .read-u16 .ensures .equal), e .1 .0 ∙ past-blocks image (sym (e .0) ∙ accepted), λ t. laid-length lays (c .before .before .before .before .before .before .before .before .before .before .before .before .before .before .before .before .before .before .before .before .args .cells .now) _ (blockCellsIn image (blocksIn image)) 2 (e .1 .1 .1 accepted) ∙ c .before .before .before .before .before .before .before .before .before .before .before .before .before .before .before .before .before .before .before .before .pre .1 t)
+    let image = c .before .before .before .before .before .before .before .before .before .before .before .before .before .before .before .before .before .before .before .before .before .args .image .now in
+    let ok = c .before .before .before .before .before .before .before .before .before .before .before .before .before .before .before .before .before .before .before .before .before .pre .0 in
+    let lays = c .before .before .before .before .before .before .before .before .before .before .before .before .before .before .before .before .before .before .before .before .before .args .lays in
+    let e = c .before .before .before .before .before .before .before .before .before .before .before .before .before .before .before .before .walk-blocks .ensures in
+    let end = c .before .before .before .before .before .before .before .before .before .before .read-u16 .result in
+    let accepted = c .before .before .before .before .before .before .before .before .before .before .before .if1 .left in
+    let largest = c .before .before .before .before .largest-operands .ensures ∙ ap largestOf (c .before .before .before .before .before .wide .ensures) in
+    (ok, record { some-block = counted _ _ (header image ok .counts) .some-block; limits-are = c .before .before .before .before .before .before .before .before .all-limits .ensures; largest-are = largest }, end-marked image ok _ end (e .1 .1 .0 accepted) (c .before .before .before .before .before .before .before .before .before .before .read-u16 .ensures .equal), e .1 .0 ∙ past-blocks image (sym (e .0) ∙ accepted), λ t. laid-length lays (c .before .before .before .before .before .before .before .before .before .before .before .before .before .before .before .before .before .before .before .before .before .args .cells .now) _ (blockCellsIn image (blocksIn image)) 2 (e .1 .1 .1 accepted) ∙ c .before .before .before .before .before .before .before .before .before .before .before .before .before .before .before .before .before .before .before .before .before .pre .1 t)
 
 same-length-2 : tie.Need-same-length-2
 same-length-2 c = search needs
 
 returns-2 : tie.Need-returns-2
 returns-2 c =
-    let image = c .before .before .before .before .before .before .before .before .before .before .before .before .before .before .before .before .before .before .before .before .before .before .before .args .image .now in
-    let ok = c .before .before .before .before .before .before .before .before .before .before .before .before .before .before .before .before .before .before .before .before .before .before .before .pre .0 in
-    let e = c .before .before .before .before .before .before .before .before .before .before .before .before .before .before .before .before .before .before .walk-blocks .ensures in
+    let image = c .before .before .before .before .before .before .before .before .before .before .before .before .before .before .before .before .before .before .before .before .before .before .before .before .args .image .now in
+    let ok = c .before .before .before .before .before .before .before .before .before .before .before .before .before .before .before .before .before .before .before .before .before .before .before .before .pre .0 in
+    let e = c .before .before .before .before .before .before .before .before .before .before .before .before .before .before .before .before .before .before .before .walk-blocks .ensures in
     let w = c .before .before .walk-instructions .ensures in
-    let accepted = c .before .before .before .before .before .before .before .before .before .before .before .before .before .if1 .left in
+    let accepted = c .before .before .before .before .before .before .before .before .before .before .before .before .before .before .if1 .left in
     let all : firstNo (blockNo (cellsIn image)) (blocksIn image) 0 ≡ 0 = sym (e .0) ∙ accepted in
-    let laid = laid-twice (c .before .before .before .before .before .before .before .before .before .before .before .before .before .before .before .before .before .before .before .before .before .before .before .args .lays) (c .before .before .before .before .before .before .before .before .before .before .before .before .before .before .before .before .before .before .before .before .before .before .before .args .cells .now) _ _ (blockCellsIn image (blocksIn image)) (instructionCellsIn image (instructionsIn image)) 2 770 (e .1 .1 .1 accepted) in
+    let laid = laid-twice (c .before .before .before .before .before .before .before .before .before .before .before .before .before .before .before .before .before .before .before .before .before .before .before .before .args .lays) (c .before .before .before .before .before .before .before .before .before .before .before .before .before .before .before .before .before .before .before .before .before .before .before .before .args .cells .now) _ _ (blockCellsIn image (blocksIn image)) (instructionCellsIn image (instructionsIn image)) 2 770 (e .1 .1 .1 accepted) in
     (w .0 ∙ sym (records-no image ∙ or-else-yes (firstNo (blockNo (cellsIn image)) (blocksIn image) 0) (firstNo (instructionNo (cellsIn image)) (instructionsIn image) 0) all), (w .1 .0 ∙ sym (offset-past-blocks image ok all), λ z. laid (w .1 .1 z)))
 
 pub walk-records-spec : {M : Type 1} → statement M
@@ -100,7 +101,7 @@ walk-records-spec =
     all-limits-requires
     shared-slice-read-wide
     wide-requires
-    sub-t22
+    largest-operands-requires
     slice-aggregate-walk-instructions
     slice-aggregate-walk-instructions-2
     slice-aggregate-walk-instructions-3
