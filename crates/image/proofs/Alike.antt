@@ -78,7 +78,11 @@ module _ (p q : List ℕ) (alike : Alike p q) where
     records-yes few few′ e =
         let r = or-else-both (firstNo (blockNo p) (blockCount p) 0) (firstNo (instructionNo p) (instructionCount p) 0) e in
         let x : firstNo (blockNo q) (blockCount q) 0 ≡ 0 =
-        first-no-none (blockNo q) (blockCount q) 0 (λ b _ h. block-yes b (omega (arith, alike .blocks)) few (first-no-all (blockNo p) (blockCount p) 0 (r .0) b (omega arith) (omega (arith, alike .blocks)))) in
+        first-no-none (blockNo q) (blockCount q) 0
+        (λ b _ h. block-yes b (omega (arith, alike .blocks)) few
+        (first-no-all (blockNo p) (blockCount p) 0 (r .0) b (omega arith) (omega (arith, alike .blocks)))) in
         let y : firstNo (instructionNo q) (instructionCount q) 0 ≡ 0 =
-        first-no-none (instructionNo q) (instructionCount q) 0 (λ i _ h. instruction-yes i (omega (arith, alike .instructions)) few′ (first-no-all (instructionNo p) (instructionCount p) 0 (r .1) i (omega arith) (omega (arith, alike .instructions)))) in
+        first-no-none (instructionNo q) (instructionCount q) 0
+        (λ i _ h. instruction-yes i (omega (arith, alike .instructions)) few′
+        (first-no-all (instructionNo p) (instructionCount p) 0 (r .1) i (omega arith) (omega (arith, alike .instructions)))) in
         or-else-yes (firstNo (blockNo q) (blockCount q) 0) (firstNo (instructionNo q) (instructionCount q) 0) x ∙ y

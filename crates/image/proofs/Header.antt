@@ -11,7 +11,8 @@ use borrow.Author.Tests.{leb-true, eqb-true, le-leb, eq-eqb}
 use Rattle.int64.specs.Little.{little}
 use Rattle.image.specs.declared.Block.{Block}
 use Rattle.image.specs.declared.Instruction.{Instruction}
-use Rattle.image.specs.Layout.{blockPlace, instructionPlace, blocksIn, instructionsIn, imageLength, programCells, blockCount, instructionCount, blockOf, instructionOf, blockIn, instructionIn, buffer, blockCellsIn, instructionCellsIn, recordsLaid, cellsIn}
+use Rattle.image.specs.Layout.{blockPlace, instructionPlace, blocksIn, instructionsIn, imageLength, programCells, blockCount, instructionCount, blockOf}
+use Rattle.image.specs.Layout.{instructionOf, blockIn, instructionIn, buffer, blockCellsIn, instructionCellsIn, recordsLaid, cellsIn}
 use Rattle.image.specs.Questions.{ask, countsNo, blockRecordNo, blockNo, lastInBlock, instructionRecordNo, instructionNo}
 use Rattle.image.specs.Doors.{markIn, headerNo}
 use Rattle.image.proofs.Asked.{ask-yes, or-else-both, or-else-yes}
@@ -64,7 +65,8 @@ module _ (bytes : List ℕ) where
   unfolding cellsIn buffer
   decoded l l₁ e p =
       ap (λ (m : List ℕ). sets m 770 (instructionCellsIn bytes (instructionsIn bytes)))
-      (placed (replicate programCells 0) l₁ _ 0 2 (blocksIn bytes ∷ instructionsIn bytes ∷ []) (blockCellsIn bytes (blocksIn bytes)) (p ∙ ap (λ (m : List ℕ). sets m 0 (blocksIn bytes ∷ instructionsIn bytes ∷ [])) e) refl refl)
+      (placed (replicate programCells 0) l₁ _ 0 2 (blocksIn bytes ∷ instructionsIn bytes ∷ []) (blockCellsIn bytes (blocksIn bytes))
+      (p ∙ ap (λ (m : List ℕ). sets m 0 (blocksIn bytes ∷ instructionsIn bytes ∷ [])) e) refl refl)
 
   pub cells-in-blocks : blockCount (cellsIn bytes) ≡ blocksIn bytes
   unfolding cellsIn

@@ -141,7 +141,13 @@ module _ (B : ℕ) (limits largest : List ℕ) (L : Limited B limits largest) (x
 
   pub beyond-r : getD limits row 0 < x .r → laidOut B x ≡ false
   unfolding laidOut
-  beyond-r h = rw (le-leb 1 (x .opcode) least, le-leb (x .opcode) 15 most, register-limit (has (x .opcode) hasR) (x .r) (omega arith), lt-leb (x .r) (15 * has (x .opcode) hasR) (omega (arith, most-r)))
+  beyond-r h = rw (
+    le-leb 1 (x .opcode) least,
+    le-leb (x .opcode) 15 most,
+    register-limit (has (x .opcode) hasR) (x .r) (omega arith),
+    lt-leb (x .r)
+        (15 * has (x .opcode) hasR) (omega (arith, most-r)),
+  )
 
   module _ (r-fits : x .r ≤ getD limits row 0) where
     r-tested : register (has (x .opcode) hasR) (x .r) ≡ true
@@ -149,7 +155,13 @@ module _ (B : ℕ) (limits largest : List ℕ) (L : Limited B limits largest) (x
 
     pub beyond-s : getD limits (row + 1) 0 < x .s → laidOut B x ≡ false
     unfolding laidOut
-    beyond-s h = rw (le-leb 1 (x .opcode) least, le-leb (x .opcode) 15 most, r-tested, register-limit (has (x .opcode) hasS) (x .s) (omega arith), lt-leb (x .s) (15 * has (x .opcode) hasS) (omega (arith, most-s)))
+    beyond-s h = rw (
+      le-leb 1 (x .opcode) least,
+      le-leb (x .opcode) 15 most,
+      r-tested,
+      register-limit (has (x .opcode) hasS) (x .s) (omega arith),
+      lt-leb (x .s) (15 * has (x .opcode) hasS) (omega (arith, most-s)),
+    )
 
     module _ (s-fits : x .s ≤ getD limits (row + 1) 0) where
       s-tested : register (has (x .opcode) hasS) (x .s) ≡ true

@@ -74,14 +74,17 @@ module _ (cells : List ℕ) (accepted : Accepted cells) (words : (i : ℕ) → g
     unfolding bytesOf
     first-back =
         between 2 (blockOf cells b .first) image []
-        (bytesOf 1 (blockOf cells b .annotation) ++ (bytesOf 1 (blockOf cells b .policy) ++ (bytesOf 1 (blockOf cells b .label) ++ (bytesOf 1 (blockOf cells b .pairs) ++ bytesOf 4 (blockOf cells b .packed)))))
+        (bytesOf 1 (blockOf cells b .annotation) ++
+        (bytesOf 1 (blockOf cells b .policy) ++ (bytesOf 1 (blockOf cells b .label) ++
+        (bytesOf 1 (blockOf cells b .pairs) ++ bytesOf 4 (blockOf cells b .packed)))))
         (blockPlace b) (omega (arith, fits .first-below, accepted .few-instructions)) (λ j h. block-byte (blockPlace b + j) (0 + j) (omega arith) (omega arith))
 
     packed-back : little 4 image (blockPlace b + 6) ≡ blockOf cells b .packed
     unfolding bytesOf
     packed-back =
         between 4 (blockOf cells b .packed) image
-        (blockOf cells b .first % 256 ∷ blockOf cells b .first / 256 % 256 ∷ blockOf cells b .annotation % 256 ∷ blockOf cells b .policy % 256 ∷ blockOf cells b .label % 256 ∷ blockOf cells b .pairs % 256 ∷ [])
+        (blockOf cells b .first % 256 ∷ blockOf cells b .first / 256 % 256 ∷ blockOf cells b .annotation % 256 ∷ blockOf cells b .policy % 256 ∷
+        blockOf cells b .label % 256 ∷ blockOf cells b .pairs % 256 ∷ [])
         [] (blockPlace b + 6) (fits .packed-fits) (λ j h. block-byte (blockPlace b + 6 + j) (6 + j) (omega arith) (omega arith))
 
     pub block-back : blockIn image (blockPlace b) ≡ blockOf cells b

@@ -292,7 +292,8 @@ pub fn ask_instruction(limits: &[u64], largest: &[u64], x: Instruction, last: u8
 // How many of its instructions the buffer has, so that the loop need not ask at each.
 fn instructions_held(cells: &[u64]) -> usize
     requires { ⌜ (1 < length (now cells)) × (instructionCount (now cells) ≤ 1024) ⌝ }
-    ensures { λ r. ⌜ (r ≤ instructionCount (now (cells .entry))) × ((i : ℕ) → i < r → 770 + 5 * i + 5 ≤ length (now (cells .entry))) × (r < instructionCount (now (cells .entry)) → length (now (cells .entry)) < 770 + 5 * r + 5) ⌝ }
+    ensures { λ r. ⌜ (r ≤ instructionCount (now (cells .entry))) × ((i : ℕ) → i < r → 770 + 5 * i + 5 ≤ length (now (cells .entry)))
+        × (r < instructionCount (now (cells .entry)) → length (now (cells .entry)) < 770 + 5 * r + 5) ⌝ }
 {
     let instructions = cells[1] as usize;
     if 770 + 5 * instructions <= cells.len() {

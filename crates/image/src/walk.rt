@@ -80,7 +80,8 @@ fn ask_instruction_in(
     i: usize,
     at: usize,
 ) -> u8
-    requires { ⌜ (headerNo (now image) ≡ 0) × Limited (blocksIn (now image)) (now limits) (now largest) × Ended (cellsIn (now image)) (now marks) × (i < instructionsIn (now image)) × (at ≡ instructionPlace (blocksIn (now image)) i) ⌝ }
+    requires { ⌜ (headerNo (now image) ≡ 0) × Limited (blocksIn (now image)) (now limits) (now largest) × Ended (cellsIn (now image)) (now marks)
+        × (i < instructionsIn (now image)) × (at ≡ instructionPlace (blocksIn (now image)) i) ⌝ }
     ensures { λ r. ⌜ r ≡ instructionNo (cellsIn (now (image .entry))) i ⌝ }
 {
     let x = layout::instruction_in(image, at);
@@ -108,10 +109,12 @@ fn walk_instructions(
     lays: bool,
     cells: &mut [u64],
 ) -> Walked
-    requires { ⌜ (headerNo (now image) ≡ 0) × Limited (blocksIn (now image)) (now limits) (now largest) × Ended (cellsIn (now image)) (now marks) × (start ≡ blockPlace (blocksIn (now image))) × (lays ≡ true → length (now cells) ≡ programCells) ⌝ }
+    requires { ⌜ (headerNo (now image) ≡ 0) × Limited (blocksIn (now image)) (now limits) (now largest) × Ended (cellsIn (now image)) (now marks)
+        × (start ≡ blockPlace (blocksIn (now image))) × (lays ≡ true → length (now cells) ≡ programCells) ⌝ }
     ensures { λ r. ⌜ r .no ≡ firstNo (instructionNo (cellsIn (now (image .entry)))) (instructionsIn (now (image .entry))) 0 ⌝ }
     ensures { λ r. ⌜ r .at ≡ instructionsOffset (now (image .entry)) ⌝ }
-    ensures { λ r. ⌜ (r .no ≡ 0 → now (cells .exit) ≡ cond lays (sets (now (cells .entry)) 770 (instructionCellsIn (now (image .entry)) (instructionsIn (now (image .entry))))) (now (cells .entry))) ⌝ }
+    ensures { λ r. ⌜ (r .no ≡ 0 → now (cells .exit) ≡ cond lays
+        (sets (now (cells .entry)) 770 (instructionCellsIn (now (image .entry)) (instructionsIn (now (image .entry))))) (now (cells .entry))) ⌝ }
 {
     let instructions = int64::read_u16(image, 6) as usize;
     let mut at = start;

@@ -45,9 +45,11 @@ fn encode_blocks(cells: &[u64], image: &mut [u8]) -> usize
 
 // The instructions' records likewise, from the last block's end on.
 fn encode_instructions(cells: &[u64], start: usize, image: &mut [u8]) -> usize
-    requires { ⌜ (length (now cells) ≡ programCells) × (instructionCount (now cells) ≤ 1024) × (start ≡ blockPlace (blockCount (now cells))) × (length (now image) ≡ imageLength (blockCount (now cells)) (instructionCount (now cells))) ⌝ }
+    requires { ⌜ (length (now cells) ≡ programCells) × (instructionCount (now cells) ≤ 1024) × (start ≡ blockPlace (blockCount (now cells)))
+        × (length (now image) ≡ imageLength (blockCount (now cells)) (instructionCount (now cells))) ⌝ }
     ensures { λ r. ⌜ r ≡ length (now (image .entry)) ⌝ }
-    ensures { λ _. ⌜ now (image .exit) ≡ sets (now (image .entry)) (blockPlace (blockCount (now (cells .entry)))) (rows (λ i. instructionBytes (instructionOf (now (cells .entry)) i)) (instructionCount (now (cells .entry)))) ⌝ }
+    ensures { λ _. ⌜ now (image .exit) ≡ sets (now (image .entry)) (blockPlace (blockCount (now (cells .entry))))
+        (rows (λ i. instructionBytes (instructionOf (now (cells .entry)) i)) (instructionCount (now (cells .entry)))) ⌝ }
 {
     let instructions = cells[1];
     let mut at = start;

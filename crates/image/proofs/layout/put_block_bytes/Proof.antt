@@ -32,13 +32,18 @@ same-length c = search needs
 
 returns : tie.Need-returns
 unfolding bytesOf
-returns c = let l = c .before .before .before .before .before .before .before .before .before .before .before .before .before .before .args .image .now in
-    let at = c .before .before .before .before .before .before .before .before .before .before .before .before .before .before .args .at in
-    let k = c .before .before .before .before .before .before .before .before .before .before .before .before .before .before .args .k in
+returns c =
+    let start = c .before .before .before .before .before .before .before .before .before .before .before .before .before .before in
+    let l = start .args .image .now in
+    let at = start .args .at in
+    let k = start .args .k in
     let middle = c .before .before .before .before .before .before .before .before .before .before .before .before .four-bytes .result in
-    let two = placed l _ _ at (at + 2) (bytesOf 2 (k .first)) (bytesOf 4 middle) (c .before .before .before .before .before .before .before .before .before .before .write-u16 .ensures) (c .before .before .before .before .before .before .write-u32 .ensures) refl in
+    let two = placed l _ _ at (at + 2) (bytesOf 2 (k .first)) (bytesOf 4 middle)
+    (c .before .before .before .before .before .before .before .before .before .before .write-u16 .ensures)
+    (c .before .before .before .before .before .before .write-u32 .ensures) refl in
     placed l _ _ at (at + 6) (bytesOf 2 (k .first) ++ bytesOf 4 middle) (bytesOf 4 (k .packed)) two (c .before .before .write-u322 .ensures) refl
-    ∙ ap (λ (m : List ℕ). sets l at ((bytesOf 2 (k .first) ++ m) ++ bytesOf 4 (k .packed))) (c .before .before .before .before .before .before .before .before .before .before .before .before .four-bytes .ensures)
+    ∙ ap (λ (m : List ℕ). sets l at ((bytesOf 2 (k .first) ++ m) ++ bytesOf 4 (k .packed)))
+    (c .before .before .before .before .before .before .before .before .before .before .before .before .four-bytes .ensures)
 
 pub put-block-bytes-spec : {M : Type 1} → statement M
 put-block-bytes-spec =

@@ -26,9 +26,11 @@ same-length c = search needs
 
 returns : tie.Need-returns
 unfolding bytesOf
-returns c = let l = c .before .before .before .before .before .before .before .before .before .before .args .image .now in
-    let at = c .before .before .before .before .before .before .before .before .before .before .args .at in
-    let x = c .before .before .before .before .before .before .before .before .before .before .args .x in
+returns c =
+    let start = c .before .before .before .before .before .before .before .before .before .before in
+    let l = start .args .image .now in
+    let at = start .args .at in
+    let x = start .args .x in
     let head = c .before .before .before .before .before .before .before .before .four-bytes .result in
     placed l _ _ at (at + 4) (bytesOf 4 head) (bytesOf 8 (x .operand)) (c .before .before .before .before .before .before .write-u32 .ensures) (c .before .before .write-u64 .ensures) refl
     ∙ ap (λ (m : List ℕ). sets l at (m ++ bytesOf 8 (x .operand))) (c .before .before .before .before .before .before .before .before .four-bytes .ensures)

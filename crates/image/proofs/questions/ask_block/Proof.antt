@@ -39,7 +39,12 @@ ask-block-record-requires c κs = search needs
 
 returns-2 : tie.Need-returns-2
 unfolding blockNo
-returns-2 c = rw (le-leb _ _ (c .before .before .before .before .before .if1 .left)) (c .ask-block-record .ensures ∙ ap₂ (λ (n : ℕ) (k : Block). blockRecordNo (blockCount (c .before .before .before .before .before .before .before .args .cells .now)) (instructionCount (c .before .before .before .before .before .before .before .args .cells .now)) (c .before .before .before .before .before .before .before .args .b) n k) (c .before .before .before .before .first-before .ensures) (c .before .before .before .block-of .ensures))
+returns-2 c =
+    let start = c .before .before .before .before .before .before .before in
+    rw (le-leb _ _ (c .before .before .before .before .before .if1 .left))
+    (c .ask-block-record .ensures ∙ ap₂ (λ (n : ℕ) (k : Block). blockRecordNo (blockCount (start .args .cells .now))
+    (instructionCount (start .args .cells .now)) (start .args .b) n k) (c .before .before .before .before .first-before .ensures)
+    (c .before .before .before .block-of .ensures))
 
 pub ask-block-spec : {M : Type 1} → statement M
 ask-block-spec =

@@ -14,10 +14,22 @@ is-annotated-requires : tie.Need-is-annotated-requires
 is-annotated-requires c κs = search needs
 
 returns-2 : tie.Need-returns-2
-returns-2 c = rw (← (c .before .before .before .starts-in-order .ensures), not-false (c .before .before .before .starts-in-order .result) (c .before .before .if1 .left), ← (c .before .is-annotated .ensures), not-true (c .before .is-annotated .result) (c .if2 .taken))
+returns-2 c = rw (
+  ← (c .before .before .before .starts-in-order .ensures),
+  not-false (c .before .before .before .starts-in-order .result)
+      (c .before .before .if1 .left),
+  ← (c .before .is-annotated .ensures),
+  not-true (c .before .is-annotated .result) (c .if2 .taken),
+)
 
 returns-3 : tie.Need-returns-3
-returns-3 c = rw (← (c .before .before .before .starts-in-order .ensures), not-false (c .before .before .before .starts-in-order .result) (c .before .before .if1 .left), ← (c .before .is-annotated .ensures), not-false (c .before .is-annotated .result) (c .if2 .left))
+returns-3 c = rw (
+  ← (c .before .before .before .starts-in-order .ensures),
+  not-false (c .before .before .before .starts-in-order .result)
+      (c .before .before .if1 .left),
+  ← (c .before .is-annotated .ensures),
+  not-false (c .before .is-annotated .result) (c .if2 .left),
+)
 
 pub ask-block-record-spec : {M : Type 1} → statement M
 ask-block-record-spec =

@@ -16,10 +16,26 @@ end-mark-requires : tie.Need-end-mark-requires
 end-mark-requires c κs = search needs
 
 returns-2 : tie.Need-returns-2
-returns-2 c = rw (← (c .before .before .before .is-laid-out .ensures), not-false (c .before .before .before .is-laid-out .result) (c .before .before .if1 .left), marks-differ (leb 13 (c .before .before .before .before .before .before .args .x .opcode)) (eqb (c .before .before .before .before .before .before .args .last) 1) (c .before .end-mark .result) (c .before .before .before .before .before .before .args .last) (c .before .end-mark .ensures) (c .before .before .before .before .before .before .pre .1) (c .if2 .taken))
+returns-2 c =
+    let start = c .before .before .before .before .before .before in
+    rw (
+      ← (c .before .before .before .is-laid-out .ensures),
+      not-false (c .before .before .before .is-laid-out .result)
+          (c .before .before .if1 .left),
+      marks-differ (leb 13 (start .args .x .opcode)) (eqb (start .args .last) 1) (c .before .end-mark .result)
+          (start .args .last) (c .before .end-mark .ensures) (start .pre .1) (c .if2 .taken),
+    )
 
 returns-3 : tie.Need-returns-3
-returns-3 c = rw (← (c .before .before .before .is-laid-out .ensures), not-false (c .before .before .before .is-laid-out .result) (c .before .before .if1 .left), marks-agree (leb 13 (c .before .before .before .before .before .before .args .x .opcode)) (eqb (c .before .before .before .before .before .before .args .last) 1) (c .before .end-mark .result) (c .before .before .before .before .before .before .args .last) (c .before .end-mark .ensures) (c .before .before .before .before .before .before .pre .1) (c .if2 .left))
+returns-3 c =
+    let start = c .before .before .before .before .before .before in
+    rw (
+      ← (c .before .before .before .is-laid-out .ensures),
+      not-false (c .before .before .before .is-laid-out .result)
+          (c .before .before .if1 .left),
+      marks-agree (leb 13 (start .args .x .opcode)) (eqb (start .args .last) 1) (c .before .end-mark .result)
+          (start .args .last) (c .before .end-mark .ensures) (start .pre .1) (c .if2 .left),
+    )
 
 pub ask-instruction-spec : {M : Type 1} → statement M
 ask-instruction-spec =

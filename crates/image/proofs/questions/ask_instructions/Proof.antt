@@ -21,7 +21,9 @@ instructions-held-requires : tie.Need-instructions-held-requires Inv-loop μ-loo
 instructions-held-requires c κs = (c .before .before .before .before .pre .1, c .before .before .before .before .pre .2)
 
 loop-holds : tie.Need-loop-holds Inv-loop μ-loop
-loop-holds c = (omega arith, begins (instructionNo (c .before .before .before .before .before .args .cells .now)) (instructionCount (c .before .before .before .before .before .args .cells .now)))
+loop-holds c =
+    let start = c .before .before .before .before .before in
+    (omega arith, begins (instructionNo (start .args .cells .now)) (instructionCount (start .args .cells .now)))
 
 instruction-of-requires : tie.Need-instruction-of-requires Inv-loop μ-loop
 instruction-of-requires c κs = c .before .before .instructions-held .ensures .1 (c .before .loop .i) (c .loop-test .taken)
@@ -30,21 +32,34 @@ add-ask-instruction : tie.Need-add-ask-instruction Inv-loop μ-loop
 add-ask-instruction c = omega arith
 
 shared-slice-read-ask-instruction : tie.Need-shared-slice-read-ask-instruction Inv-loop μ-loop
-shared-slice-read-ask-instruction c = omega (arith, c .before .before .before .before .before .before .before .before .before .pre .3 .sized, c .before .before .before .before .instructions-held .ensures .0)
+shared-slice-read-ask-instruction c = omega (
+  arith,
+  c .before .before .before .before .before .before .before .before .before .pre .3 .sized,
+  c .before .before .before .before .instructions-held .ensures .0,
+)
 
 ask-instruction-requires : tie.Need-ask-instruction-requires Inv-loop μ-loop
 ask-instruction-requires c κs =
-    let cells = c .before .before .before .before .before .before .before .before .before .args .cells .now in
+    let start = c .before .before .before .before .before .before .before .before .before in
+    let cells = start .args .cells .now in
     let l = c .before .before .before .loop in
-    let held = c .before .before .before .before .instructions-held .ensures in
-    (limited-by (blockCount cells) (c .before .before .before .before .before .before .before .before .before .args .limits .now) (c .before .before .before .before .before .before .before .before .before .args .largest .now) (c .before .before .before .before .before .before .before .before .before .pre .0), mark-told (lastInBlock cells (l .i)) (getD (c .before .before .before .before .before .before .before .before .before .args .marks .now) (l .i + 1) 0) (c .before .before .before .before .before .before .before .before .before .pre .3 .ended (l .i) (omega (arith, held .0))) .1)
+    let held = c .before .before .before .before .instructions-held .ensures in (
+      limited-by (blockCount cells) (start .args .limits .now) (start .args .largest .now) (start .pre .0),
+      mark-told (lastInBlock cells (l .i))
+          (getD (start .args .marks .now) (l .i + 1) 0) (start .pre .3 .ended (l .i) (omega (arith, held .0))) .1,
+    )
 
 returns : tie.Need-returns Inv-loop μ-loop
 returns c =
-    let cells = c .before .before .before .before .before .before .before .before .before .before .before .args .cells .now in
+    let start = c .before .before .before .before .before .before .before .before .before .before .before in
+    let cells = start .args .cells .now in
     let l = c .before .before .before .before .before .loop in
     let held = c .before .before .before .before .before .before .instructions-held .ensures in
-    let no = c .before .ask-instruction .ensures ∙ asked-by cells (c .before .before .before .before .before .before .before .before .before .before .before .args .marks .now) (blockCount cells) (c .before .before .before .before .before .before .before .before .before .before .before .args .limits .now) (c .before .before .before .before .before .before .before .before .before .before .before .args .largest .now) (c .before .before .before .before .before .before .before .before .before .before .before .pre .0) (c .before .before .before .before .before .before .before .before .before .before .before .pre .3) (l .i) (omega (arith, held .0)) (c .before .before .before .instruction-of .result) ∙ ap (instructionRecordNo (blockCount cells) (lastInBlock cells (l .i))) (c .before .before .before .instruction-of .ensures) ∙ asked-held cells (l .i) (held .1 (l .i) (c .before .before .before .before .loop-test .taken)) in
+    let no = c .before .ask-instruction .ensures ∙ asked-by cells (start .args .marks .now) (blockCount cells) (start .args .limits .now)
+    (start .args .largest .now) (start .pre .0) (start .pre .3) (l .i) (omega (arith, held .0))
+    (c .before .before .before .instruction-of .result) ∙ ap (instructionRecordNo (blockCount cells) (lastInBlock cells (l .i)))
+    (c .before .before .before .instruction-of .ensures) ∙ asked-held cells (l .i)
+    (held .1 (l .i) (c .before .before .before .before .loop-test .taken)) in
     no ∙ sym (l .inv .1 ∙ decides (instructionNo cells) (instructionCount cells) (l .i) (omega (arith, held .0)) (λ e. c .if1 .taken (no ∙ e)))
 
 add-i : tie.Need-add-i Inv-loop μ-loop
@@ -55,10 +70,15 @@ loop-less c = omega arith
 
 loop-again : tie.Need-loop-again Inv-loop μ-loop
 loop-again c =
-    let cells = c .before .before .before .before .before .before .before .before .before .before .before .args .cells .now in
+    let start = c .before .before .before .before .before .before .before .before .before .before .before in
+    let cells = start .args .cells .now in
     let l = c .before .before .before .before .before .loop in
     let held = c .before .before .before .before .before .before .instructions-held .ensures in
-    let no = c .before .ask-instruction .ensures ∙ asked-by cells (c .before .before .before .before .before .before .before .before .before .before .before .args .marks .now) (blockCount cells) (c .before .before .before .before .before .before .before .before .before .before .before .args .limits .now) (c .before .before .before .before .before .before .before .before .before .before .before .args .largest .now) (c .before .before .before .before .before .before .before .before .before .before .before .pre .0) (c .before .before .before .before .before .before .before .before .before .before .before .pre .3) (l .i) (omega (arith, held .0)) (c .before .before .before .instruction-of .result) ∙ ap (instructionRecordNo (blockCount cells) (lastInBlock cells (l .i))) (c .before .before .before .instruction-of .ensures) ∙ asked-held cells (l .i) (held .1 (l .i) (c .before .before .before .before .loop-test .taken)) in
+    let no = c .before .ask-instruction .ensures ∙ asked-by cells (start .args .marks .now) (blockCount cells) (start .args .limits .now)
+    (start .args .largest .now) (start .pre .0) (start .pre .3) (l .i) (omega (arith, held .0))
+    (c .before .before .before .instruction-of .result) ∙ ap (instructionRecordNo (blockCount cells) (lastInBlock cells (l .i)))
+    (c .before .before .before .instruction-of .ensures) ∙ asked-held cells (l .i)
+    (held .1 (l .i) (c .before .before .before .before .loop-test .taken)) in
     (omega arith, l .inv .1 ∙ goes-on (instructionNo cells) (instructionCount cells) (l .i) (omega (arith, held .0)) (sym no ∙ c .if1 .left))
 
 shared-slice-read-if2 : tie.Need-shared-slice-read-if2 Inv-loop μ-loop
@@ -72,7 +92,9 @@ returns-2 c =
     sym (l .inv .1 ∙ decides (instructionNo cells) (instructionCount cells) (l .i) (omega arith) (λ e. (omega (arith, short, e))) ∙ short)
 
 returns-3 : tie.Need-returns-3 Inv-loop μ-loop
-returns-3 c = sym (c .before .before .before .loop .inv .1 ∙ no-more (instructionNo (c .before .before .before .before .before .before .before .before .before .args .cells .now)) (instructionCount (c .before .before .before .before .before .before .before .before .before .args .cells .now)) (c .before .before .before .loop .i) (omega arith))
+returns-3 c =
+    let start = c .before .before .before .before .before .before .before .before .before in
+    sym (c .before .before .before .loop .inv .1 ∙ no-more (instructionNo (start .args .cells .now)) (instructionCount (start .args .cells .now)) (c .before .before .before .loop .i) (omega arith))
 
 pub ask-instructions-spec : {M : Type 1} → statement M
 ask-instructions-spec =

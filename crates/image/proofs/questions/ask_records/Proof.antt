@@ -28,7 +28,9 @@ returns c =
     asked ∙ sym (or-else-no (firstNo (blockNo cells) (blockCount cells) 0) (firstNo (instructionNo cells) (instructionCount cells) 0) (λ e. c .if1 .taken (asked ∙ e)))
 
 shared-slice-read-end : tie.Need-shared-slice-read-end
-shared-slice-read-end c = two-cells (c .before .before .before .before .before .before .args .cells .now) (c .before .before .before .before .before .before .pre)
+shared-slice-read-end c =
+    let start = c .before .before .before .before .before .before in
+    two-cells (start .args .cells .now) (start .pre)
 
 array-write-marks : tie.Need-array-write-marks
 array-write-marks c =
@@ -43,7 +45,9 @@ all-limits-requires : tie.Need-all-limits-requires
 all-limits-requires c κs = search needs
 
 shared-slice-read-largest-operands : tie.Need-shared-slice-read-largest-operands
-shared-slice-read-largest-operands c = omega (arith, two-cells (c .before .before .before .before .before .before .before .before .before .before .args .cells .now) (c .before .before .before .before .before .before .before .before .before .before .pre))
+shared-slice-read-largest-operands c =
+    let start = c .before .before .before .before .before .before .before .before .before .before in
+    omega (arith, two-cells (start .args .cells .now) (start .pre))
 
 largest-operands-requires : tie.Need-largest-operands-requires
 largest-operands-requires c κs =
@@ -62,16 +66,31 @@ slice-aggregate-ask-instructions-3 c = search needs
 
 ask-instructions-requires : tie.Need-ask-instructions-requires
 ask-instructions-requires c κs =
-    let cells = c .before .before .before .before .before .before .before .before .before .before .before .before .before .before .args .cells .now in
-    let ok = c .before .before .before .before .before .before .before .before .before .before .before .before .before .before .pre in
-    let k = counted (blockCount cells) (instructionCount cells) ok in
-    (record { some-block = k .some-block; limits-are = c .before .before .before .before .before .before .all-limits .ensures; largest-are = c .before .before .before .largest-operands .ensures }, two-cells cells ok, k .instructions-fit, ended cells _ (c .before .before .before .before .before .before .before .before .before .before .before .ask-blocks .ensures .1 (c .before .before .before .before .before .before .before .before .before .if1 .left)) (k .instructions-fit))
+    let start = c .before .before .before .before .before .before .before .before .before .before .before .before .before .before in
+    let cells = start .args .cells .now in
+    let ok = start .pre in
+    let k = counted (blockCount cells) (instructionCount cells) ok in (
+      record {
+        some-block = k .some-block;
+        limits-are = c .before .before .before .before .before .before .all-limits .ensures;
+        largest-are =
+            c .before .before .before .largest-operands .ensures;
+      },
+      two-cells cells ok,
+      k .instructions-fit,
+      ended cells _
+          (c .before .before .before .before .before .before .before .before .before .before .before .ask-blocks .ensures .1
+          (c .before .before .before .before .before .before .before .before .before .if1 .left)) (k .instructions-fit),
+    )
 
 returns-2 : tie.Need-returns-2
 unfolding recordsNo
 returns-2 c =
     let cells = c .before .before .before .before .before .before .before .before .before .before .before .before .before .before .before .args .cells .now in
-    c .ask-instructions .ensures ∙ sym (or-else-yes (firstNo (blockNo cells) (blockCount cells) 0) (firstNo (instructionNo cells) (instructionCount cells) 0) (sym (c .before .before .before .before .before .before .before .before .before .before .before .before .ask-blocks .ensures .0) ∙ c .before .before .before .before .before .before .before .before .before .before .if1 .left))
+    c .ask-instructions .ensures ∙ sym (or-else-yes (firstNo (blockNo cells) (blockCount cells) 0)
+    (firstNo (instructionNo cells) (instructionCount cells) 0)
+    (sym (c .before .before .before .before .before .before .before .before .before .before .before .before .ask-blocks .ensures .0) ∙
+    c .before .before .before .before .before .before .before .before .before .before .if1 .left))
 
 pub ask-records-spec : {M : Type 1} → statement M
 ask-records-spec =

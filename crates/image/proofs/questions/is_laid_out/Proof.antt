@@ -45,21 +45,24 @@ mul-if4 c = search needs
 
 shared-slice-read-if4 : tie.Need-shared-slice-read-if4
 shared-slice-read-if4 c =
-    let limits = c .before .before .before .before .before .before .args .limits .now in
-    let largest = c .before .before .before .before .before .before .args .largest .now in
+    let start = c .before .before .before .before .before .before in
+    let limits = start .args .limits .now in
+    let largest = start .args .largest .now in
     let B = blocksBy largest in
-    let L = c .before .before .before .before .before .before .pre in
-    let x = c .before .before .before .before .before .before .args .x in
+    let L = start .pre in
+    let x = start .args .x in
     omega (arith, row-inside B limits largest L x (c .before .before .before .before .before .if1 .left) (c .before .before .before .before .if2 .left))
 
 returns-4 : tie.Need-returns-4
 returns-4 c =
-    let limits = c .before .before .before .before .before .before .before .before .args .limits .now in
-    let largest = c .before .before .before .before .before .before .before .before .args .largest .now in
+    let start = c .before .before .before .before .before .before .before .before in
+    let limits = start .args .limits .now in
+    let largest = start .args .largest .now in
     let B = blocksBy largest in
-    let L = c .before .before .before .before .before .before .before .before .pre in
-    let x = c .before .before .before .before .before .before .before .before .args .x in
-    sym (beyond-s B limits largest L x (c .before .before .before .before .before .before .before .if1 .left) (c .before .before .before .before .before .before .if2 .left) (c .before .before .before .if3 .left) (c .if4 .taken))
+    let L = start .pre in
+    let x = start .args .x in
+    sym (beyond-s B limits largest L x (c .before .before .before .before .before .before .before .if1 .left)
+    (c .before .before .before .before .before .before .if2 .left) (c .before .before .before .if3 .left) (c .if4 .taken))
 
 add-if5 : tie.Need-add-if5
 add-if5 c = search needs
@@ -69,21 +72,25 @@ mul-if5 c = search needs
 
 shared-slice-read-if5 : tie.Need-shared-slice-read-if5
 shared-slice-read-if5 c =
-    let limits = c .before .before .before .before .before .before .before .before .before .args .limits .now in
-    let largest = c .before .before .before .before .before .before .before .before .before .args .largest .now in
+    let start = c .before .before .before .before .before .before .before .before .before in
+    let limits = start .args .limits .now in
+    let largest = start .args .largest .now in
     let B = blocksBy largest in
-    let L = c .before .before .before .before .before .before .before .before .before .pre in
-    let x = c .before .before .before .before .before .before .before .before .before .args .x in
+    let L = start .pre in
+    let x = start .args .x in
     omega (arith, row-inside B limits largest L x (c .before .before .before .before .before .before .before .before .if1 .left) (c .before .before .before .before .before .before .before .if2 .left))
 
 returns-5 : tie.Need-returns-5
 returns-5 c =
-    let limits = c .before .before .before .before .before .before .before .before .before .before .args .limits .now in
-    let largest = c .before .before .before .before .before .before .before .before .before .before .args .largest .now in
+    let start = c .before .before .before .before .before .before .before .before .before .before in
+    let limits = start .args .limits .now in
+    let largest = start .args .largest .now in
     let B = blocksBy largest in
-    let L = c .before .before .before .before .before .before .before .before .before .before .pre in
-    let x = c .before .before .before .before .before .before .before .before .before .before .args .x in
-    sym (below-kind B limits largest L x (c .before .before .before .before .before .before .before .before .before .if1 .left) (c .before .before .before .before .before .before .before .before .if2 .left) (c .before .before .before .before .before .if3 .left) (c .before .before .if4 .left) (c .if5 .taken))
+    let L = start .pre in
+    let x = start .args .x in
+    sym (below-kind B limits largest L x (c .before .before .before .before .before .before .before .before .before .if1 .left)
+    (c .before .before .before .before .before .before .before .before .if2 .left) (c .before .before .before .before .before .if3 .left)
+    (c .before .before .if4 .left) (c .if5 .taken))
 
 add-if6 : tie.Need-add-if6
 add-if6 c = search needs
@@ -93,30 +100,44 @@ mul-if6 c = search needs
 
 shared-slice-read-if6 : tie.Need-shared-slice-read-if6
 shared-slice-read-if6 c =
-    let limits = c .before .before .before .before .before .before .before .before .before .before .before .args .limits .now in
-    let largest = c .before .before .before .before .before .before .before .before .before .before .before .args .largest .now in
+    let start = c .before .before .before .before .before .before .before .before .before .before .before in
+    let limits = start .args .limits .now in
+    let largest = start .args .largest .now in
     let B = blocksBy largest in
-    let L = c .before .before .before .before .before .before .before .before .before .before .before .pre in
-    let x = c .before .before .before .before .before .before .before .before .before .before .before .args .x in
-    omega (arith, row-inside B limits largest L x (c .before .before .before .before .before .before .before .before .before .before .if1 .left) (c .before .before .before .before .before .before .before .before .before .if2 .left))
+    let L = start .pre in
+    let x = start .args .x in
+    omega (
+      arith,
+      row-inside B limits largest L x (c .before .before .before .before .before .before .before .before .before .before .if1 .left)
+          (c .before .before .before .before .before .before .before .before .before .if2 .left),
+    )
 
 returns-6 : tie.Need-returns-6
 returns-6 c =
-    let limits = c .before .before .before .before .before .before .before .before .before .before .before .before .args .limits .now in
-    let largest = c .before .before .before .before .before .before .before .before .before .before .before .before .args .largest .now in
+    let start = c .before .before .before .before .before .before .before .before .before .before .before .before in
+    let limits = start .args .limits .now in
+    let largest = start .args .largest .now in
     let B = blocksBy largest in
-    let L = c .before .before .before .before .before .before .before .before .before .before .before .before .pre in
-    let x = c .before .before .before .before .before .before .before .before .before .before .before .before .args .x in
-    sym (beyond-kind B limits largest L x (c .before .before .before .before .before .before .before .before .before .before .before .if1 .left) (c .before .before .before .before .before .before .before .before .before .before .if2 .left) (c .before .before .before .before .before .before .before .if3 .left) (c .before .before .before .before .if4 .left) (c .if6 .taken))
+    let L = start .pre in
+    let x = start .args .x in
+    sym (beyond-kind B limits largest L x (c .before .before .before .before .before .before .before .before .before .before .before .if1 .left)
+    (c .before .before .before .before .before .before .before .before .before .before .if2 .left)
+    (c .before .before .before .before .before .before .before .if3 .left) (c .before .before .before .before .if4 .left) (c .if6 .taken))
 
 mul-result : tie.Need-mul-result
 mul-result c =
-    let limits = c .before .before .before .before .before .before .before .before .before .before .before .before .args .limits .now in
-    let largest = c .before .before .before .before .before .before .before .before .before .before .before .before .args .largest .now in
+    let start = c .before .before .before .before .before .before .before .before .before .before .before .before in
+    let limits = start .args .limits .now in
+    let largest = start .args .largest .now in
     let B = blocksBy largest in
-    let L = c .before .before .before .before .before .before .before .before .before .before .before .before .pre in
-    let x = c .before .before .before .before .before .before .before .before .before .before .before .before .args .x in
-    omega (arith, kind-known B limits largest L x (c .before .before .before .before .before .before .before .before .before .before .before .if1 .left) (c .before .before .before .before .before .before .before .before .before .before .if2 .left) (c .if6 .left))
+    let L = start .pre in
+    let x = start .args .x in
+    omega (
+      arith,
+      kind-known B limits largest L x
+          (c .before .before .before .before .before .before .before .before .before .before .before .if1 .left)
+          (c .before .before .before .before .before .before .before .before .before .before .if2 .left) (c .if6 .left),
+    )
 
 shared-slice-read-result : tie.Need-shared-slice-read-result
 shared-slice-read-result c =
@@ -131,12 +152,18 @@ shared-slice-read-result c =
 
 returns-7 : tie.Need-returns-7
 returns-7 c =
-    let limits = c .before .before .before .before .before .before .before .before .before .before .before .before .before .before .args .limits .now in
-    let largest = c .before .before .before .before .before .before .before .before .before .before .before .before .before .before .args .largest .now in
+    let start = c .before .before .before .before .before .before .before .before .before .before .before .before .before .before in
+    let limits = start .args .limits .now in
+    let largest = start .args .largest .now in
     let B = blocksBy largest in
-    let L = c .before .before .before .before .before .before .before .before .before .before .before .before .before .before .pre in
-    let x = c .before .before .before .before .before .before .before .before .before .before .before .before .before .before .args .x in
-    sym (operand-decides B limits largest L x (c .before .before .before .before .before .before .before .before .before .before .before .before .before .if1 .left) (c .before .before .before .before .before .before .before .before .before .before .before .before .if2 .left) (c .before .before .before .before .before .before .before .before .before .if3 .left) (c .before .before .before .before .before .before .if4 .left) (c .before .before .before .before .if5 .left) (c .before .before .if6 .left) (omega arith))
+    let L = start .pre in
+    let x = start .args .x in
+    sym (operand-decides B limits largest L x
+    (c .before .before .before .before .before .before .before .before .before .before .before .before .before .if1 .left)
+    (c .before .before .before .before .before .before .before .before .before .before .before .before .if2 .left)
+    (c .before .before .before .before .before .before .before .before .before .if3 .left)
+    (c .before .before .before .before .before .before .if4 .left) (c .before .before .before .before .if5 .left) (c .before .before .if6 .left)
+    (omega arith))
 
 pub is-laid-out-spec : {M : Type 1} → statement M
 is-laid-out-spec =

@@ -28,14 +28,24 @@ returns c =
     (asked ∙ sym (or-else-no (headerNo image) (recordsNo (cellsIn image)) refused), (sym (offset-unread image refused), λ e. absurd (c .if1 .taken e)))
 
 lay-counts-requires : tie.Need-lay-counts-requires
-lay-counts-requires c κs = (header (c .before .before .before .before .before .args .image .now) (sym (c .before .before .ask-header .ensures) ∙ c .before .if1 .left) .long, λ t. (omega (arith, ap length (c .before .before .before .before .before .pre t), length-replicate {A = ℕ} programCells 0)))
+lay-counts-requires c κs =
+    let start = c .before .before .before .before .before in (
+      header (start .args .image .now) (sym (c .before .before .ask-header .ensures) ∙ c .before .if1 .left) .long,
+      λ t.
+          (omega (arith, ap length (start .pre t), length-replicate {A = ℕ} programCells 0)),
+    )
 
 walk-records-requires : tie.Need-walk-records-requires
 walk-records-requires c κs =
-    let image = c .before .before .before .before .before .before .before .before .before .args .image .now in
-    let cells = c .before .before .before .before .before .before .before .before .before .args .cells .now in
-    let counts : List ℕ = blocksIn image ∷ instructionsIn image ∷ [] in
-    (sym (c .before .before .before .before .before .before .ask-header .ensures) ∙ c .before .before .before .before .before .if1 .left, λ t. laid-length (c .before .before .before .before .before .before .before .before .before .args .lays) cells _ counts 0 (c .before .before .before .lay-counts .ensures) ∙ ap length (c .before .before .before .before .before .before .before .before .before .pre t) ∙ length-replicate {A = ℕ} programCells 0)
+    let start = c .before .before .before .before .before .before .before .before .before in
+    let image = start .args .image .now in
+    let cells = start .args .cells .now in
+    let counts : List ℕ = blocksIn image ∷ instructionsIn image ∷ [] in (
+      sym (c .before .before .before .before .before .before .ask-header .ensures) ∙ c .before .before .before .before .before .if1 .left,
+      λ t.
+          laid-length (start .args .lays) cells _ counts 0 (c .before .before .before .lay-counts .ensures) ∙ ap length (start .pre t) ∙
+          length-replicate {A = ℕ} programCells 0,
+    )
 
 same-length : tie.Need-same-length
 same-length c = search needs
@@ -43,12 +53,21 @@ same-length c = search needs
 returns-2 : tie.Need-returns-2
 unfolding imageNo
 returns-2 c =
-    let image = c .before .before .before .before .before .before .before .before .before .before .before .before .args .image .now in
-    let cells = c .before .before .before .before .before .before .before .before .before .before .before .before .args .cells .now in
-    let lays = c .before .before .before .before .before .before .before .before .before .before .before .before .args .lays in
+    let start = c .before .before .before .before .before .before .before .before .before .before .before .before in
+    let image = start .args .image .now in
+    let cells = start .args .cells .now in
+    let lays = start .args .lays in
     let w = c .before .before .walk-records .ensures in
-    let counts : List ℕ = blocksIn image ∷ instructionsIn image ∷ [] in
-    (w .0 ∙ sym (or-else-yes (headerNo image) (recordsNo (cellsIn image)) (sym (c .before .before .before .before .before .before .before .before .before .ask-header .ensures) ∙ c .before .before .before .before .before .before .before .before .if1 .left)), (w .1 .0, λ e t. when-wanted lays _ (recordsLaid image _) _ t (w .1 .1 e) ∙ decoded image cells _ (c .before .before .before .before .before .before .before .before .before .before .before .before .pre t) (when-wanted lays _ (sets cells 0 counts) cells t (c .before .before .before .before .before .before .lay-counts .ensures))))
+    let counts : List ℕ = blocksIn image ∷ instructionsIn image ∷ [] in (
+      w .0 ∙ sym (or-else-yes (headerNo image) (recordsNo (cellsIn image))
+          (sym (c .before .before .before .before .before .before .before .before .before .ask-header .ensures) ∙
+          c .before .before .before .before .before .before .before .before .if1 .left)),
+      (
+        w .1 .0,
+        λ e t. when-wanted lays _ (recordsLaid image _) _ t (w .1 .1 e) ∙ decoded image cells _ (start .pre t)
+            (when-wanted lays _ (sets cells 0 counts) cells t (c .before .before .before .before .before .before .lay-counts .ensures)),
+      ),
+    )
 
 pub walk-image-spec : {M : Type 1} → statement M
 walk-image-spec =

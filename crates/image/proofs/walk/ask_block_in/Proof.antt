@@ -25,11 +25,13 @@ ask-block-record-requires : tie.Need-ask-block-record-requires
 ask-block-record-requires c κs = search needs
 
 returns : tie.Need-returns
-returns c = let image = c .before .before .before .before .before .before .args .image .now in
+returns c =
+    let start = c .before .before .before .before .before .before in
+    let image = start .args .image .now in
     c .ask-block-record .ensures
-    ∙ ap₂ (λ (m n : ℕ). blockRecordNo m n (c .before .before .before .before .before .before .args .b) (c .before .before .before .before .before .before .args .before) (c .before .block-in .result)) (c .before .before .before .wide .ensures) (c .before .before .read-u16 .ensures .equal)
-    ∙ ap (blockRecordNo (blocksIn image) (instructionsIn image) (c .before .before .before .before .before .before .args .b) (c .before .before .before .before .before .before .args .before)) (c .before .block-in .ensures ∙ ap (blockIn image) (c .before .before .before .before .before .before .pre .2))
-    ∙ block-asked image (header image (c .before .before .before .before .before .before .pre .0)) (c .before .before .before .before .before .before .args .b) (c .before .before .before .before .before .before .args .before) (c .before .before .before .before .before .before .pre .1) (c .before .before .before .before .before .before .pre .3)
+    ∙ ap₂ (λ (m n : ℕ). blockRecordNo m n (start .args .b) (start .args .before) (c .before .block-in .result)) (c .before .before .before .wide .ensures) (c .before .before .read-u16 .ensures .equal)
+    ∙ ap (blockRecordNo (blocksIn image) (instructionsIn image) (start .args .b) (start .args .before)) (c .before .block-in .ensures ∙ ap (blockIn image) (start .pre .2))
+    ∙ block-asked image (header image (start .pre .0)) (start .args .b) (start .args .before) (start .pre .1) (start .pre .3)
 
 pub ask-block-in-spec : {M : Type 1} → statement M
 ask-block-in-spec =

@@ -13,28 +13,41 @@ use Rattle.image.proofs.walk.ask_instruction_in.Statement.{statement}
 use Rattle.image.proofs.walk.ask_instruction_in.Tie as tie
 
 instruction-in-requires : tie.Need-instruction-in-requires
-instruction-in-requires c κs = omega (arith, header (c .before .before .before .before .args .image .now) (c .before .before .before .before .pre .0) .size)
+instruction-in-requires c κs =
+    let start = c .before .before .before .before in
+    omega (arith, header (start .args .image .now) (start .pre .0) .size)
 
 add-ask-instruction : tie.Need-add-ask-instruction
-add-ask-instruction c = let k = counted _ _ (header (c .before .before .before .before .before .args .image .now) (c .before .before .before .before .before .pre .0) .counts) in omega arith
+add-ask-instruction c =
+    let start = c .before .before .before .before .before in
+    let k = counted _ _ (header (start .args .image .now) (start .pre .0) .counts) in omega arith
 
 shared-slice-read-ask-instruction : tie.Need-shared-slice-read-ask-instruction
-shared-slice-read-ask-instruction c = let k = counted _ _ (header (c .before .before .before .before .before .before .args .image .now) (c .before .before .before .before .before .before .pre .0) .counts) in omega (arith, c .before .before .before .before .before .before .pre .2 .sized, c .before .before .before .before .before .before .pre .3)
+shared-slice-read-ask-instruction c =
+    let start = c .before .before .before .before .before .before in
+    let k = counted _ _ (header (start .args .image .now) (start .pre .0) .counts) in omega (arith, start .pre .2 .sized, start .pre .3)
 
 ask-instruction-requires : tie.Need-ask-instruction-requires
 ask-instruction-requires c κs =
-    let image = c .before .before .before .before .before .before .args .image .now in
-    let i = c .before .before .before .before .before .before .args .i in
-    let below = cells-in-instructions image in
-    (limited-by (blocksIn image) (c .before .before .before .before .before .before .args .limits .now) (c .before .before .before .before .before .before .args .largest .now) (c .before .before .before .before .before .before .pre .1), mark-told (lastInBlock (cellsIn image) i) (getD (c .before .before .before .before .before .before .args .marks .now) (i + 1) 0) (c .before .before .before .before .before .before .pre .2 .ended i (omega (arith, c .before .before .before .before .before .before .pre .3, below))) .1)
+    let start = c .before .before .before .before .before .before in
+    let image = start .args .image .now in
+    let i = start .args .i in
+    let below = cells-in-instructions image in (
+      limited-by (blocksIn image) (start .args .limits .now) (start .args .largest .now) (start .pre .1),
+      mark-told (lastInBlock (cellsIn image) i)
+          (getD (start .args .marks .now) (i + 1) 0) (start .pre .2 .ended i (omega (arith, start .pre .3, below))) .1,
+    )
 
 returns : tie.Need-returns
-returns c = let image = c .before .before .before .before .before .before .before .args .image .now in
-    let i = c .before .before .before .before .before .before .before .args .i in
+returns c =
+    let start = c .before .before .before .before .before .before .before in
+    let image = start .args .image .now in
+    let i = start .args .i in
     c .ask-instruction .ensures
-    ∙ asked-by (cellsIn image) (c .before .before .before .before .before .before .before .args .marks .now) (blocksIn image) (c .before .before .before .before .before .before .before .args .limits .now) (c .before .before .before .before .before .before .before .args .largest .now) (c .before .before .before .before .before .before .before .pre .1) (c .before .before .before .before .before .before .before .pre .2) i (omega (arith, c .before .before .before .before .before .before .before .pre .3, cells-in-instructions image)) (c .before .before .instruction-in .result)
-    ∙ ap (instructionRecordNo (blocksIn image) (lastInBlock (cellsIn image) i)) (c .before .before .instruction-in .ensures ∙ ap (instructionIn image) (c .before .before .before .before .before .before .before .pre .4))
-    ∙ instruction-asked image (header image (c .before .before .before .before .before .before .before .pre .0)) i (c .before .before .before .before .before .before .before .pre .3)
+    ∙ asked-by (cellsIn image) (start .args .marks .now) (blocksIn image) (start .args .limits .now) (start .args .largest .now) (start .pre .1)
+    (start .pre .2) i (omega (arith, start .pre .3, cells-in-instructions image)) (c .before .before .instruction-in .result)
+    ∙ ap (instructionRecordNo (blocksIn image) (lastInBlock (cellsIn image) i)) (c .before .before .instruction-in .ensures ∙ ap (instructionIn image) (start .pre .4))
+    ∙ instruction-asked image (header image (start .pre .0)) i (start .pre .3)
 
 pub ask-instruction-in-spec : {M : Type 1} → statement M
 ask-instruction-in-spec =

@@ -30,7 +30,12 @@ same-length : tie.Need-same-length
 same-length c = search needs
 
 returns : tie.Need-returns
-returns c = ap₂ (λ (b i : ℕ). set (set (c .before .before .before .before .before .before .args .cells .now) 0 b) 1 i) (c .before .wide .ensures) (c .read-u16 .ensures .equal) ∙ sym (ap (λ (t : Bool). cond t (sets (c .before .before .before .before .before .before .args .cells .now) 0 (blocksIn (c .before .before .before .before .before .before .args .image .now) ∷ instructionsIn (c .before .before .before .before .before .before .args .image .now) ∷ [])) (c .before .before .before .before .before .before .args .cells .now)) (c .before .before .before .if1 .taken))
+returns c =
+    let start = c .before .before .before .before .before .before in
+    ap₂ (λ (b i : ℕ). set (set (start .args .cells .now) 0 b) 1 i) (c .before .wide .ensures) (c .read-u16 .ensures .equal) ∙ sym
+    (ap (λ (t : Bool). cond t (sets (start .args .cells .now) 0
+    (blocksIn (start .args .image .now) ∷ instructionsIn (start .args .image .now) ∷ [])) (start .args .cells .now))
+    (c .before .before .before .if1 .taken))
 
 returns-2 : tie.Need-returns-2
 returns-2 c = search needs

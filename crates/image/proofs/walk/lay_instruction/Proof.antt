@@ -19,10 +19,14 @@ same-length c = search needs
 
 returns : tie.Need-returns
 returns c =
-    let image = c .before .before .before .before .before .before .before .before .args .image .now in
-    let cells = c .before .before .before .before .before .before .before .before .args .cells .now in
-    let to = c .before .before .before .before .before .before .before .before .args .to in
-    c .before .before .put-instruction .ensures ∙ ap (λ (k : Instruction). sets cells to (instructionCells k)) (c .before .before .before .before .instruction-in .ensures) ∙ sym (ap (λ (t : Bool). cond t (sets cells to (instructionCells (instructionIn image (c .before .before .before .before .before .before .before .before .args .at)))) cells) (c .before .before .before .before .before .if1 .taken))
+    let start = c .before .before .before .before .before .before .before .before in
+    let image = start .args .image .now in
+    let cells = start .args .cells .now in
+    let to = start .args .to in
+    c .before .before .put-instruction .ensures ∙ ap (λ (k : Instruction). sets cells to (instructionCells k))
+    (c .before .before .before .before .instruction-in .ensures) ∙ sym
+    (ap (λ (t : Bool). cond t (sets cells to (instructionCells (instructionIn image (start .args .at)))) cells)
+    (c .before .before .before .before .before .if1 .taken))
 
 returns-2 : tie.Need-returns-2
 returns-2 c = search needs

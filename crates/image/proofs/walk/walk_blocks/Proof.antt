@@ -18,43 +18,58 @@ abbrev μ-loop : tie.MeasureT-loop
 μ-loop image marks₀ lays cells₀ blocks at₀ to₀ before₀ b₀ marks cells at to before b = blocksIn image - b
 
 shared-slice-read-wide : tie.Need-shared-slice-read-wide Inv-loop μ-loop
-shared-slice-read-wide c = omega (arith, header (c .before .before .before .before .args .image .now) (c .before .before .before .before .pre .0) .long)
+shared-slice-read-wide c =
+    let start = c .before .before .before .before in
+    omega (arith, header (start .args .image .now) (start .pre .0) .long)
 
 wide-requires : tie.Need-wide-requires Inv-loop μ-loop
 wide-requires c κs = search needs
 
 loop-holds : tie.Need-loop-holds Inv-loop μ-loop
-loop-holds c = blocks-begin (c .before .before .before .before .before .args .image .now) (c .before .before .before .before .before .pre .0) (c .before .before .before .before .before .args .lays) (c .before .before .before .before .before .args .cells .now) (c .before .before .before .before .before .args .marks .now) (c .before .before .before .before .before .pre .1)
+loop-holds c =
+    let start = c .before .before .before .before .before in
+    blocks-begin (start .args .image .now) (start .pre .0) (start .args .lays) (start .args .cells .now) (start .args .marks .now) (start .pre .1)
 
 ask-block-in-requires : tie.Need-ask-block-in-requires Inv-loop μ-loop
-ask-block-in-requires c κs = (c .before .before .before .before .before .before .before .pre .0, omega (arith, c .before .before .wide .ensures), c .before .loop .inv .offset, c .before .loop .inv .predecessor)
+ask-block-in-requires c κs = (
+  c .before .before .before .before .before .before .before .pre .0,
+  omega (arith, c .before .before .wide .ensures),
+  c .before .loop .inv .offset,
+  c .before .loop .inv .predecessor,
+)
 
 same-length : tie.Need-same-length Inv-loop μ-loop
 same-length c = c .before .before .before .loop .inv .marking .sized ∙ sym (c .before .before .before .before .before .before .before .before .before .pre .1 .sized)
 
 same-length-2 : tie.Need-same-length-2 Inv-loop μ-loop
 same-length-2 c =
-    let image = c .before .before .before .before .before .before .before .before .before .args .image .now in
-    let ok = c .before .before .before .before .before .before .before .before .before .pre .0 in
+    let start = c .before .before .before .before .before .before .before .before .before in
+    let image = start .args .image .now in
+    let ok = start .pre .0 in
     let l = c .before .before .before .loop in
-    block-length image ok (c .before .before .before .before .before .before .before .before .before .args .lays) (c .before .before .before .before .before .before .before .before .before .args .cells .now) (l .marks) (l .cells) (l .at) (l .to) (l .before) (l .b) (l .inv)
+    block-length image ok (start .args .lays) (start .args .cells .now) (l .marks) (l .cells) (l .at) (l .to) (l .before) (l .b) (l .inv)
 
 returns : tie.Need-returns Inv-loop μ-loop
 returns c =
-    let image = c .before .before .before .before .before .before .before .before .before .args .image .now in
-    let ok = c .before .before .before .before .before .before .before .before .before .pre .0 in
+    let start = c .before .before .before .before .before .before .before .before .before in
+    let image = start .args .image .now in
+    let ok = start .pre .0 in
     let l = c .before .before .before .loop in
     let asked = c .before .ask-block-in .ensures in
-    let s = block-refused image ok (c .before .before .before .before .before .before .before .before .before .args .lays) (c .before .before .before .before .before .before .before .before .before .args .cells .now) (l .marks) (l .cells) (l .at) (l .to) (l .before) (l .b) (l .inv) (omega (arith, c .before .before .before .before .wide .ensures)) (λ e. c .if1 .taken (asked ∙ e)) in
+    let s = block-refused image ok (start .args .lays) (start .args .cells .now) (l .marks) (l .cells) (l .at) (l .to) (l .before) (l .b) (l .inv)
+    (omega (arith, c .before .before .before .before .wide .ensures)) (λ e. c .if1 .taken (asked ∙ e)) in
     (asked ∙ sym (s .0), (s .1, (λ e. absurd (c .if1 .taken e), λ e. absurd (c .if1 .taken e))))
 
 read-u16-requires : tie.Need-read-u16-requires Inv-loop μ-loop
-read-u16-requires c κs = omega (arith, header (c .before .before .before .before .before .before .before .before .before .args .image .now) (c .before .before .before .before .before .before .before .before .before .pre .0) .size, c .before .before .before .before .wide .ensures, c .before .before .before .loop .inv .offset)
+read-u16-requires c κs =
+    let start = c .before .before .before .before .before .before .before .before .before in
+    omega (arith, header (start .args .image .now) (start .pre .0) .size, c .before .before .before .before .wide .ensures, c .before .before .before .loop .inv .offset)
 
 slice-write-marks : tie.Need-slice-write-marks Inv-loop μ-loop
 slice-write-marks c =
-    let image = c .before .before .before .before .before .before .before .before .before .before .args .image .now in
-    let ok = c .before .before .before .before .before .before .before .before .before .before .pre .0 in
+    let start = c .before .before .before .before .before .before .before .before .before .before in
+    let image = start .args .image .now in
+    let ok = start .pre .0 in
     let l = c .before .before .before .before .loop in
     let first : c .read-u16 .result ≡ little 2 image (blockPlace (l .b)) = c .read-u16 .ensures .equal ∙ ap (little 2 image) (l .inv .offset) in
     let below = first-below image ok (l .b) (omega (arith, c .before .before .before .before .before .wide .ensures)) (sym (c .before .before .ask-block-in .ensures) ∙ c .before .if1 .left) in
@@ -62,18 +77,46 @@ slice-write-marks c =
 
 lay-block-requires : tie.Need-lay-block-requires Inv-loop μ-loop
 lay-block-requires c κs =
-    let image = c .before .before .before .before .before .before .before .before .before .before .before .args .image .now in
-    let ok = c .before .before .before .before .before .before .before .before .before .before .before .pre .0 in
+    let start = c .before .before .before .before .before .before .before .before .before .before .before in
+    let image = start .args .image .now in
+    let ok = start .pre .0 in
     let l = c .before .before .before .before .before .loop in
     let below = c .before .before .before .before .before .before .wide .ensures in
-    let few = counted _ _ (header image ok .counts) .blocks-fit in
-    (omega (arith, header image ok .size, below, l .inv .offset), λ t. (omega (arith, c .before .before .before .before .before .before .before .before .before .before .before .pre .2 t, block-length image ok (c .before .before .before .before .before .before .before .before .before .before .before .args .lays) (c .before .before .before .before .before .before .before .before .before .before .before .args .cells .now) (l .marks) (l .cells) (l .at) (l .to) (l .before) (l .b) (l .inv), l .inv .target, below, few)))
+    let few = counted _ _ (header image ok .counts) .blocks-fit in (
+      omega (arith, header image ok .size, below, l .inv .offset),
+      λ t.
+          (omega (
+            arith,
+            start .pre .2 t,
+            block-length image ok (start .args .lays) (start .args .cells .now) (l .marks) (l .cells) (l .at) (l .to)
+                (l .before) (l .b) (l .inv),
+            l .inv .target,
+            below,
+            few,
+          )),
+    )
 
 add-at : tie.Need-add-at Inv-loop μ-loop
-add-at c = omega (arith, c .before .before .before .before .before .before .before .before .loop .inv .offset, c .before .before .before .before .before .before .before .before .before .wide .ensures, counted _ _ (header (c .before .before .before .before .before .before .before .before .before .before .before .before .before .before .args .image .now) (c .before .before .before .before .before .before .before .before .before .before .before .before .before .before .pre .0) .counts) .blocks-fit)
+add-at c =
+    let start = c .before .before .before .before .before .before .before .before .before .before .before .before .before .before in
+    omega (
+      arith,
+      c .before .before .before .before .before .before .before .before .loop .inv .offset,
+      c .before .before .before .before .before .before .before .before .before .wide .ensures,
+      counted _ _
+          (header (start .args .image .now) (start .pre .0) .counts) .blocks-fit,
+    )
 
 add-to : tie.Need-add-to Inv-loop μ-loop
-add-to c = omega (arith, c .before .before .before .before .before .before .before .before .loop .inv .target, c .before .before .before .before .before .before .before .before .before .wide .ensures, counted _ _ (header (c .before .before .before .before .before .before .before .before .before .before .before .before .before .before .args .image .now) (c .before .before .before .before .before .before .before .before .before .before .before .before .before .before .pre .0) .counts) .blocks-fit)
+add-to c =
+    let start = c .before .before .before .before .before .before .before .before .before .before .before .before .before .before in
+    omega (
+      arith,
+      c .before .before .before .before .before .before .before .before .loop .inv .target,
+      c .before .before .before .before .before .before .before .before .before .wide .ensures,
+      counted _ _
+          (header (start .args .image .now) (start .pre .0) .counts) .blocks-fit,
+    )
 
 add-b : tie.Need-add-b Inv-loop μ-loop
 add-b c = omega arith
@@ -83,27 +126,34 @@ loop-less c = omega (arith, c .before .before .before .before .before .before .b
 
 loop-again : tie.Need-loop-again Inv-loop μ-loop
 loop-again c =
-    let image = c .before .before .before .before .before .before .before .before .before .before .before .before .before .before .args .image .now in
-    let ok = c .before .before .before .before .before .before .before .before .before .before .before .before .before .before .pre .0 in
+    let start = c .before .before .before .before .before .before .before .before .before .before .before .before .before .before in
+    let image = start .args .image .now in
+    let ok = start .pre .0 in
     let l = c .before .before .before .before .before .before .before .before .loop in
-    next-block image ok (c .before .before .before .before .before .before .before .before .before .before .before .before .before .before .args .lays) (c .before .before .before .before .before .before .before .before .before .before .before .before .before .before .args .cells .now) (l .marks) (l .cells) (l .at) (l .to) (l .before) (l .b) (l .inv) _ (c .before .before .before .before .read-u16 .result) (omega (arith, c .before .before .before .before .before .before .before .before .before .wide .ensures)) (sym (c .before .before .before .before .before .before .ask-block-in .ensures) ∙ c .before .before .before .before .before .if1 .left) (c .before .before .before .before .read-u16 .ensures .equal) (c .before .before .lay-block .ensures)
+    next-block image ok (start .args .lays) (start .args .cells .now) (l .marks) (l .cells) (l .at) (l .to) (l .before) (l .b) (l .inv) _
+    (c .before .before .before .before .read-u16 .result)
+    (omega (arith, c .before .before .before .before .before .before .before .before .before .wide .ensures))
+    (sym (c .before .before .before .before .before .before .ask-block-in .ensures) ∙ c .before .before .before .before .before .if1 .left)
+    (c .before .before .before .before .read-u16 .ensures .equal) (c .before .before .lay-block .ensures)
 
 same-length-3 : tie.Need-same-length-3 Inv-loop μ-loop
 same-length-3 c = c .before .loop .inv .marking .sized ∙ sym (c .before .before .before .before .before .before .before .pre .1 .sized)
 
 same-length-4 : tie.Need-same-length-4 Inv-loop μ-loop
 same-length-4 c =
-    let image = c .before .before .before .before .before .before .before .args .image .now in
-    let ok = c .before .before .before .before .before .before .before .pre .0 in
+    let start = c .before .before .before .before .before .before .before in
+    let image = start .args .image .now in
+    let ok = start .pre .0 in
     let l = c .before .loop in
-    block-length image ok (c .before .before .before .before .before .before .before .args .lays) (c .before .before .before .before .before .before .before .args .cells .now) (l .marks) (l .cells) (l .at) (l .to) (l .before) (l .b) (l .inv)
+    block-length image ok (start .args .lays) (start .args .cells .now) (l .marks) (l .cells) (l .at) (l .to) (l .before) (l .b) (l .inv)
 
 returns-2 : tie.Need-returns-2 Inv-loop μ-loop
 returns-2 c =
-    let image = c .before .before .before .before .before .before .before .args .image .now in
-    let ok = c .before .before .before .before .before .before .before .pre .0 in
+    let start = c .before .before .before .before .before .before .before in
+    let image = start .args .image .now in
+    let ok = start .pre .0 in
     let l = c .before .loop in
-    let s = blocks-end image ok (c .before .before .before .before .before .before .before .args .lays) (c .before .before .before .before .before .before .before .args .cells .now) (l .marks) (l .cells) (l .at) (l .to) (l .before) (l .b) (l .inv) (omega (arith, c .before .before .wide .ensures)) in
+    let s = blocks-end image ok (start .args .lays) (start .args .cells .now) (l .marks) (l .cells) (l .at) (l .to) (l .before) (l .b) (l .inv) (omega (arith, c .before .before .wide .ensures)) in
     (sym (s .0), (s .1, (λ _. s .2, λ _. s .3)))
 
 pub walk-blocks-spec : {M : Type 1} → statement M

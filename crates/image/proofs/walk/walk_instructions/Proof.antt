@@ -16,46 +16,82 @@ abbrev μ-loop : tie.MeasureT-loop
 μ-loop limits largest image marks start lays cells₀ instructions at₀ to₀ i₀ cells at to i = instructionsIn image - i
 
 read-u16-requires : tie.Need-read-u16-requires Inv-loop μ-loop
-read-u16-requires c κs = omega (arith, header (c .before .before .before .before .before .args .image .now) (c .before .before .before .before .before .pre .0) .long)
+read-u16-requires c κs =
+    let start = c .before .before .before .before .before in
+    omega (arith, header (start .args .image .now) (start .pre .0) .long)
 
 loop-holds : tie.Need-loop-holds Inv-loop μ-loop
-loop-holds c = instructions-begin (c .before .before .before .before .before .before .args .image .now) (c .before .before .before .before .before .before .pre .0) (c .before .before .before .before .before .before .args .lays) (c .before .before .before .before .before .before .args .cells .now) (c .before .before .before .before .before .before .args .start) (c .before .before .before .before .before .before .pre .3)
+loop-holds c =
+    let start = c .before .before .before .before .before .before in
+    instructions-begin (start .args .image .now) (start .pre .0) (start .args .lays) (start .args .cells .now) (start .args .start) (start .pre .3)
 
 ask-instruction-in-requires : tie.Need-ask-instruction-in-requires Inv-loop μ-loop
-ask-instruction-in-requires c κs = (c .before .before .before .before .before .before .before .before .pre .0, c .before .before .before .before .before .before .before .before .pre .1, c .before .before .before .before .before .before .before .before .pre .2, omega (arith, c .before .before .read-u16 .ensures .equal), c .before .loop .inv .offset)
+ask-instruction-in-requires c κs =
+    let start = c .before .before .before .before .before .before .before .before in
+    (start .pre .0, start .pre .1, start .pre .2, omega (arith, c .before .before .read-u16 .ensures .equal), c .before .loop .inv .offset)
 
 same-length : tie.Need-same-length Inv-loop μ-loop
 same-length c =
-    let image = c .before .before .before .before .before .before .before .before .before .before .args .image .now in
-    let ok = c .before .before .before .before .before .before .before .before .before .before .pre .0 in
+    let start = c .before .before .before .before .before .before .before .before .before .before in
+    let image = start .args .image .now in
+    let ok = start .pre .0 in
     let l = c .before .before .before .loop in
-    instruction-length image ok (c .before .before .before .before .before .before .before .before .before .before .args .lays) (c .before .before .before .before .before .before .before .before .before .before .args .cells .now) (l .cells) (l .at) (l .to) (l .i) (l .inv)
+    instruction-length image ok (start .args .lays) (start .args .cells .now) (l .cells) (l .at) (l .to) (l .i) (l .inv)
 
 returns : tie.Need-returns Inv-loop μ-loop
 returns c =
-    let image = c .before .before .before .before .before .before .before .before .before .before .args .image .now in
-    let ok = c .before .before .before .before .before .before .before .before .before .before .pre .0 in
+    let start = c .before .before .before .before .before .before .before .before .before .before in
+    let image = start .args .image .now in
+    let ok = start .pre .0 in
     let l = c .before .before .before .loop in
     let asked = c .before .ask-instruction-in .ensures in
-    let s = instruction-refused image ok (c .before .before .before .before .before .before .before .before .before .before .args .lays) (c .before .before .before .before .before .before .before .before .before .before .args .cells .now) (l .cells) (l .at) (l .to) (l .i) (l .inv) (omega (arith, c .before .before .before .before .read-u16 .ensures .equal)) (λ e. c .if1 .taken (asked ∙ e)) in
+    let s = instruction-refused image ok (start .args .lays) (start .args .cells .now) (l .cells) (l .at) (l .to) (l .i) (l .inv)
+    (omega (arith, c .before .before .before .before .read-u16 .ensures .equal)) (λ e. c .if1 .taken (asked ∙ e)) in
     (asked ∙ sym (s .0), (s .1, λ e. absurd (c .if1 .taken e)))
 
 lay-instruction-requires : tie.Need-lay-instruction-requires Inv-loop μ-loop
 lay-instruction-requires c κs =
-    let image = c .before .before .before .before .before .before .before .before .before .before .before .args .image .now in
-    let ok = c .before .before .before .before .before .before .before .before .before .before .before .pre .0 in
+    let start = c .before .before .before .before .before .before .before .before .before .before .before in
+    let image = start .args .image .now in
+    let ok = start .pre .0 in
     let l = c .before .before .before .before .loop in
     let below = c .before .before .before .before .before .read-u16 .ensures .equal in
-    let few = counted _ _ (header image ok .counts) .instructions-fit in
-    (omega (arith, header image ok .size, below, l .inv .offset), λ t. (omega (arith, c .before .before .before .before .before .before .before .before .before .before .before .pre .4 t, instruction-length image ok (c .before .before .before .before .before .before .before .before .before .before .before .args .lays) (c .before .before .before .before .before .before .before .before .before .before .before .args .cells .now) (l .cells) (l .at) (l .to) (l .i) (l .inv), l .inv .target, below, few)))
+    let few = counted _ _ (header image ok .counts) .instructions-fit in (
+      omega (arith, header image ok .size, below, l .inv .offset),
+      λ t.
+          (omega (
+            arith,
+            start .pre .4 t,
+            instruction-length image ok (start .args .lays) (start .args .cells .now) (l .cells) (l .at) (l .to) (l .i)
+                (l .inv),
+            l .inv .target,
+            below,
+            few,
+          )),
+    )
 
 add-at : tie.Need-add-at Inv-loop μ-loop
 add-at c =
-    let k = counted _ _ (header (c .before .before .before .before .before .before .before .before .before .before .before .before .before .before .args .image .now) (c .before .before .before .before .before .before .before .before .before .before .before .before .before .before .pre .0) .counts) in
-    omega (arith, c .before .before .before .before .before .before .before .loop .inv .offset, c .before .before .before .before .before .before .before .before .read-u16 .ensures .equal, k .instructions-fit, k .blocks-fit)
+    let start = c .before .before .before .before .before .before .before .before .before .before .before .before .before .before in
+    let k = counted _ _ (header (start .args .image .now) (start .pre .0) .counts) in
+    omega (
+      arith,
+      c .before .before .before .before .before .before .before .loop .inv .offset,
+      c .before .before .before .before .before .before .before .before .read-u16 .ensures .equal,
+      k .instructions-fit,
+      k .blocks-fit,
+    )
 
 add-to : tie.Need-add-to Inv-loop μ-loop
-add-to c = omega (arith, c .before .before .before .before .before .before .before .loop .inv .target, c .before .before .before .before .before .before .before .before .read-u16 .ensures .equal, counted _ _ (header (c .before .before .before .before .before .before .before .before .before .before .before .before .before .before .args .image .now) (c .before .before .before .before .before .before .before .before .before .before .before .before .before .before .pre .0) .counts) .instructions-fit)
+add-to c =
+    let start = c .before .before .before .before .before .before .before .before .before .before .before .before .before .before in
+    omega (
+      arith,
+      c .before .before .before .before .before .before .before .loop .inv .target,
+      c .before .before .before .before .before .before .before .before .read-u16 .ensures .equal,
+      counted _ _
+          (header (start .args .image .now) (start .pre .0) .counts) .instructions-fit,
+    )
 
 add-i : tie.Need-add-i Inv-loop μ-loop
 add-i c = omega arith
@@ -65,24 +101,30 @@ loop-less c = omega (arith, c .before .before .before .before .before .before .b
 
 loop-again : tie.Need-loop-again Inv-loop μ-loop
 loop-again c =
-    let image = c .before .before .before .before .before .before .before .before .before .before .before .before .before .before .args .image .now in
-    let ok = c .before .before .before .before .before .before .before .before .before .before .before .before .before .before .pre .0 in
+    let start = c .before .before .before .before .before .before .before .before .before .before .before .before .before .before in
+    let image = start .args .image .now in
+    let ok = start .pre .0 in
     let l = c .before .before .before .before .before .before .before .loop in
-    next-instruction image ok (c .before .before .before .before .before .before .before .before .before .before .before .before .before .before .args .lays) (c .before .before .before .before .before .before .before .before .before .before .before .before .before .before .args .cells .now) (l .cells) (l .at) (l .to) (l .i) (l .inv) _ (omega (arith, c .before .before .before .before .before .before .before .before .read-u16 .ensures .equal)) (sym (c .before .before .before .before .before .ask-instruction-in .ensures) ∙ c .before .before .before .before .if1 .left) (c .before .before .lay-instruction .ensures)
+    next-instruction image ok (start .args .lays) (start .args .cells .now) (l .cells) (l .at) (l .to) (l .i) (l .inv) _
+    (omega (arith, c .before .before .before .before .before .before .before .before .read-u16 .ensures .equal))
+    (sym (c .before .before .before .before .before .ask-instruction-in .ensures) ∙ c .before .before .before .before .if1 .left)
+    (c .before .before .lay-instruction .ensures)
 
 same-length-2 : tie.Need-same-length-2 Inv-loop μ-loop
 same-length-2 c =
-    let image = c .before .before .before .before .before .before .before .before .args .image .now in
-    let ok = c .before .before .before .before .before .before .before .before .pre .0 in
+    let start = c .before .before .before .before .before .before .before .before in
+    let image = start .args .image .now in
+    let ok = start .pre .0 in
     let l = c .before .loop in
-    instruction-length image ok (c .before .before .before .before .before .before .before .before .args .lays) (c .before .before .before .before .before .before .before .before .args .cells .now) (l .cells) (l .at) (l .to) (l .i) (l .inv)
+    instruction-length image ok (start .args .lays) (start .args .cells .now) (l .cells) (l .at) (l .to) (l .i) (l .inv)
 
 returns-2 : tie.Need-returns-2 Inv-loop μ-loop
 returns-2 c =
-    let image = c .before .before .before .before .before .before .before .before .args .image .now in
-    let ok = c .before .before .before .before .before .before .before .before .pre .0 in
+    let start = c .before .before .before .before .before .before .before .before in
+    let image = start .args .image .now in
+    let ok = start .pre .0 in
     let l = c .before .loop in
-    let s = instructions-end image ok (c .before .before .before .before .before .before .before .before .args .lays) (c .before .before .before .before .before .before .before .before .args .cells .now) (l .cells) (l .at) (l .to) (l .i) (l .inv) (omega (arith, c .before .before .read-u16 .ensures .equal)) in
+    let s = instructions-end image ok (start .args .lays) (start .args .cells .now) (l .cells) (l .at) (l .to) (l .i) (l .inv) (omega (arith, c .before .before .read-u16 .ensures .equal)) in
     (sym (s .0), (s .1, λ _. s .2))
 
 pub walk-instructions-spec : {M : Type 1} → statement M

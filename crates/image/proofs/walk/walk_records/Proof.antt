@@ -19,24 +19,34 @@ slice-aggregate-walk-blocks : tie.Need-slice-aggregate-walk-blocks
 slice-aggregate-walk-blocks c = search needs
 
 walk-blocks-requires : tie.Need-walk-blocks-requires
-walk-blocks-requires c κs = (c .before .before .before .before .pre .0, marked-none (cellsIn (c .before .before .before .before .args .image .now)), c .before .before .before .before .pre .1)
+walk-blocks-requires c κs =
+    let start = c .before .before .before .before in
+    (start .pre .0, marked-none (cellsIn (start .args .image .now)), start .pre .1)
 
 same-length : tie.Need-same-length
 same-length c = search needs
 
 returns : tie.Need-returns
 returns c =
-    let image = c .before .before .before .before .before .before .before .before .before .before .args .image .now in
-    let ok = c .before .before .before .before .before .before .before .before .before .before .pre .0 in
+    let start = c .before .before .before .before .before .before .before .before .before .before in
+    let image = start .args .image .now in
+    let ok = start .pre .0 in
     let e = c .before .before .before .before .before .walk-blocks .ensures in
-    let refused : firstNo (blockNo (cellsIn image)) (blocksIn image) 0 ≡ 0 → ⊥ = λ z. c .if1 .taken (e .0 ∙ z) in
-    (e .0 ∙ sym (records-no image ∙ or-else-no (firstNo (blockNo (cellsIn image)) (blocksIn image) 0) (firstNo (instructionNo (cellsIn image)) (instructionsIn image) 0) refused), (e .1 .0 ∙ sym (offset-at-block image ok refused), λ z. absurd (c .if1 .taken z)))
+    let refused : firstNo (blockNo (cellsIn image)) (blocksIn image) 0 ≡ 0 → ⊥ = λ z. c .if1 .taken (e .0 ∙ z) in (
+      e .0 ∙ sym (records-no image ∙ or-else-no (firstNo (blockNo (cellsIn image)) (blocksIn image) 0)
+          (firstNo (instructionNo (cellsIn image)) (instructionsIn image) 0) refused),
+      (e .1 .0 ∙ sym (offset-at-block image ok refused), λ z. absurd (c .if1 .taken z)),
+    )
 
 read-u16-requires : tie.Need-read-u16-requires
-read-u16-requires c κs = omega (arith, header (c .before .before .before .before .before .before .before .before .before .before .args .image .now) (c .before .before .before .before .before .before .before .before .before .before .pre .0) .long)
+read-u16-requires c κs =
+    let start = c .before .before .before .before .before .before .before .before .before .before in
+    omega (arith, header (start .args .image .now) (start .pre .0) .long)
 
 array-write-marks : tie.Need-array-write-marks
-array-write-marks c = omega (arith, c .read-u16 .ensures .equal, counted _ _ (header (c .before .before .before .before .before .before .before .before .before .before .before .args .image .now) (c .before .before .before .before .before .before .before .before .before .before .before .pre .0) .counts) .instructions-fit)
+array-write-marks c =
+    let start = c .before .before .before .before .before .before .before .before .before .before .before in
+    omega (arith, c .read-u16 .ensures .equal, counted _ _ (header (start .args .image .now) (start .pre .0) .counts) .instructions-fit)
 
 slice-aggregate-all-limits : tie.Need-slice-aggregate-all-limits
 slice-aggregate-all-limits c = search needs
@@ -45,13 +55,17 @@ all-limits-requires : tie.Need-all-limits-requires
 all-limits-requires c κs = search needs
 
 shared-slice-read-wide : tie.Need-shared-slice-read-wide
-shared-slice-read-wide c = omega (arith, header (c .before .before .before .before .before .before .before .before .before .before .before .before .before .before .before .args .image .now) (c .before .before .before .before .before .before .before .before .before .before .before .before .before .before .before .pre .0) .long)
+shared-slice-read-wide c =
+    let start = c .before .before .before .before .before .before .before .before .before .before .before .before .before .before .before in
+    omega (arith, header (start .args .image .now) (start .pre .0) .long)
 
 wide-requires : tie.Need-wide-requires
 wide-requires c κs = search needs
 
 largest-operands-requires : tie.Need-largest-operands-requires
-largest-operands-requires c κs = omega (arith, c .wide .ensures, counted _ _ (header (c .before .before .before .before .before .before .before .before .before .before .before .before .before .before .before .before .args .image .now) (c .before .before .before .before .before .before .before .before .before .before .before .before .before .before .before .before .pre .0) .counts) .some-block)
+largest-operands-requires c κs =
+    let start = c .before .before .before .before .before .before .before .before .before .before .before .before .before .before .before .before in
+    omega (arith, c .wide .ensures, counted _ _ (header (start .args .image .now) (start .pre .0) .counts) .some-block)
 
 slice-aggregate-walk-instructions : tie.Need-slice-aggregate-walk-instructions
 slice-aggregate-walk-instructions c = search needs
@@ -64,28 +78,47 @@ slice-aggregate-walk-instructions-3 c = search needs
 
 walk-instructions-requires : tie.Need-walk-instructions-requires
 walk-instructions-requires c κs =
-    let image = c .before .before .before .before .before .before .before .before .before .before .before .before .before .before .before .before .before .before .before .before .before .args .image .now in
-    let ok = c .before .before .before .before .before .before .before .before .before .before .before .before .before .before .before .before .before .before .before .before .before .pre .0 in
-    let lays = c .before .before .before .before .before .before .before .before .before .before .before .before .before .before .before .before .before .before .before .before .before .args .lays in
+    let start = c .before .before .before .before .before .before .before .before .before .before .before .before .before .before .before .before .before .before .before .before .before in
+    let image = start .args .image .now in
+    let ok = start .pre .0 in
+    let lays = start .args .lays in
     let e = c .before .before .before .before .before .before .before .before .before .before .before .before .before .before .before .before .walk-blocks .ensures in
     let end = c .before .before .before .before .before .before .before .before .before .before .read-u16 .result in
     let accepted = c .before .before .before .before .before .before .before .before .before .before .before .if1 .left in
-    let largest = c .before .before .before .before .largest-operands .ensures ∙ ap largestOf (c .before .before .before .before .before .wide .ensures) in
-    (ok, record { some-block = counted _ _ (header image ok .counts) .some-block; limits-are = c .before .before .before .before .before .before .before .before .all-limits .ensures; largest-are = largest }, end-marked image ok _ end (e .1 .1 .0 accepted) (c .before .before .before .before .before .before .before .before .before .before .read-u16 .ensures .equal), e .1 .0 ∙ past-blocks image (sym (e .0) ∙ accepted), λ t. laid-length lays (c .before .before .before .before .before .before .before .before .before .before .before .before .before .before .before .before .before .before .before .before .before .args .cells .now) _ (blockCellsIn image (blocksIn image)) 2 (e .1 .1 .1 accepted) ∙ c .before .before .before .before .before .before .before .before .before .before .before .before .before .before .before .before .before .before .before .before .before .pre .1 t)
+    let largest = c .before .before .before .before .largest-operands .ensures ∙ ap largestOf (c .before .before .before .before .before .wide .ensures) in (
+      ok,
+      record {
+        some-block = counted _ _ (header image ok .counts) .some-block;
+        limits-are =
+            c .before .before .before .before .before .before .before .before .all-limits .ensures;
+        largest-are = largest;
+      },
+      end-marked image ok _ end
+          (e .1 .1 .0 accepted) (c .before .before .before .before .before .before .before .before .before .before .read-u16 .ensures .equal),
+      e .1 .0 ∙
+          past-blocks image (sym (e .0) ∙ accepted),
+      λ t. laid-length lays (start .args .cells .now) _ (blockCellsIn image (blocksIn image)) 2
+          (e .1 .1 .1 accepted) ∙ start .pre .1 t,
+    )
 
 same-length-2 : tie.Need-same-length-2
 same-length-2 c = search needs
 
 returns-2 : tie.Need-returns-2
 returns-2 c =
-    let image = c .before .before .before .before .before .before .before .before .before .before .before .before .before .before .before .before .before .before .before .before .before .before .before .before .args .image .now in
-    let ok = c .before .before .before .before .before .before .before .before .before .before .before .before .before .before .before .before .before .before .before .before .before .before .before .before .pre .0 in
+    let start = c .before .before .before .before .before .before .before .before .before .before .before .before .before .before .before .before .before .before .before .before .before .before .before .before
+    in
+    let image = start .args .image .now in
+    let ok = start .pre .0 in
     let e = c .before .before .before .before .before .before .before .before .before .before .before .before .before .before .before .before .before .before .before .walk-blocks .ensures in
     let w = c .before .before .walk-instructions .ensures in
     let accepted = c .before .before .before .before .before .before .before .before .before .before .before .before .before .before .if1 .left in
     let all : firstNo (blockNo (cellsIn image)) (blocksIn image) 0 ≡ 0 = sym (e .0) ∙ accepted in
-    let laid = laid-twice (c .before .before .before .before .before .before .before .before .before .before .before .before .before .before .before .before .before .before .before .before .before .before .before .before .args .lays) (c .before .before .before .before .before .before .before .before .before .before .before .before .before .before .before .before .before .before .before .before .before .before .before .before .args .cells .now) _ _ (blockCellsIn image (blocksIn image)) (instructionCellsIn image (instructionsIn image)) 2 770 (e .1 .1 .1 accepted) in
-    (w .0 ∙ sym (records-no image ∙ or-else-yes (firstNo (blockNo (cellsIn image)) (blocksIn image) 0) (firstNo (instructionNo (cellsIn image)) (instructionsIn image) 0) all), (w .1 .0 ∙ sym (offset-past-blocks image ok all), λ z. laid (w .1 .1 z)))
+    let laid = laid-twice (start .args .lays) (start .args .cells .now) _ _ (blockCellsIn image (blocksIn image)) (instructionCellsIn image (instructionsIn image)) 2 770 (e .1 .1 .1 accepted) in (
+      w .0 ∙ sym (records-no image ∙ or-else-yes (firstNo (blockNo (cellsIn image)) (blocksIn image) 0)
+          (firstNo (instructionNo (cellsIn image)) (instructionsIn image) 0) all),
+      (w .1 .0 ∙ sym (offset-past-blocks image ok all), λ z. laid (w .1 .1 z)),
+    )
 
 pub walk-records-spec : {M : Type 1} → statement M
 walk-records-spec =

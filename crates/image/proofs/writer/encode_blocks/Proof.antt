@@ -12,7 +12,8 @@ use Rattle.image.proofs.writer.encode_blocks.Statement.{statement}
 use Rattle.image.proofs.writer.encode_blocks.Tie as tie
 
 abbrev Inv-loop : tie.InvT-loop
-Inv-loop cells image₀ blocks at₀ from₀ b₀ image at from b = (b ≤ blockCount cells) × (at ≡ blockPlace b) × (from ≡ 2 + 6 * b) × (length image ≡ length image₀) × (image ≡ sets image₀ (blockPlace 0) (rows (λ (b : ℕ). blockBytes (blockOf cells b)) b))
+Inv-loop cells image₀ blocks at₀ from₀ b₀ image at from b = (b ≤ blockCount cells) × (at ≡ blockPlace b) × (from ≡ 2 + 6 * b) ×
+    (length image ≡ length image₀) × (image ≡ sets image₀ (blockPlace 0) (rows (λ (b : ℕ). blockBytes (blockOf cells b)) b))
 
 abbrev μ-loop : tie.MeasureT-loop
 μ-loop cells image₀ blocks at₀ from₀ b₀ image at from b = blockCount cells - b
@@ -47,14 +48,27 @@ unfolding bytesOf
 loop-again c =
     let cells = c .before .before .before .before .before .before .before .before .before .before .args .cells .now in
     let l = c .before .before .before .before .before .before .loop in
-    let rest = c .before .before .before .before .block-from .ensures ∙ ap (blockFrom cells) (l .inv .2) in
-    (omega arith, omega (arith, l .inv .1), omega (arith, l .inv .2), c .before .before .put-block-bytes .kept .0 ∙ l .inv .3, row-placed (λ (b : ℕ). blockBytes (blockOf cells b)) 10 (λ b. refl) _ (l .image) _ (blockPlace 0) (l .b) (l .inv .4) (c .before .before .put-block-bytes .ensures ∙ ap₂ (λ (n : ℕ) (k : Block). sets (l .image) n (blockBytes k)) (l .inv .1) rest))
+    let rest = c .before .before .before .before .block-from .ensures ∙ ap (blockFrom cells) (l .inv .2) in (
+      omega arith,
+      omega (arith, l .inv .1),
+      omega (arith, l .inv .2),
+      c .before .before .put-block-bytes .kept .0 ∙ l .inv .3,
+      row-placed
+          (λ (b : ℕ). blockBytes (blockOf cells b)) 10 (λ b. refl) _ (l .image) _ (blockPlace 0) (l .b) (l .inv .4)
+          (c .before .before .put-block-bytes .ensures ∙ ap₂ (λ (n : ℕ) (k : Block). sets (l .image) n (blockBytes k)) (l .inv .1) rest),
+    )
 
 same-length : tie.Need-same-length Inv-loop μ-loop
 same-length c = c .before .loop .inv .3
 
 returns : tie.Need-returns Inv-loop μ-loop
-returns c = let all : c .before .loop .b ≡ blockCount (c .before .before .before .before .before .args .cells .now) = omega arith in (omega (arith, c .before .loop .inv .1), c .before .loop .inv .4 ∙ ap (λ (n : ℕ). sets (c .before .before .before .before .before .args .image .now) (blockPlace 0) (rows (λ (b : ℕ). blockBytes (blockOf (c .before .before .before .before .before .args .cells .now) b)) n)) all)
+returns c =
+    let start = c .before .before .before .before .before in
+    let all : c .before .loop .b ≡ blockCount (start .args .cells .now) = omega arith in (
+      omega (arith, c .before .loop .inv .1),
+      c .before .loop .inv .4 ∙ ap
+          (λ (n : ℕ). sets (start .args .image .now) (blockPlace 0) (rows (λ (b : ℕ). blockBytes (blockOf (start .args .cells .now) b)) n)) all,
+    )
 
 pub encode-blocks-spec : {M : Type 1} → statement M
 encode-blocks-spec =

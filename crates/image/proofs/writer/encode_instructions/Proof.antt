@@ -12,7 +12,9 @@ use Rattle.image.proofs.writer.encode_instructions.Statement.{statement
 use Rattle.image.proofs.writer.encode_instructions.Tie as tie
 
 abbrev Inv-loop : tie.InvT-loop
-Inv-loop cells start image₀ instructions at₀ from₀ i₀ image at from i = (i ≤ instructionCount cells) × (at ≡ instructionPlace (blockCount cells) i) × (from ≡ 770 + 5 * i) × (length image ≡ length image₀) × (image ≡ sets image₀ (blockPlace (blockCount cells)) (rows (λ (i : ℕ). instructionBytes (instructionOf cells i)) i))
+Inv-loop cells start image₀ instructions at₀ from₀ i₀ image at from i = (i ≤ instructionCount cells) × (at ≡ instructionPlace (blockCount cells) i) ×
+    (from ≡ 770 + 5 * i) × (length image ≡ length image₀) ×
+    (image ≡ sets image₀ (blockPlace (blockCount cells)) (rows (λ (i : ℕ). instructionBytes (instructionOf cells i)) i))
 
 abbrev μ-loop : tie.MeasureT-loop
 μ-loop cells start image₀ instructions at₀ from₀ i₀ image at from i = instructionCount cells - i
@@ -47,14 +49,29 @@ unfolding bytesOf
 loop-again c =
     let cells = c .before .before .before .before .before .before .before .before .before .before .args .cells .now in
     let l = c .before .before .before .before .before .before .loop in
-    let rest = c .before .before .before .before .instruction-from .ensures ∙ ap (instructionFrom cells) (l .inv .2) in
-    (omega arith, omega (arith, l .inv .1), omega (arith, l .inv .2), c .before .before .put-instruction-bytes .kept .0 ∙ l .inv .3, row-placed (λ (i : ℕ). instructionBytes (instructionOf cells i)) 12 (λ i. refl) _ (l .image) _ (blockPlace (blockCount cells)) (l .i) (l .inv .4) (c .before .before .put-instruction-bytes .ensures ∙ ap₂ (λ (n : ℕ) (k : Instruction). sets (l .image) n (instructionBytes k)) (l .inv .1) rest))
+    let rest = c .before .before .before .before .instruction-from .ensures ∙ ap (instructionFrom cells) (l .inv .2) in (
+      omega arith,
+      omega (arith, l .inv .1),
+      omega (arith, l .inv .2),
+      c .before .before .put-instruction-bytes .kept .0 ∙ l .inv .3,
+      row-placed
+          (λ (i : ℕ). instructionBytes (instructionOf cells i)) 12 (λ i. refl) _ (l .image) _ (blockPlace (blockCount cells)) (l .i) (l .inv .4)
+          (c .before .before .put-instruction-bytes .ensures ∙ ap₂ (λ (n : ℕ) (k : Instruction). sets (l .image) n (instructionBytes k)) (l .inv .1)
+          rest),
+    )
 
 same-length : tie.Need-same-length Inv-loop μ-loop
 same-length c = c .before .loop .inv .3
 
 returns : tie.Need-returns Inv-loop μ-loop
-returns c = let all : c .before .loop .i ≡ instructionCount (c .before .before .before .before .before .args .cells .now) = omega arith in (omega (arith, c .before .loop .inv .1), c .before .loop .inv .4 ∙ ap (λ (n : ℕ). sets (c .before .before .before .before .before .args .image .now) (blockPlace (blockCount (c .before .before .before .before .before .args .cells .now))) (rows (λ (i : ℕ). instructionBytes (instructionOf (c .before .before .before .before .before .args .cells .now) i)) n)) all)
+returns c =
+    let start = c .before .before .before .before .before in
+    let all : c .before .loop .i ≡ instructionCount (start .args .cells .now) = omega arith in (
+      omega (arith, c .before .loop .inv .1),
+      c .before .loop .inv .4 ∙ ap
+          (λ (n : ℕ). sets (start .args .image .now) (blockPlace (blockCount (start .args .cells .now)))
+          (rows (λ (i : ℕ). instructionBytes (instructionOf (start .args .cells .now) i)) n)) all,
+    )
 
 pub encode-instructions-spec : {M : Type 1} → statement M
 encode-instructions-spec =
