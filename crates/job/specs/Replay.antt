@@ -7,7 +7,7 @@ use Rattle.image.specs.Questions.{ask, orElse}
 use Rattle.machine.specs.declared.Machine.{Machine}
 use Rattle.machine.specs.Starting.{empty}
 use Rattle.orders.specs.Demand.{Job, startOn, played}
-use Rattle.report.specs.State.{stateLength}
+use Rattle.state.specs.State.{stateLength}
 use Rattle.job.specs.Job.{jobImage, jobPlaces, jobInterval, jobRegisters, jobWords, jobNo}
 
 -- what start is given

@@ -9,7 +9,7 @@ ghost use Rattle.image.specs.Layout.{cellsIn};
 ghost use Rattle.image.specs.Doors.{imageNo, rewriteNo, unlessRefused};
 ghost use Rattle.machine.specs.Starting.{empty};
 ghost use Rattle.orders.specs.Demand.{WhateverTheOrder, startOn};
-ghost use Rattle.report.specs.State.{stateBytes};
+ghost use Rattle.state.specs.State.{stateBytes};
 ghost use Rattle.job.specs.Job.{jobImage, wordCount, jobNo};
 ghost use Rattle.report.specs.Report.{reportBytes};
 ghost use Rattle.job.specs.Replay.{jobIn, replayNo, replayOf};
@@ -65,7 +65,7 @@ pub extern "C" fn tpal_replay(job: &[u8], order: &[u8], state: &mut [u8]) -> u8
     let mut words = [0i64; 4096];
     let count = input::word_count(job);
     let machine = carry_out(job, &cells, &mut words[..count], order);
-    report::state::write_state(machine, state);
+    state::writer::write_state(machine, state);
     0
 }
 

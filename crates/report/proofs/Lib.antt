@@ -1,5 +1,3 @@
-pub mod Laying
-pub mod StateLaws
 pub mod ReportLaws
 pub mod Writing
 pub mod Decimals

@@ -13,9 +13,9 @@ use Rattle.machine.specs.declared.Machine.{Machine}
 use Rattle.machine.specs.declared.End.{End}
 use Rattle.machine.specs.Ending.{ending, isEnd}
 use Rattle.report.specs.declared.Report.{Report}
-use Rattle.report.specs.Numbers.{valueNumbers, inBytes}
+use Rattle.state.specs.Numbers.{valueNumbers, inBytes}
 use Rattle.report.specs.Report.{reportBy, reportOf, endNumber, endFault, reportNumbers, reportLength, reportBytes}
-use Rattle.report.proofs.Laying.{length-value, length-inBytes, inBytes-rows, numbers-placed, sets-whole}
+use Rattle.state.proofs.Laying.{length-value, length-inBytes, inBytes-rows, numbers-placed, sets-whole}
 
 module _ (m : Machine) (picks : ℕ) (end : End) (e : end ≡ ending m) where
   by-end : (b : Bool) → isEnd end ≡ b → reportBy b m picks ≡ reportOf m picks

@@ -11,7 +11,7 @@ use Rattle.machine.specs.declared.End.the-variants.{NotEnded, Halt, Fault}
 use Rattle.machine.specs.Slots.{at}
 use Rattle.machine.specs.Ending.{ending, jobEnded}
 use Rattle.report.specs.declared.Report.{Report}
-use Rattle.report.specs.Numbers.{valueNumbers, inBytes}
+use Rattle.state.specs.Numbers.{valueNumbers, inBytes}
 
 -- a job that has ended reports the span and the registers of slot 0; one that has not is spent, and reports the work alone
 abbrev pub reportBy : Bool → Machine → ℕ → Report

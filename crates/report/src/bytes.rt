@@ -1,9 +1,9 @@
 // The report's bytes.
 use crate::Report;
-use crate::numbers::write_register;
-use crate::numbers::write_three;
-use crate::numbers::write_two;
 use machine::End;
+use state::numbers::write_register;
+use state::numbers::write_three;
+use state::numbers::write_two;
 use task::Register;
 ghost use mathlib.Core.Path.{_≡_};
 ghost use Prim.Native.Nat.{_+_, _≤_};
@@ -11,7 +11,7 @@ ghost use lib.ListN.{length, getD};
 ghost use lib.Seq.{sets};
 ghost use Rattle.image.specs.Layout.{rows};
 ghost use Rattle.task.specs.Frames.{zeroRegister};
-ghost use Rattle.report.specs.Numbers.{valueNumbers, inBytes};
+ghost use Rattle.state.specs.Numbers.{valueNumbers, inBytes};
 ghost use Rattle.report.specs.Report.{endNumber, endFault, reportLength, reportBytes};
 
 fn end_number(end: End) -> u64

@@ -1,7 +1,5 @@
 // What is handed out of a state: its bytes, and the report of a run.
 pub mod bytes;
-mod numbers;
-pub mod state;
 pub mod text;
 mod words;
 

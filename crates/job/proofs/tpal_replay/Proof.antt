@@ -3,7 +3,7 @@ use mathlib.Core.Path.{refl, sym, ap, _∙_}
 use borrow.Author.Tests.{eq-eqb, ne-eqb}
 use Rattle.image.specs.Doors.{unlessRefused}
 use Rattle.image.proofs.Asked.{or-else-no, or-else-yes}
-use Rattle.report.specs.State.{stateBytes}
+use Rattle.state.specs.State.{stateBytes}
 use Rattle.job.specs.Job.{jobNo}
 use Rattle.job.specs.Replay.{replayNo}
 use Rattle.job.proofs.Replaying.{accepted-ends, few-words, whatever-the-order, prefix-length}

@@ -4,7 +4,7 @@ use Prim.Native.Nat.{ℕ, _-_, _≤_}
 use lib.ListN.{length, length-set}
 use lib.Seq.{sets}
 use Rattle.job.specs.Job.{numbers}
-use Rattle.report.proofs.Laying.{sets-whole}
+use Rattle.state.proofs.Laying.{sets-whole}
 use Rattle.job.proofs.Reading.{number-stored, length-numbers, read-none, read-more}
 use borrow.Author.Needs.{needs}
 use native.Mathlib.Omega.{arith}

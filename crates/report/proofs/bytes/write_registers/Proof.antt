@@ -8,8 +8,8 @@ use lib.Seq.{sets}
 use Rattle.image.specs.Layout.{rows}
 use Rattle.image.proofs.Rows.{row-placed}
 use Rattle.task.specs.Frames.{zeroRegister}
-use Rattle.report.specs.Numbers.{valueNumbers, inBytes}
-use Rattle.report.proofs.Laying.{value-width}
+use Rattle.state.specs.Numbers.{valueNumbers, inBytes}
+use Rattle.state.proofs.Laying.{value-width}
 use Rattle.report.proofs.bytes.write_registers.Statement.{statement}
 use Rattle.report.proofs.bytes.write_registers.Tie as tie
 

@@ -3,10 +3,10 @@ use mathlib.Core.Path.{refl, ap, _∙_}
 use mathlib.Core.List.{List, [], _∷_}
 use Prim.Native.Nat.{ℕ, _+_}
 use lib.Seq.{sets}
-use Rattle.report.proofs.Laying.{numbers-placed, one-number}
+use Rattle.state.proofs.Laying.{numbers-placed, one-number}
 use borrow.Author.Needs.{needs}
-use Rattle.report.proofs.numbers.write_two.Statement.{statement}
-use Rattle.report.proofs.numbers.write_two.Tie as tie
+use Rattle.state.proofs.numbers.write_two.Statement.{statement}
+use Rattle.state.proofs.numbers.write_two.Tie as tie
 
 write-u64-requires : tie.Need-write-u64-requires
 write-u64-requires c κs = search needs

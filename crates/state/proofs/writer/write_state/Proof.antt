@@ -1,8 +1,8 @@
 -- `write_state` meets its contract.
-use Rattle.report.proofs.StateLaws.{state-placed}
+use Rattle.state.proofs.StateLaws.{state-placed}
 use borrow.Author.Needs.{needs}
-use Rattle.report.proofs.state.write_state.Statement.{statement}
-use Rattle.report.proofs.state.write_state.Tie as tie
+use Rattle.state.proofs.writer.write_state.Statement.{statement}
+use Rattle.state.proofs.writer.write_state.Tie as tie
 
 cast-write-three : tie.Need-cast-write-three
 cast-write-three c = search needs

@@ -6,13 +6,13 @@ use lib.Seq.{sets}
 use Rattle.image.specs.Layout.{rows}
 use Rattle.image.proofs.Rows.{row-placed}
 use Rattle.task.specs.Frames.{zeroRegister}
-use Rattle.report.specs.Numbers.{valueNumbers, inBytes}
-use Rattle.report.specs.State.{slotNumbers}
-use Rattle.report.proofs.Laying.{value-width}
-use Rattle.report.proofs.StateLaws.{slot-placed, slot-width}
+use Rattle.state.specs.Numbers.{valueNumbers, inBytes}
+use Rattle.state.specs.State.{slotNumbers}
+use Rattle.state.proofs.Laying.{value-width}
+use Rattle.state.proofs.StateLaws.{slot-placed, slot-width}
 use native.Mathlib.Omega.{arith}
-use Rattle.report.proofs.state.write_slots.Statement.{statement}
-use Rattle.report.proofs.state.write_slots.Tie as tie
+use Rattle.state.proofs.writer.write_slots.Statement.{statement}
+use Rattle.state.proofs.writer.write_slots.Tie as tie
 
 abbrev Inv-loop2 : tie.InvT-loop2
 Inv-loop2 out₀ m k at i₀ out i = (i ≤ 16) × (length out ≡ length out₀) × (out ≡ sets out₀ (at + 152) (rows (λ (i : ℕ). inBytes (valueNumbers (getD (m .bank) (16 * k + i) zeroRegister .value))) i))

@@ -6,13 +6,13 @@ use lib.Seq.{sets}
 use Rattle.image.specs.Layout.{rows}
 use Rattle.image.proofs.Rows.{row-placed}
 use Rattle.task.specs.Frames.{zeroFork}
-use Rattle.report.specs.Numbers.{inBytes}
-use Rattle.report.specs.State.{forkNumbers}
-use Rattle.report.proofs.Laying.{length-inBytes}
+use Rattle.state.specs.Numbers.{inBytes}
+use Rattle.state.specs.State.{forkNumbers}
+use Rattle.state.proofs.Laying.{length-inBytes}
 use borrow.Author.Needs.{needs}
 use native.Mathlib.Omega.{arith}
-use Rattle.report.proofs.state.write_forks.Statement.{statement}
-use Rattle.report.proofs.state.write_forks.Tie as tie
+use Rattle.state.proofs.writer.write_forks.Statement.{statement}
+use Rattle.state.proofs.writer.write_forks.Tie as tie
 
 abbrev Inv-loop : tie.InvT-loop
 Inv-loop out₀ at forks i₀ out i = (i ≤ 6) × (length out ≡ length out₀) × (out ≡ sets out₀ at (rows (λ (i : ℕ). inBytes (forkNumbers (getD forks i zeroFork))) i))

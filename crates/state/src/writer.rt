@@ -12,8 +12,8 @@ ghost use lib.ListN.{length, getD};
 ghost use lib.Seq.{sets};
 ghost use Rattle.image.specs.Layout.{rows};
 ghost use Rattle.task.specs.Frames.{zeroFork};
-ghost use Rattle.report.specs.Numbers.{inBytes};
-ghost use Rattle.report.specs.State.{statusNumber, faultNumber, forkNumbers, taskNumbers, slotNumbers, stateLength, stateBytes};
+ghost use Rattle.state.specs.Numbers.{inBytes};
+ghost use Rattle.state.specs.State.{statusNumber, faultNumber, forkNumbers, taskNumbers, slotNumbers, stateLength, stateBytes};
 
 fn status_number(s: Status) -> u64
     ensures { λ r. ⌜ r ≡ statusNumber s ⌝ }

@@ -10,9 +10,9 @@ use Rattle.image.proofs.Rows.{length-rows}
 use Rattle.task.specs.declared.Task.{Task}
 use Rattle.task.specs.Frames.{zeroFork, zeroRegister, noTask}
 use Rattle.machine.specs.declared.Machine.{Machine}
-use Rattle.report.specs.Numbers.{valueNumbers, inBytes}
-use Rattle.report.specs.State.{statusNumber, faultNumber, forkNumbers, taskNumbers, slotNumbers, stateNumbers, stateLength, stateBytes}
-use Rattle.report.proofs.Laying.{length-value, length-inBytes, inBytes-rows, numbers-placed, sets-whole}
+use Rattle.state.specs.Numbers.{valueNumbers, inBytes}
+use Rattle.state.specs.State.{statusNumber, faultNumber, forkNumbers, taskNumbers, slotNumbers, stateNumbers, stateLength, stateBytes}
+use Rattle.state.proofs.Laying.{length-value, length-inBytes, inBytes-rows, numbers-placed, sets-whole}
 
 -- ---- lengths
 

@@ -1,9 +1,9 @@
 -- `write_task` meets its contract.
-use Rattle.report.proofs.StateLaws.{task-placed}
+use Rattle.state.proofs.StateLaws.{task-placed}
 use borrow.Author.Needs.{needs}
 use native.Mathlib.Omega.{arith}
-use Rattle.report.proofs.state.write_task.Statement.{statement}
-use Rattle.report.proofs.state.write_task.Tie as tie
+use Rattle.state.proofs.writer.write_task.Statement.{statement}
+use Rattle.state.proofs.writer.write_task.Tie as tie
 
 status-number-requires : tie.Need-status-number-requires
 status-number-requires c κs = search needs

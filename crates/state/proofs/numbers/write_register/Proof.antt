@@ -2,11 +2,11 @@
 use mathlib.Core.Path.{sym, ap, _∙_}
 use lib.Seq.{sets}
 use Rattle.task.specs.declared.Value.{Value}
-use Rattle.report.specs.Numbers.{valueNumbers, inBytes}
-use Rattle.report.proofs.Laying.{int-placed}
+use Rattle.state.specs.Numbers.{valueNumbers, inBytes}
+use Rattle.state.proofs.Laying.{int-placed}
 use borrow.Author.Needs.{needs}
-use Rattle.report.proofs.numbers.write_register.Statement.{statement}
-use Rattle.report.proofs.numbers.write_register.Tie as tie
+use Rattle.state.proofs.numbers.write_register.Statement.{statement}
+use Rattle.state.proofs.numbers.write_register.Tie as tie
 
 enum-known-v : tie.Need-enum-known-v
 enum-known-v c = search needs

@@ -9,7 +9,7 @@ use Rattle.task.specs.declared.Fork.{Fork}
 use Rattle.task.specs.declared.Task.{Task}
 use Rattle.task.specs.Frames.{zeroFork, zeroRegister, noTask}
 use Rattle.machine.specs.declared.Machine.{Machine}
-use Rattle.report.specs.Numbers.{valueNumbers, inBytes}
+use Rattle.state.specs.Numbers.{valueNumbers, inBytes}
 
 abbrev pub statusNumber : Status → ℕ
 statusNumber Vacant = 0

@@ -15,7 +15,7 @@ use Rattle.image.specs.Layout.{rows}
 use Rattle.image.proofs.Rows.{placed}
 use Rattle.task.specs.declared.Value.{Value}
 use Rattle.task.specs.declared.Value.the-variants.{Int, Label, Record}
-use Rattle.report.specs.Numbers.{valueNumbers, inBytes}
+use Rattle.state.specs.Numbers.{valueNumbers, inBytes}
 
 pub length-inBytes : (xs : List ℕ) → length (inBytes xs) ≡ 8 * length xs
 unfolding inBytes

@@ -1,0 +1,6 @@
+-- What the contracts of `state` cite.
+pub mod Numbers
+pub mod State
+pub mod Reading
+pub mod Fields
+pub mod RoundTrip

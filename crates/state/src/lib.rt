@@ -1,0 +1,3 @@
+// The state's bytes: written, and read again.
+pub mod numbers;
+pub mod writer;
