@@ -22,7 +22,7 @@ use Rattle.orders.proofs.Demand.{demand-3}
 use Rattle.job.specs.Job.{imageSize, jobImage, jobPlaces, jobInterval, jobRegisters, jobWords, wordCount, endsExactly, lengthNo, jobNo}
 use Rattle.job.specs.Replay.{jobIn, replayOf}
 use Rattle.job.proofs.Asking.{length-asked}
-use Rattle.job.proofs.Reading.{length-numbers}
+use Rattle.state.proofs.Integers.{length-integers}
 
 module _ (bytes : List ℕ) (accepted : jobNo bytes ≡ 0) where
   parts : (lengthNo bytes ≡ 0) × (startNoBy (cellsIn (jobImage bytes)) (jobPlaces bytes) (jobInterval bytes) 16 (wordCount bytes) ≡ 0)
@@ -36,10 +36,10 @@ module _ (bytes : List ℕ) (accepted : jobNo bytes ≡ 0) where
   accepted-ends = length-asked bytes (lengthNo bytes) refl (parts .0)
 
   pub start-agrees : startNo (cellsIn (jobImage bytes)) (jobPlaces bytes) (jobInterval bytes) (jobRegisters bytes) (jobWords bytes) ≡ 0
-  start-agrees = rw (length-numbers bytes (5 + imageSize bytes) 16, length-numbers bytes (135 + imageSize bytes) (wordCount bytes)) (parts .1)
+  start-agrees = rw (length-integers bytes (5 + imageSize bytes) 16, length-integers bytes (135 + imageSize bytes) (wordCount bytes)) (parts .1)
 
   word-length : length (jobWords bytes) ≡ wordCount bytes
-  word-length = length-numbers bytes (135 + imageSize bytes) (wordCount bytes)
+  word-length = length-integers bytes (135 + imageSize bytes) (wordCount bytes)
 
   pub few-words : wordCount bytes ≤ 4096
   few-words =

@@ -1,10 +1,8 @@
 -- The run program's input, a job, and the questions put to it. Little-endian:
 -- image length (16 bits), image, P (8 bits), interval (16 bits), 16 registers (64 bits), word count (16 bits), words (64 bits).
 use mathlib.Core.Bool.{Bool, _&&_}
-use mathlib.Core.List.{List, [], _∷_}
-use Prim.Native.Nat.{ℕ, zero, suc, _+_, _*_}
-use mir.Syntax.{w64}
-use mir.Val.{toZ}
+use mathlib.Core.List.{List}
+use Prim.Native.Nat.{ℕ, _+_, _*_}
 use lib.Dec.{eqb, leb}
 use lib.IntN.{ℤ}
 use lib.ListN.{length, getD, take, drop}
@@ -13,6 +11,7 @@ use Rattle.image.specs.Layout.{cellsIn}
 use Rattle.image.specs.Questions.{ask, orElse}
 use Rattle.image.specs.Doors.{imageNo}
 use Rattle.machine.specs.Starting.{startNoBy}
+use Rattle.state.specs.Numbers.{integersIn}
 
 -- ---- What the bytes hold
 
@@ -28,19 +27,14 @@ jobPlaces bytes = getD bytes (2 + imageSize bytes) 0
 abbrev pub jobInterval : List ℕ → ℕ
 jobInterval bytes = little 2 bytes (3 + imageSize bytes)
 
--- `count` integers of 64 bits, the first at `at`
-unfoldable pub numbers : List ℕ → ℕ → ℕ → List ℤ
-numbers bytes at zero = []
-numbers bytes at (suc count) = toZ w64 (little 8 bytes at) ∷ numbers bytes (at + 8) count
-
 abbrev pub jobRegisters : List ℕ → List ℤ
-jobRegisters bytes = numbers bytes (5 + imageSize bytes) 16
+jobRegisters bytes = integersIn bytes (5 + imageSize bytes) 16
 
 abbrev pub wordCount : List ℕ → ℕ
 wordCount bytes = little 2 bytes (133 + imageSize bytes)
 
 abbrev pub jobWords : List ℕ → List ℤ
-jobWords bytes = numbers bytes (135 + imageSize bytes) (wordCount bytes)
+jobWords bytes = integersIn bytes (135 + imageSize bytes) (wordCount bytes)
 
 -- ---- The questions
 

@@ -4,7 +4,7 @@ ghost use mathlib.Core.Bool.{true};
 ghost use Prim.Native.Nat.{_+_, _*_, _<_, _≤_};
 ghost use lib.ListN.{length, replicate};
 ghost use Rattle.image.specs.Layout.{programCells, cellsIn};
-ghost use Rattle.job.specs.Job.{imageSize, jobImage, jobPlaces, jobInterval, numbers, jobRegisters, wordCount, jobWords, endsExactly, lengthNo, jobNo};
+ghost use Rattle.job.specs.Job.{imageSize, jobImage, jobPlaces, jobInterval, jobRegisters, wordCount, jobWords, endsExactly, lengthNo, jobNo};
 
 // Question 10.
 pub fn ask_length(job: &[u8]) -> u8
@@ -68,25 +68,13 @@ pub fn word_count(job: &[u8]) -> usize
     int64::read_u16(job, 133 + n) as usize
 }
 
-// As many integers as `out` has room for, the first at `at`.
-pub fn read_numbers(job: &[u8], at: usize, out: &mut [i64])
-    requires { ⌜ at + 8 * length (now out) ≤ length (now job) ⌝ }
-    ensures { λ _. ⌜ now (out .exit) ≡ numbers (now (job .entry)) at (length (now (out .entry))) ⌝ }
-{
-    let mut i = 0;
-    while i < out.len() {
-        out[i] = int64::number(int64::read_u64(job, at + 8 * i));
-        i = i + 1;
-    }
-}
-
 // The 16 start registers.
 pub fn read_registers(job: &[u8], out: &mut [i64])
     requires { ⌜ (endsExactly (now job) ≡ true) × (length (now out) ≡ 16) ⌝ }
     ensures { λ _. ⌜ now (out .exit) ≡ jobRegisters (now (job .entry)) ⌝ }
 {
     let at = 5 + image_size(job);
-    read_numbers(job, at, out);
+    state::numbers::read_integers(job, at, out);
 }
 
 // The words of the call record.
@@ -95,7 +83,7 @@ pub fn read_words(job: &[u8], out: &mut [i64])
     ensures { λ _. ⌜ now (out .exit) ≡ jobWords (now (job .entry)) ⌝ }
 {
     let at = 135 + image_size(job);
-    read_numbers(job, at, out);
+    state::numbers::read_integers(job, at, out);
 }
 
 // All questions of a job. Where all are answered with yes, the cells are the image's program; the reader has put its questions, so start's

@@ -2,7 +2,7 @@
 
 use crate::budgets_coverage::BudgetsCoverage;
 use crate::jobs::{difference, job, refused};
-use crate::lent::Lent;
+use crate::lent::{salt_of, Lent};
 use crate::random::Random;
 use crate::{numbers, report, shares};
 use engine::{REPORT_BYTES, TEXT_BYTES};
@@ -95,14 +95,13 @@ fn length(right: usize, random: &mut Random) -> usize {
     }
 }
 
-/// Puts a case to both; `salt` moves and fills the buffers. Hands back the model's report, before
+/// Puts a case to both; `salt` places and fills the buffers. Hands back the model's report, before
 /// any question about the buffers; the error says in words how the two differ.
 pub fn compare(case: &BudgetCase, salt: u64) -> Result<Result<Report, u8>, String> {
     let expected = model::job::run(&case.job, case.budget);
-    let mut lent_job = Lent::new(case.job.len(), salt);
-    lent_job.slice().copy_from_slice(&case.job);
-    compare_report(case, &expected, &mut lent_job, salt >> 16)?;
-    compare_text(case, &expected, &mut lent_job, salt >> 32)?;
+    let mut lent_job = Lent::holding(&case.job, salt);
+    compare_report(case, &expected, &mut lent_job, salt_of(salt, 1))?;
+    compare_text(case, &expected, &mut lent_job, salt_of(salt, 2))?;
     if lent_job.slice() != case.job {
         return Err("the job was changed".to_string());
     }

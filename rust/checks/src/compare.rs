@@ -1,6 +1,6 @@
 //! One image put to the model and to the engine.
 
-use crate::lent::Lent;
+use crate::lent::{salt_of, Lent};
 use model::Program;
 
 /// What model and engine both answered.
@@ -16,7 +16,7 @@ fn number<T>(answer: &Result<T, u8>) -> u8 {
     }
 }
 
-/// Puts `image` to both, with an `out` of `out_len` bytes; `salt` moves and fills the buffers.
+/// Puts `image` to both, with an `out` of `out_len` bytes; `salt` places and fills the buffers.
 /// The error says in words how the two differ.
 pub fn compare(image: &[u8], out_len: usize, salt: u64) -> Result<Answers, String> {
     let read = model::read(image);
@@ -26,8 +26,7 @@ pub fn compare(image: &[u8], out_len: usize, salt: u64) -> Result<Answers, Strin
         }
     }
 
-    let mut lent_image = Lent::new(image.len(), salt);
-    lent_image.slice().copy_from_slice(image);
+    let mut lent_image = Lent::holding(image, salt);
     let check = engine::image_check(lent_image.slice());
     if number(&check) != number(&read) {
         return Err(format!(
@@ -42,7 +41,7 @@ pub fn compare(image: &[u8], out_len: usize, salt: u64) -> Result<Answers, Strin
         Ok(_) => Ok(()),
         Err(refusal) => Err(*refusal),
     };
-    let mut lent_out = Lent::new(out_len, salt >> 16);
+    let mut lent_out = Lent::new(out_len, salt_of(salt, 1));
     let rewrite = engine::image_rewrite(lent_image.slice(), lent_out.slice());
     if rewrite != expected {
         return Err(format!(

@@ -2,7 +2,7 @@
 
 use crate::assemble::JobInput;
 use crate::jobs::{difference, job, refused};
-use crate::lent::Lent;
+use crate::lent::{salt_of, Lent};
 use crate::orders::{any_number, MANNERS};
 use crate::random::Random;
 use crate::replay_coverage::ReplayCoverage;
@@ -115,17 +115,15 @@ fn replayed(case: &ReplayCase) -> Result<Replayed, u8> {
     Ok(Replayed { machine, refused })
 }
 
-/// Puts a case to both; `salt` moves and fills the buffers. The error says in words how the two
+/// Puts a case to both; `salt` places and fills the buffers. The error says in words how the two
 /// differ.
 pub fn compare(case: &ReplayCase, salt: u64) -> Result<Result<Replayed, u8>, String> {
     let expected = replayed(case);
     let expected_answer = expected.as_ref().err().copied().unwrap_or(0);
 
-    let mut lent_job = Lent::new(case.job.len(), salt);
-    lent_job.slice().copy_from_slice(&case.job);
-    let mut lent_order = Lent::new(case.order.len(), salt >> 16);
-    lent_order.slice().copy_from_slice(&case.order);
-    let mut lent_state = Lent::new(case.state_len, salt >> 32);
+    let mut lent_job = Lent::holding(&case.job, salt);
+    let mut lent_order = Lent::holding(&case.order, salt_of(salt, 1));
+    let mut lent_state = Lent::new(case.state_len, salt_of(salt, 2));
     let answer = engine::replay(lent_job.slice(), lent_order.slice(), lent_state.slice());
     if answer != expected_answer {
         return Err(format!(

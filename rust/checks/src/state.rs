@@ -1,11 +1,11 @@
-//! A state's bytes as the engine's replay writes them.
+//! What a state's numbers say.
 
-use crate::numbers::{self, REGISTER_NUMBERS};
-use model::task::MAX_DEPTH;
-use model::{Machine, Slot, Status, MAX_PLACES};
+use crate::numbers;
+pub use model::state::{bytes, NUMBERS};
+use model::state::{FORKS_AT, FORK_NUMBERS, JOB_NUMBERS, REGISTERS_AT, SLOT_NUMBERS};
 
-const JOB_FIELDS: [&str; 3] = ["P", "interval", "work"];
-const TASK_FIELDS: [&str; 7] = [
+const JOB_FIELDS: [&str; JOB_NUMBERS] = ["P", "interval", "work"];
+const TASK_FIELDS: [&str; FORKS_AT] = [
     "status",
     "fault number",
     "places",
@@ -14,61 +14,7 @@ const TASK_FIELDS: [&str; 7] = [
     "span",
     "depth",
 ];
-const FORK_FIELDS: [&str; 2] = ["continuation", "depth"];
-
-const FORKS_AT: usize = TASK_FIELDS.len();
-const REGISTERS_AT: usize = FORKS_AT + MAX_DEPTH * FORK_FIELDS.len();
-const SLOT_NUMBERS: usize = REGISTERS_AT + REGISTER_NUMBERS;
-
-pub const NUMBERS: usize = JOB_FIELDS.len() + MAX_PLACES as usize * SLOT_NUMBERS;
-
-/// Every slot is there, those from P on too.
-fn numbers(machine: &Machine) -> Vec<u64> {
-    let mut numbers = vec![
-        machine.places() as u64,
-        machine.interval().into(),
-        machine.work().into(),
-    ];
-    for slot in machine.slots() {
-        numbers.extend(slot_numbers(slot));
-    }
-    numbers.resize(NUMBERS, 0);
-    numbers
-}
-
-fn slot_numbers(slot: &Slot) -> [u64; SLOT_NUMBERS] {
-    let mut numbers = [0; SLOT_NUMBERS];
-    let (status, fault) = match slot.status {
-        Status::Vacant => (0, 0),
-        Status::Running => (1, 0),
-        Status::Waiting => (2, 0),
-        Status::Halted => (3, 0),
-        Status::Faulted(number) => (4, number.into()),
-    };
-    let task = &slot.task;
-    numbers[..FORKS_AT].copy_from_slice(&[
-        status,
-        fault,
-        task.places.into(),
-        task.pc.into(),
-        task.counter.into(),
-        task.span.into(),
-        task.depth() as u64,
-    ]);
-    let forks = numbers[FORKS_AT..].chunks_exact_mut(FORK_FIELDS.len());
-    for (numbers, fork) in forks.zip(task.forks()) {
-        numbers.copy_from_slice(&[fork.continuation.into(), fork.depth.into()]);
-    }
-    let registers = numbers[REGISTERS_AT..].iter_mut();
-    for (number, value) in registers.zip(numbers::of_registers(&task.registers)) {
-        *number = value;
-    }
-    numbers
-}
-
-pub fn bytes(machine: &Machine) -> Vec<u8> {
-    numbers::bytes(numbers(machine))
-}
+const FORK_FIELDS: [&str; FORK_NUMBERS] = ["continuation", "depth"];
 
 /// What the number at this place says.
 pub fn meaning(index: usize) -> String {
@@ -94,9 +40,8 @@ mod tests {
     use super::*;
 
     #[test]
-    fn layout() {
-        assert_eq!(SLOT_NUMBERS, 67);
-        assert_eq!(8 * NUMBERS, engine::STATE_BYTES);
+    fn meanings() {
+        assert_eq!(model::state::BYTES, engine::STATE_BYTES);
         assert_eq!(meaning(2), "work");
         assert_eq!(meaning(3), "slot 0: status");
         assert_eq!(meaning(10), "slot 0: open fork 0, continuation");

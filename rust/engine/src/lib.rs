@@ -34,9 +34,57 @@ mod exports {
             text: *mut u8,
             text_len: usize,
         ) -> u64;
+        pub fn tpal_program_read(
+            image: *const u8,
+            image_len: usize,
+            program: *mut u8,
+            program_len: usize,
+        ) -> u8;
+        pub fn tpal_program_write(
+            program: *const u8,
+            program_len: usize,
+            image: *mut u8,
+            image_len: usize,
+        ) -> u8;
+        pub fn tpal_start(
+            program: *const u8,
+            program_len: usize,
+            places: u64,
+            interval: u64,
+            registers: *const u8,
+            registers_len: usize,
+            words: *const u8,
+            words_len: usize,
+            state: *mut u8,
+            state_len: usize,
+        ) -> u8;
+        pub fn tpal_pick(
+            program: *const u8,
+            program_len: usize,
+            words: *const u8,
+            words_len: usize,
+            slot: u64,
+            state: *mut u8,
+            state_len: usize,
+        ) -> u8;
+        pub fn tpal_run(
+            program: *const u8,
+            program_len: usize,
+            words: *const u8,
+            words_len: usize,
+            budget: u64,
+            state: *mut u8,
+            state_len: usize,
+            report: *mut u8,
+            report_len: usize,
+        ) -> u8;
     }
 }
 
+/// Length of a program buffer: 5,890 cells of 64 bits.
+pub const PROGRAM_BYTES: usize = 47_120;
+/// Length of the start registers: 16 of 64 bits.
+pub const REGISTERS_BYTES: usize = 128;
 /// Length of a state: 4,291 numbers of 64 bits.
 pub const STATE_BYTES: usize = 34_328;
 /// Length of a report: 53 numbers of 64 bits.
@@ -112,4 +160,100 @@ pub fn job_text(job: &[u8], budget: u64, text: &mut [u8]) -> u64 {
             text.len(),
         )
     }
+}
+
+/// Reads an image into `program`, which has `PROGRAM_BYTES`. A refusal leaves `program` as it was.
+pub fn program_read(image: &[u8], program: &mut [u8]) -> Result<(), u8> {
+    // SAFETY: as above.
+    answer(unsafe {
+        exports::tpal_program_read(
+            image.as_ptr(),
+            image.len(),
+            program.as_mut_ptr(),
+            program.len(),
+        )
+    })
+}
+
+/// Writes a program's image over `image`, which has the image's length. A refusal leaves `image` as
+/// it was.
+pub fn program_write(program: &[u8], image: &mut [u8]) -> Result<(), u8> {
+    // SAFETY: as above.
+    answer(unsafe {
+        exports::tpal_program_write(
+            program.as_ptr(),
+            program.len(),
+            image.as_mut_ptr(),
+            image.len(),
+        )
+    })
+}
+
+/// Starts a job and writes its first state over `state`, which has `STATE_BYTES`. A refusal leaves
+/// `state` as it was.
+pub fn start(
+    program: &[u8],
+    places: u64,
+    interval: u64,
+    registers: &[u8],
+    words: &[u8],
+    state: &mut [u8],
+) -> Result<(), u8> {
+    // SAFETY: as above.
+    answer(unsafe {
+        exports::tpal_start(
+            program.as_ptr(),
+            program.len(),
+            places,
+            interval,
+            registers.as_ptr(),
+            registers.len(),
+            words.as_ptr(),
+            words.len(),
+            state.as_mut_ptr(),
+            state.len(),
+        )
+    })
+}
+
+/// Carries out a pick of this slot and writes the new state over `state`. A refusal leaves `state`
+/// as it was.
+pub fn pick(program: &[u8], words: &[u8], slot: u64, state: &mut [u8]) -> Result<(), u8> {
+    // SAFETY: as above.
+    answer(unsafe {
+        exports::tpal_pick(
+            program.as_ptr(),
+            program.len(),
+            words.as_ptr(),
+            words.len(),
+            slot,
+            state.as_mut_ptr(),
+            state.len(),
+        )
+    })
+}
+
+/// Goes on from a state within this budget of picks, writes the new state over `state` and the
+/// report over `report`, which has `REPORT_BYTES`. A refusal leaves both as they were.
+pub fn run(
+    program: &[u8],
+    words: &[u8],
+    budget: u64,
+    state: &mut [u8],
+    report: &mut [u8],
+) -> Result<(), u8> {
+    // SAFETY: as above.
+    answer(unsafe {
+        exports::tpal_run(
+            program.as_ptr(),
+            program.len(),
+            words.as_ptr(),
+            words.len(),
+            budget,
+            state.as_mut_ptr(),
+            state.len(),
+            report.as_mut_ptr(),
+            report.len(),
+        )
+    })
 }

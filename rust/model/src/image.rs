@@ -206,7 +206,7 @@ impl Program {
         self.check_instructions()
     }
 
-    fn check_blocks(&self) -> Result<(), u8> {
+    pub(crate) fn check_blocks(&self) -> Result<(), u8> {
         let mut expected = 0..=0;
         for block in &self.blocks {
             let first = usize::from(block.first);
@@ -222,7 +222,7 @@ impl Program {
     }
 
     /// Expects what `check_blocks` has asked: the blocks divide the instructions, none is empty.
-    fn check_instructions(&self) -> Result<(), u8> {
+    pub(crate) fn check_instructions(&self) -> Result<(), u8> {
         let largest = largest_operands(self.blocks.len());
         let starts = self.blocks.iter().map(|block| usize::from(block.first));
         let ends = starts
@@ -244,7 +244,7 @@ impl Program {
     }
 
     /// `image` has this program's image length.
-    fn encode(&self, image: &mut [u8]) {
+    pub(crate) fn encode(&self, image: &mut [u8]) {
         let (header, records) = image.split_at_mut(HEADER_BYTES);
         header[..3].copy_from_slice(&MARK);
         header[3..5].copy_from_slice(&VERSION.to_le_bytes());
@@ -269,7 +269,7 @@ fn image_len(block_count: usize, instruction_count: usize) -> usize {
     HEADER_BYTES + BLOCK_BYTES * block_count + INSTRUCTION_BYTES * instruction_count
 }
 
-fn check_counts(block_count: usize, instruction_count: usize) -> Result<(), u8> {
+pub(crate) fn check_counts(block_count: usize, instruction_count: usize) -> Result<(), u8> {
     let allowed = (1..=MAX_BLOCKS).contains(&block_count)
         && (1..=MAX_INSTRUCTIONS).contains(&instruction_count);
     if allowed {

@@ -118,22 +118,29 @@ pub struct Report {
     pub registers: Registers,
 }
 
+impl Report {
+    /// Of a run that has left the machine so.
+    pub(crate) fn of(machine: &Machine, answer: Answer, picks: u64) -> Self {
+        let (span, registers) = match answer {
+            Answer::Ended => (machine.last_task().span, machine.last_task().registers),
+            Answer::Spent => (0, ZEROS),
+        };
+        Report {
+            end: machine.end(),
+            picks,
+            work: machine.work(),
+            span,
+            registers,
+        }
+    }
+}
+
 /// Runs a job from a fresh start. The numbers of the questions put to it: 10; the reader's; start's.
 pub fn run(input: &[u8], budget: u64) -> Result<Report, u8> {
     let job = Job::parse(input)?;
     let mut machine = job.start()?;
     let (answer, picks) = machine.run(&job.program, &job.words, budget)?;
-    let (span, registers) = match answer {
-        Answer::Ended => (machine.last_task().span, machine.last_task().registers),
-        Answer::Spent => (0, ZEROS),
-    };
-    Ok(Report {
-        end: machine.end(),
-        picks,
-        work: machine.work(),
-        span,
-        registers,
-    })
+    Ok(Report::of(&machine, answer, picks))
 }
 
 /// What the run program prints for this input.

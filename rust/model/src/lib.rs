@@ -1,18 +1,24 @@
-//! A second implementation of the block engine, written from documents 01 and 02 alone, and for the
-//! shape test from docs/machine.md.
+//! A second implementation of the block engine, written from documents 01 and 02 alone, for the
+//! shape test from docs/machine.md, and for the bytes of programs, states and reports from
+//! docs/image.md and docs/api.md.
 //!
 //! The tests compare the proved engine with it, and the benchmark runs it beside the engine.
 
+pub mod cells;
 pub mod fault;
 mod image;
 pub mod job;
 mod machine;
+pub mod numbers;
 pub mod opcode;
 pub mod plain;
 pub mod question;
+pub mod report;
 #[cfg(test)]
 mod sample;
 mod shape;
+pub mod state;
+pub mod steps;
 pub mod task;
 
 pub use image::{

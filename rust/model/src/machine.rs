@@ -76,6 +76,11 @@ pub struct Call<'a> {
 impl<'a> Call<'a> {
     pub fn new(program: &'a Program, words: &'a [i64]) -> Result<Self, u8> {
         program.check()?;
+        Call::of_checked(program, words)
+    }
+
+    /// Of a program that its questions have been put to.
+    pub(crate) fn of_checked(program: &'a Program, words: &'a [i64]) -> Result<Self, u8> {
         check_words(words)?;
         Ok(Call { program, words })
     }
@@ -98,6 +103,12 @@ pub(crate) fn allows_interval(interval: u64) -> bool {
     interval == 0 || (8..=u16::MAX.into()).contains(&interval)
 }
 
+/// The slots with a running task, as the machine keeps them.
+pub(crate) fn running(slots: &[Slot]) -> u64 {
+    let bit = |(number, slot): (usize, &Slot)| u64::from(slot.status == Status::Running) << number;
+    slots.iter().enumerate().map(bit).sum()
+}
+
 impl Machine {
     /// The state of a fresh start.
     pub fn start(
@@ -108,6 +119,16 @@ impl Machine {
         words: &[i64],
     ) -> Result<Self, u8> {
         program.check()?;
+        Machine::fresh(places, interval, registers, words)
+    }
+
+    /// Start's own questions. A fresh state has nothing of the program in it.
+    pub(crate) fn fresh(
+        places: u64,
+        interval: u64,
+        registers: &[i64],
+        words: &[i64],
+    ) -> Result<Self, u8> {
         if !allows_places(places) {
             return Err(question::PLACES);
         }
@@ -205,13 +226,18 @@ impl Machine {
         budget: u64,
     ) -> Result<(Answer, u64), u8> {
         let call = self.call(program, words)?;
+        Ok(self.run_in(call, budget))
+    }
+
+    /// A run whose questions have been put.
+    pub(crate) fn run_in(&mut self, call: Call, budget: u64) -> (Answer, u64) {
         let allowed = budget.min(u64::from(WORK_LIMIT - self.work));
         let mut picks = 0;
         let mut ahead = self.running;
         // A job that has not ended has a running task.
         while self.running != 0 {
             if picks == allowed {
-                return Ok((Answer::Spent, picks));
+                return (Answer::Spent, picks);
             }
             if ahead == 0 {
                 ahead = self.running;
@@ -222,7 +248,7 @@ impl Machine {
             // Read anew: the pick may have made a task running further on, or vacated its slot.
             ahead = self.running & (u64::MAX << slot << 1);
         }
-        Ok((Answer::Ended, picks))
+        (Answer::Ended, picks)
     }
 
     /// Issues one instruction of the running task in this slot.

@@ -1,9 +1,9 @@
 //! The shape test of docs/machine.md, which question 20 puts to a state and the program handed in.
-//! Slots from P on have no counterpart here.
+//! Slots from P on have no counterpart here: [`crate::state::read`] asks whether they are vacant.
 
 use crate::fault;
 use crate::image::{Block, Program};
-use crate::machine::{allows_interval, allows_places, Machine, Slot, Status};
+use crate::machine::{allows_interval, allows_places, running, Machine, Slot, Status};
 use crate::task::{Task, Value, ZEROS};
 
 pub fn meets(machine: &Machine, program: &Program) -> bool {
@@ -15,12 +15,6 @@ pub fn meets(machine: &Machine, program: &Program) -> bool {
             .slots
             .iter()
             .all(|slot| fits(machine, program, slot))
-}
-
-/// The slots with a running task, as the machine keeps them.
-fn running(slots: &[Slot]) -> u64 {
-    let bit = |(number, slot): (usize, &Slot)| u64::from(slot.status == Status::Running) << number;
-    slots.iter().enumerate().map(bit).sum()
 }
 
 /// Whether the tasks tile the slots, each in the first slot of its places, and no two sides of one

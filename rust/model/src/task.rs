@@ -22,11 +22,12 @@ pub enum Value {
 #[derive(Clone, Copy, Debug, PartialEq, Eq)]
 pub struct Record {
     pub continuation: u8,
-    pub depth: u8,
+    /// The depth of the task that made it; in a state that no order leads to, any number.
+    pub depth: u32,
 }
 
 /// What stands for a fork that isn't open.
-const NO_FORK: Record = Record {
+pub(crate) const NO_FORK: Record = Record {
     continuation: 0,
     depth: 0,
 };
@@ -230,7 +231,7 @@ impl Task {
         };
         let record = Record {
             continuation,
-            depth: self.depth,
+            depth: self.depth.into(),
         };
         self.set(instruction, Value::Record(record))
     }
@@ -247,7 +248,7 @@ impl Task {
 
     fn join(&mut self, instruction: &Instruction, surroundings: Surroundings) -> Result<Step, u8> {
         let record = self.fitting(self.operand(instruction))?;
-        if record.depth != self.depth {
+        if record.depth != u32::from(self.depth) {
             return Ok(Step::Wait);
         }
         self.enter(surroundings, record.continuation);
@@ -272,7 +273,7 @@ impl Task {
     }
 
     fn fits(&self, record: Record) -> bool {
-        match self.forks().get(usize::from(record.depth)..) {
+        match self.forks().get(record.depth as usize..) {
             None => false,
             Some(beyond) => beyond.iter().all(|&fork| fork == record),
         }

@@ -21,7 +21,7 @@ const DEEPER_RECORD: u8 = 15;
 
 const WORDS: [i64; 3] = [70, 80, 90];
 
-fn record(continuation: u8, depth: u8) -> Record {
+fn record(continuation: u8, depth: u32) -> Record {
     Record {
         continuation,
         depth,
@@ -37,7 +37,7 @@ fn task(depth: usize) -> Task {
     task.registers[usize::from(LABEL)] = Value::Label(PLAIN);
     task.registers[usize::from(RECORD)] = Value::Record(record(TARGET, 0));
     task.registers[usize::from(OTHER_RECORD)] = Value::Record(record(OTHER_TARGET, 0));
-    task.registers[usize::from(DEEPER_RECORD)] = Value::Record(record(TARGET, depth as u8 + 1));
+    task.registers[usize::from(DEEPER_RECORD)] = Value::Record(record(TARGET, depth as u32 + 1));
     task
 }
 
@@ -249,7 +249,7 @@ fn jralloc_takes_a_label_of_a_join_target() {
         let mut task = task(depth);
         let tried = instruction(JRALLOC, 3, 0, Lab(OTHER_TARGET));
         assert_eq!(issue(&mut task, tried), Step::Onward);
-        let made = Value::Record(record(OTHER_TARGET, depth as u8));
+        let made = Value::Record(record(OTHER_TARGET, depth as u32));
         assert_eq!(task.registers[3], made);
     }
 }

@@ -1,7 +1,7 @@
 -- `read_registers` meets its contract.
 use mathlib.Core.Path.{ap₂, _∙_}
 use Prim.Native.Nat.{ℕ, _+_}
-use Rattle.job.specs.Job.{numbers}
+use Rattle.state.specs.Numbers.{integersIn}
 use Rattle.job.proofs.Ends.{ends}
 use borrow.Author.Needs.{needs}
 use native.Mathlib.Omega.{arith}
@@ -14,15 +14,15 @@ image-size-requires c κs = search needs
 add-at : tie.Need-add-at
 add-at c = search needs
 
-read-numbers-requires : tie.Need-read-numbers-requires
-read-numbers-requires c κs = let e = ends (c .before .before .before .args .job .now) (c .before .before .before .pre .0) in omega (arith, c .before .image-size .ensures .0, c .before .before .before .pre .1)
+read-integers-requires : tie.Need-read-integers-requires
+read-integers-requires c κs = let e = ends (c .before .before .before .args .job .now) (c .before .before .before .pre .0) in omega (arith, c .before .image-size .ensures .0, c .before .before .before .pre .1)
 
 same-length : tie.Need-same-length
 same-length c = search needs
 
 returns : tie.Need-returns
-returns c = c .before .read-numbers .ensures ∙ ap₂ (λ (a n : ℕ). numbers (c .before .before .before .before .before .args .job .now) (5 + a) n) (c .before .before .before .image-size .ensures .0) (c .before .before .before .before .before .pre .1)
+returns c = c .before .read-integers .ensures ∙ ap₂ (λ (a n : ℕ). integersIn (c .before .before .before .before .before .args .job .now) (5 + a) n) (c .before .before .before .image-size .ensures .0) (c .before .before .before .before .before .pre .1)
 
 pub read-registers-spec : {M : Type 1} → statement M
 read-registers-spec =
-    tie.close (tie.spec image-size-requires add-at read-numbers-requires same-length returns)
+    tie.close (tie.spec image-size-requires add-at read-integers-requires same-length returns)

@@ -1,0 +1,329 @@
+// The state's bytes read again: whether they stand for a state, and then the state. Each number is compared whole with its field's room.
+use machine::Machine;
+use task::Fork;
+use task::Register;
+use task::Status;
+use task::Task;
+use task::Value;
+ghost use mathlib.Core.Path.{_≡_};
+ghost use mathlib.Core.Bool.{true};
+ghost use Prim.Native.Nat.{_+_, _*_, _≤_, _<_};
+ghost use lib.ListN.{length};
+ghost use Rattle.task.specs.Formed.{every};
+ghost use Rattle.state.specs.State.{stateLength};
+ghost use Rattle.state.specs.Reading.{table, numberAt, in16, in32, isValue, standsValue, registerIn, isStatus, statusOf, standsFork, forkIn, standsTask, taskIn, slotPlace, registerPlace, standsState, stateIn};
+
+// ---- Whether the bytes stand for a state
+
+fn has_32_bits(n: u64) -> bool
+    ensures { λ r. ⌜ r ≡ in32 n ⌝ }
+{
+    n < 0x1_0000_0000
+}
+
+// Whether the number there has 16 bits, or 32.
+fn stands_16(bytes: &[u8], at: usize) -> bool
+    requires { ⌜ at + 8 ≤ length (now bytes) ⌝ }
+    ensures { λ r. ⌜ r ≡ in16 (numberAt (now (bytes .entry)) at) ⌝ }
+{
+    int64::read_u64(bytes, at) < 0x1_0000
+}
+
+fn stands_32(bytes: &[u8], at: usize) -> bool
+    requires { ⌜ at + 8 ≤ length (now bytes) ⌝ }
+    ensures { λ r. ⌜ r ≡ in32 (numberAt (now (bytes .entry)) at) ⌝ }
+{
+    has_32_bits(int64::read_u64(bytes, at))
+}
+
+fn is_value(kind: u64, a: u64, b: u64) -> bool
+    ensures { λ r. ⌜ r ≡ isValue kind a b ⌝ }
+{
+    if kind == 0 {
+        return b == 0;
+    }
+    if kind == 1 {
+        if has_32_bits(a) {
+            return b == 0;
+        }
+        return false;
+    }
+    if kind != 2 {
+        return false;
+    }
+    if has_32_bits(a) {
+        return has_32_bits(b);
+    }
+    false
+}
+
+fn stands_value(bytes: &[u8], at: usize) -> bool
+    requires { ⌜ at + 24 ≤ length (now bytes) ⌝ }
+    ensures { λ r. ⌜ r ≡ standsValue (now (bytes .entry)) at ⌝ }
+{
+    let kind = int64::read_u64(bytes, at);
+    let a = int64::read_u64(bytes, at + 8);
+    let b = int64::read_u64(bytes, at + 16);
+    is_value(kind, a, b)
+}
+
+fn is_status(status: u64, fault: u64) -> bool
+    ensures { λ r. ⌜ r ≡ isStatus status fault ⌝ }
+{
+    if status == 4 {
+        return fault < 256;
+    }
+    if status < 4 {
+        return fault == 0;
+    }
+    false
+}
+
+fn stands_status(bytes: &[u8], at: usize) -> bool
+    requires { ⌜ at + 16 ≤ length (now bytes) ⌝ }
+    ensures { λ r. ⌜ r ≡ isStatus (numberAt (now (bytes .entry)) at) (numberAt (now (bytes .entry)) (at + 8)) ⌝ }
+{
+    let status = int64::read_u64(bytes, at);
+    let fault = int64::read_u64(bytes, at + 8);
+    is_status(status, fault)
+}
+
+fn stands_fork(bytes: &[u8], at: usize) -> bool
+    requires { ⌜ at + 16 ≤ length (now bytes) ⌝ }
+    ensures { λ r. ⌜ r ≡ standsFork (now (bytes .entry)) at ⌝ }
+{
+    if !stands_32(bytes, at) {
+        return false;
+    }
+    stands_32(bytes, at + 8)
+}
+
+fn stands_forks(bytes: &[u8], at: usize) -> bool
+    requires { ⌜ at + 96 ≤ length (now bytes) ⌝ }
+    ensures { λ r. ⌜ r ≡ every (λ i. standsFork (now (bytes .entry)) (at + 16 * i)) 6 0 ⌝ }
+{
+    let mut i = 0;
+    while i < 6 {
+        if !stands_fork(bytes, at + 16 * i) {
+            return false;
+        }
+        i = i + 1;
+    }
+    true
+}
+
+fn stands_task(bytes: &[u8], at: usize) -> bool
+    requires { ⌜ at + 152 ≤ length (now bytes) ⌝ }
+    ensures { λ r. ⌜ r ≡ standsTask (now (bytes .entry)) at ⌝ }
+{
+    if !stands_status(bytes, at) {
+        return false;
+    }
+    if !stands_16(bytes, at + 24) {
+        return false;
+    }
+    if !stands_32(bytes, at + 32) {
+        return false;
+    }
+    if !stands_32(bytes, at + 40) {
+        return false;
+    }
+    if !stands_32(bytes, at + 48) {
+        return false;
+    }
+    stands_forks(bytes, at + 56)
+}
+
+fn stands_tasks(bytes: &[u8]) -> bool
+    requires { ⌜ length (now bytes) ≡ stateLength ⌝ }
+    ensures { λ r. ⌜ r ≡ every (λ k. standsTask (now (bytes .entry)) (slotPlace k)) 64 0 ⌝ }
+{
+    let mut k = 0;
+    while k < 64 {
+        if !stands_task(bytes, 24 + 536 * k) {
+            return false;
+        }
+        k = k + 1;
+    }
+    true
+}
+
+// Where register i of the bank stands.
+fn register_place(i: usize) -> usize
+    requires { ⌜ i < 1024 ⌝ }
+    ensures { λ r. ⌜ (r ≡ registerPlace i) × (r + 24 ≤ stateLength) ⌝ }
+{
+    24 + 536 * (i / 16) + 152 + 24 * (i % 16)
+}
+
+fn stands_bank(bytes: &[u8]) -> bool
+    requires { ⌜ length (now bytes) ≡ stateLength ⌝ }
+    ensures { λ r. ⌜ r ≡ every (λ i. standsValue (now (bytes .entry)) (registerPlace i)) 1024 0 ⌝ }
+{
+    let mut i = 0;
+    while i < 1024 {
+        if !stands_value(bytes, register_place(i)) {
+            return false;
+        }
+        i = i + 1;
+    }
+    true
+}
+
+pub fn stands_state(bytes: &[u8]) -> bool
+    ensures { λ r. ⌜ r ≡ standsState (now (bytes .entry)) ⌝ }
+{
+    if bytes.len() != 34328 {
+        return false;
+    }
+    if !stands_16(bytes, 8) {
+        return false;
+    }
+    if !stands_32(bytes, 16) {
+        return false;
+    }
+    if !stands_tasks(bytes) {
+        return false;
+    }
+    stands_bank(bytes)
+}
+
+// ---- The state that they stand for. `read_state` alone calls the rest, on bytes that stand for a state
+
+fn read_register(bytes: &[u8], at: usize) -> Register
+    requires { ⌜ (at + 24 ≤ length (now bytes)) × (standsValue (now bytes) at ≡ true) ⌝ }
+    ensures { λ r. ⌜ r ≡ registerIn (now (bytes .entry)) at ⌝ }
+{
+    let kind = int64::read_u64(bytes, at);
+    let a = int64::read_u64(bytes, at + 8);
+    if kind == 0 {
+        return Register {
+            value: Value::Int(int64::number(a)),
+        };
+    }
+    if kind == 1 {
+        return Register {
+            value: Value::Label(a as u32),
+        };
+    }
+    let b = int64::read_u64(bytes, at + 16);
+    Register {
+        value: Value::Record(a as u32, b as u32),
+    }
+}
+
+fn status_of(status: u64, fault: u64) -> Status
+    requires { ⌜ isStatus status fault ≡ true ⌝ }
+    ensures { λ r. ⌜ r ≡ statusOf status fault ⌝ }
+{
+    if status == 0 {
+        return Status::Vacant;
+    }
+    if status == 1 {
+        return Status::Running;
+    }
+    if status == 2 {
+        return Status::Waiting;
+    }
+    if status == 3 {
+        return Status::Halted;
+    }
+    Status::Faulted(fault as u8)
+}
+
+fn read_fork(bytes: &[u8], at: usize) -> Fork
+    requires { ⌜ (at + 16 ≤ length (now bytes)) × (standsFork (now bytes) at ≡ true) ⌝ }
+    ensures { λ r. ⌜ r ≡ forkIn (now (bytes .entry)) at ⌝ }
+{
+    let continuation = int64::read_u64(bytes, at);
+    let depth = int64::read_u64(bytes, at + 8);
+    Fork {
+        continuation: continuation as u32,
+        depth: depth as u32,
+    }
+}
+
+fn read_forks(bytes: &[u8], at: usize) -> [Fork; 6]
+    requires { ⌜ (at + 96 ≤ length (now bytes)) × (every (λ i. standsFork (now bytes) (at + 16 * i)) 6 0 ≡ true) ⌝ }
+    ensures { λ r. ⌜ r ≡ table (λ i. forkIn (now (bytes .entry)) (at + 16 * i)) 6 ⌝ }
+{
+    let mut forks = [Fork {
+        continuation: 0,
+        depth: 0,
+    }; 6];
+    let mut i = 0;
+    while i < 6 {
+        forks[i] = read_fork(bytes, at + 16 * i);
+        i = i + 1;
+    }
+    forks
+}
+
+fn read_task(bytes: &[u8], at: usize) -> Task
+    requires { ⌜ (at + 152 ≤ length (now bytes)) × (standsTask (now bytes) at ≡ true) ⌝ }
+    ensures { λ r. ⌜ r ≡ taskIn (now (bytes .entry)) at ⌝ }
+{
+    let status = status_of(int64::read_u64(bytes, at), int64::read_u64(bytes, at + 8));
+    let places = int64::read_u64(bytes, at + 16);
+    let pc = int64::read_u64(bytes, at + 24);
+    let counter = int64::read_u64(bytes, at + 32);
+    let span = int64::read_u64(bytes, at + 40);
+    let depth = int64::read_u64(bytes, at + 48);
+    let forks = read_forks(bytes, at + 56);
+    Task {
+        status,
+        places,
+        pc: pc as u16,
+        counter: counter as u32,
+        span: span as u32,
+        depth: depth as u32,
+        forks,
+    }
+}
+
+fn read_tasks(bytes: &[u8]) -> [Task; 64]
+    requires { ⌜ (length (now bytes) ≡ stateLength) × (every (λ k. standsTask (now bytes) (slotPlace k)) 64 0 ≡ true) ⌝ }
+    ensures { λ r. ⌜ r ≡ table (λ k. taskIn (now (bytes .entry)) (slotPlace k)) 64 ⌝ }
+{
+    let mut tasks = [machine::slots::vacant_task(); 64];
+    let mut k = 0;
+    while k < 64 {
+        tasks[k] = read_task(bytes, 24 + 536 * k);
+        k = k + 1;
+    }
+    tasks
+}
+
+fn read_bank(bytes: &[u8]) -> [Register; 1024]
+    requires { ⌜ (length (now bytes) ≡ stateLength) × (every (λ i. standsValue (now bytes) (registerPlace i)) 1024 0 ≡ true) ⌝ }
+    ensures { λ r. ⌜ r ≡ table (λ i. registerIn (now (bytes .entry)) (registerPlace i)) 1024 ⌝ }
+{
+    let mut bank = [Register {
+        value: Value::Int(0),
+    }; 1024];
+    let mut i = 0;
+    while i < 1024 {
+        bank[i] = read_register(bytes, register_place(i));
+        i = i + 1;
+    }
+    bank
+}
+
+// `steps` calls it, after `stands_state` has answered with yes.
+pub fn read_state(bytes: &[u8]) -> Machine
+    requires { ⌜ standsState (now bytes) ≡ true ⌝ }
+    ensures { λ r. ⌜ r ≡ stateIn (now (bytes .entry)) ⌝ }
+{
+    let places = int64::read_u64(bytes, 0);
+    let interval = int64::read_u64(bytes, 8);
+    let work = int64::read_u64(bytes, 16);
+    let bank = read_bank(bytes);
+    let tasks = read_tasks(bytes);
+    Machine {
+        places,
+        interval: interval as u16,
+        work: work as u32,
+        bank,
+        tasks,
+    }
+}

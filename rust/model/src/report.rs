@@ -1,0 +1,58 @@
+//! A report's bytes, laid out as in docs/api.md.
+
+use crate::job::Report;
+use crate::machine::End;
+use crate::numbers;
+use crate::task::{Registers, Value, REGISTERS};
+
+/// Numbers before the registers': end, fault number, picks, work and span.
+pub const REGISTERS_AT: usize = 5;
+/// Three for each register.
+pub const REGISTER_NUMBERS: usize = 3 * REGISTERS;
+pub const NUMBERS: usize = REGISTERS_AT + REGISTER_NUMBERS;
+
+/// Length of a report.
+pub const BYTES: usize = numbers::BYTES * NUMBERS;
+
+/// Ends.
+pub const SPENT: u64 = 0;
+pub const HALT: u64 = 1;
+pub const FAULT: u64 = 2;
+
+/// Writes a report over `out`, which has `BYTES`.
+pub fn write(report: &Report, out: &mut [u8]) {
+    let (end, fault) = match report.end {
+        None => (SPENT, 0),
+        Some(End::Halt) => (HALT, 0),
+        Some(End::Fault(number)) => (FAULT, number.into()),
+    };
+    let numbers = [
+        end,
+        fault,
+        report.picks,
+        report.work.into(),
+        report.span.into(),
+    ];
+    let (front, registers) = out.split_at_mut(numbers::BYTES * REGISTERS_AT);
+    numbers::write(numbers, front);
+    write_registers(&report.registers, registers);
+}
+
+/// Kind, then the integer, label or continuation, then the record's depth or 0.
+pub(crate) fn write_registers(registers: &Registers, out: &mut [u8]) {
+    let numbers = registers.iter().flat_map(|value| match *value {
+        Value::Int(integer) => [0, integer as u64, 0],
+        Value::Label(label) => [1, label.into(), 0],
+        Value::Record(record) => [2, record.continuation.into(), record.depth.into()],
+    });
+    numbers::write(numbers, out);
+}
+
+pub fn bytes(report: &Report) -> Vec<u8> {
+    let mut bytes = vec![0; BYTES];
+    write(report, &mut bytes);
+    bytes
+}
+
+#[cfg(test)]
+mod tests;

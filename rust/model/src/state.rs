@@ -1,0 +1,149 @@
+//! A state's bytes, laid out as in docs/api.md, and the machine that they stand for.
+
+use crate::machine::{allows_places, running, Machine, Slot, Status, MAX_PLACES};
+use crate::numbers::{self, number_at};
+use crate::report::{self, REGISTER_NUMBERS};
+use crate::task::{Record, Task, Value, MAX_DEPTH, NO_FORK, ZEROS};
+
+/// Numbers before the slots': P, interval and work.
+pub const JOB_NUMBERS: usize = 3;
+/// Places of a slot's numbers: status, fault number, places, program counter, counter, span and
+/// depth come first.
+pub const FORKS_AT: usize = 7;
+pub const FORK_NUMBERS: usize = 2;
+pub const REGISTERS_AT: usize = FORKS_AT + MAX_DEPTH * FORK_NUMBERS;
+pub const SLOT_NUMBERS: usize = REGISTERS_AT + REGISTER_NUMBERS;
+pub const NUMBERS: usize = JOB_NUMBERS + MAX_PLACES as usize * SLOT_NUMBERS;
+
+/// Length of a state.
+pub const BYTES: usize = numbers::BYTES * NUMBERS;
+const SLOT_BYTES: usize = numbers::BYTES * SLOT_NUMBERS;
+
+const VACANT: [u8; SLOT_BYTES] = [0; SLOT_BYTES];
+
+/// Writes a machine's state over `out`, which has `BYTES`. Every slot is there, those from P on too.
+pub fn write(machine: &Machine, out: &mut [u8]) {
+    let (job, slots) = out.split_at_mut(numbers::BYTES * JOB_NUMBERS);
+    let numbers = [
+        machine.places() as u64,
+        machine.interval().into(),
+        machine.work().into(),
+    ];
+    numbers::write(numbers, job);
+    let (used, unused) = slots.split_at_mut(SLOT_BYTES * machine.places());
+    for (slot, out) in machine
+        .slots()
+        .iter()
+        .zip(used.chunks_exact_mut(SLOT_BYTES))
+    {
+        write_slot(slot, out);
+    }
+    unused.fill(0);
+}
+
+fn write_slot(slot: &Slot, out: &mut [u8]) {
+    let (status, fault) = match slot.status {
+        Status::Vacant => return out.copy_from_slice(&VACANT),
+        Status::Running => (1, 0),
+        Status::Waiting => (2, 0),
+        Status::Halted => (3, 0),
+        Status::Faulted(number) => (4, number.into()),
+    };
+    let task = &slot.task;
+    let numbers = [
+        status,
+        fault,
+        task.places.into(),
+        task.pc.into(),
+        task.counter.into(),
+        task.span.into(),
+        task.depth.into(),
+    ];
+    let (front, registers) = out.split_at_mut(numbers::BYTES * REGISTERS_AT);
+    let forks = task.forks.iter();
+    let forks = forks.flat_map(|fork| [fork.continuation.into(), fork.depth.into()]);
+    numbers::write(numbers.into_iter().chain(forks), front);
+    report::write_registers(&task.registers, registers);
+}
+
+pub fn bytes(machine: &Machine) -> Vec<u8> {
+    let mut bytes = vec![0; BYTES];
+    write(machine, &mut bytes);
+    bytes
+}
+
+/// The machine that `bytes`, of which there are `BYTES`, stand for. None: they stand for no state,
+/// or for one that meets the shape test for no program, because P is not allowed, a slot from P on
+/// is not vacant, or a number is larger than the machine has room for.
+pub fn read(bytes: &[u8]) -> Option<Machine> {
+    let places = number_at(bytes, 0);
+    if !allows_places(places) {
+        return None;
+    }
+    let slots = &bytes[numbers::BYTES * JOB_NUMBERS..];
+    let (used, unused) = slots.split_at(SLOT_BYTES * places as usize);
+    if unused.chunks_exact(SLOT_BYTES).any(|slot| slot != VACANT) {
+        return None;
+    }
+    let mut slots = Vec::with_capacity(places as usize);
+    for bytes in used.chunks_exact(SLOT_BYTES) {
+        slots.push(read_slot(bytes)?);
+    }
+    Some(Machine {
+        interval: number_at(bytes, 1).try_into().ok()?,
+        work: number_at(bytes, 2).try_into().ok()?,
+        running: running(&slots),
+        slots,
+    })
+}
+
+fn read_slot(bytes: &[u8]) -> Option<Slot> {
+    if bytes == VACANT {
+        return Some(Slot::VACANT);
+    }
+    let status = match (number_at(bytes, 0), number_at(bytes, 1)) {
+        (0, 0) => Status::Vacant,
+        (1, 0) => Status::Running,
+        (2, 0) => Status::Waiting,
+        (3, 0) => Status::Halted,
+        (4, number) => Status::Faulted(number.try_into().ok()?),
+        _ => return None,
+    };
+    let mut forks = [NO_FORK; MAX_DEPTH];
+    for (fork, at) in forks.iter_mut().zip((FORKS_AT..).step_by(FORK_NUMBERS)) {
+        *fork = record(number_at(bytes, at), number_at(bytes, at + 1))?;
+    }
+    let mut registers = ZEROS;
+    for (register, at) in registers.iter_mut().zip((REGISTERS_AT..).step_by(3)) {
+        *register = value([at, at + 1, at + 2].map(|at| number_at(bytes, at)))?;
+    }
+    let task = Task {
+        registers,
+        places: number_at(bytes, 2).try_into().ok()?,
+        pc: number_at(bytes, 3).try_into().ok()?,
+        counter: number_at(bytes, 4).try_into().ok()?,
+        span: number_at(bytes, 5).try_into().ok()?,
+        depth: number_at(bytes, 6).try_into().ok()?,
+        forks,
+    };
+    Some(Slot { status, task })
+}
+
+fn record(continuation: u64, depth: u64) -> Option<Record> {
+    Some(Record {
+        continuation: continuation.try_into().ok()?,
+        depth: depth.try_into().ok()?,
+    })
+}
+
+fn value(numbers: [u64; 3]) -> Option<Value> {
+    match numbers {
+        [0, integer, 0] => Some(Value::Int(integer as i64)),
+        [1, label, 0] => Some(Value::Label(label.try_into().ok()?)),
+        [2, continuation, depth] => record(continuation, depth).map(Value::Record),
+        _ => None,
+    }
+}
+
+#[cfg(test)]
+mod tests;
