@@ -4,3 +4,8 @@ pub mod StateLaws
 pub mod Tables
 pub mod Rooms
 pub mod Filling
+pub mod NumbersAt
+pub mod Alternatives
+pub mod TaskTrip
+pub mod StateTrip
+pub mod RoundTrip

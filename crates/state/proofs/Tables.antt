@@ -1,14 +1,15 @@
 -- Laws of tables: their length and entries, when they are equal, lists that are tables, and tables put together.
 use mathlib.Core.Path.{_≡_, refl, sym, ap, ap₂, _∙_}
-use mathlib.Core.Logic.{_⊎_, ⊎-elim}
+use mathlib.Core.Logic.{⊎-elim}
 use mathlib.Core.List.{List, [], _∷_, _++_, append-nil, append-assoc}
-use Prim.Native.Nat.{ℕ, zero, suc, _+_, _*_, _<_}
+use Prim.Native.Nat.{ℕ, zero, suc, _+_, _*_, _<_, _≤_}
 use native.Mathlib.Omega.{arith}
 use native.Mathlib.Nat.{add-zero, add-suc, mul-zero, mul-suc, eq-or-lt-of-le}
 use native.Mathlib.Numerals.{add-one}
-use lib.ListN.{length, getD, length-append, List·getD-append}
+use lib.ListN.{length, getD, length-append, List·getD-append, List·getD-eq-default}
 use lib.Seq.{ext-getD, getD-at}
 use Rattle.image.specs.Layout.{rows}
+use Rattle.task.proofs.Facts.{below-or-not}
 use Rattle.state.specs.Reading.{table}
 
 module _ {A : Type 0} where
@@ -31,6 +32,14 @@ module _ {A : Type 0} where
       (λ (z : suc i < suc n).
       List·getD-append (table f n) (f n ∷ []) d i (omega (arith, length-table f n)) ∙ getD-table f n i d (omega arith))
       (eq-or-lt-of-le h)
+
+  -- what holds of the entries, and of the default, holds of whatever is read
+  pub table-keeps : (P : A → Type 0) (f : ℕ → A) (n : ℕ) (d : A) → ((i : ℕ) → i < n → P (f i)) → P d → (i : ℕ) → P (getD (table f n) i d)
+  table-keeps P f n d h k i =
+      ⊎-elim
+      (λ (q : i < n). rw (getD-table f n i d q) (h i q))
+      (λ (q : n ≤ i). rw (List·getD-eq-default (table f n) d {n = i} (omega (arith, length-table f n))) k)
+      (below-or-not i n)
 
   -- tables of equal entries are equal
   pub table-same : (f g : ℕ → A) (n : ℕ) → ((i : ℕ) → i < n → f i ≡ g i) → table f n ≡ table g n

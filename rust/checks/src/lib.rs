@@ -1,10 +1,21 @@
-//! The engine's exports compared with the model, on seeded images, jobs and orders of picks; and the
-//! model's machine compared with its plain evaluation.
+//! The engine's exports compared with the model, on seeded images, jobs, orders of picks and single
+//! steps; and the model's machine compared with its plain evaluation.
 //!
 //! A case is named by a seed and a number, and made from these two alone, so that one that failed
 //! can be run again by itself: `cargo run --release --bin soak -- 1 SEED NUMBER` for an image,
-//! `--bin soak_orders` for a job on the model, `--bin soak_replay` for one with an order and
-//! `--bin soak_jobs` for one with a budget on both.
+//! `--bin soak_orders` for a job on the model, `--bin soak_replay` for one with an order,
+//! `--bin soak_jobs` for one with a budget and `--bin soak_steps` for one in steps on both.
+//!
+//! Every buffer that is lent lies beside a closed page, or between margins that are looked at: a call
+//! that reads or writes beyond it ends the process, or is seen.
+
+macro_rules! ensure {
+    ($holds:expr, $($what:tt)+) => {
+        if !$holds {
+            return Err(format!($($what)+));
+        }
+    };
+}
 
 pub mod assemble;
 pub mod budgets;
@@ -15,11 +26,12 @@ pub mod coverage;
 pub mod damage;
 mod draft;
 pub mod generate;
+pub mod guarded;
 pub mod hand;
 pub mod job_coverage;
 pub mod jobs;
 pub mod layout;
-mod lent;
+pub mod lent;
 pub mod numbers;
 pub mod orders;
 pub mod product;
@@ -28,6 +40,9 @@ pub mod replay;
 pub mod replay_coverage;
 pub mod report;
 pub mod run;
+pub mod run_program;
 pub mod shares;
 pub mod soak;
 pub mod state;
+pub mod steps;
+pub mod steps_coverage;

@@ -1,14 +1,6 @@
 //! Orders of picks, and what document 01 says of every one of them, tried on the model's machine
 //! against its plain evaluation.
 
-macro_rules! ensure {
-    ($holds:expr, $($what:tt)+) => {
-        if !$holds {
-            return Err(format!($($what)+));
-        }
-    };
-}
-
 mod order;
 
 use crate::job_coverage::JobCoverage;

@@ -189,7 +189,9 @@ impl<'a> Call<'a> {
 
     /// What the model answers, and the written buffers after it.
     fn models(&self) -> Answered {
-        let (lent, written) = self.buffers.split_at(self.buffers.len() - self.door.written());
+        let (lent, written) = self
+            .buffers
+            .split_at(self.buffers.len() - self.door.written());
         let lent: Vec<&[u8]> = lent.iter().map(|bytes| &**bytes).collect();
         let mut after: Vec<Vec<u8>> = written.iter().map(|bytes| bytes.to_vec()).collect();
         let mut slices: Vec<&mut [u8]> = after.iter_mut().map(|bytes| &mut bytes[..]).collect();

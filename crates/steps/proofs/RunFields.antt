@@ -1,0 +1,72 @@
+-- A budgeted run leaves a state in its fields.
+use mathlib.Core.Path.{_≡_, subst⁻¹}
+use mathlib.Core.Bool.{true, false}
+use mathlib.Core.List.{List}
+use Prim.Native.Nat.{ℕ, zero, suc, _<_}
+use native.Mathlib.Omega.{arith}
+use lib.Dec.{eqb, ltb}
+use lib.IntN.{ℤ}
+use borrow.Author.Tests.{eqb-true, ltb-true}
+use Rattle.agreement.specs.Facts.{by-test}
+use Rattle.image.specs.Questions.{programNo}
+use Rattle.machine.specs.declared.Machine.{Machine}
+use Rattle.machine.specs.Ending.{jobEnded}
+use Rattle.machine.specs.Shape.{shape}
+use Rattle.machine.specs.Picking.{workLimit, stateNo}
+use Rattle.machine.specs.Running.{Run, nextPick, stops, pickedAt, runs, runFrom, outcome}
+use Rattle.machine.proofs.Models.{Allowed}
+use Rattle.machine.proofs.ShapeLaws.{Fits, shape-allowed, shape-fits, fits-shape}
+use Rattle.machine.proofs.PickLaws.{issued-fits}
+use Rattle.machine.proofs.Searching.{next-runs}
+use Rattle.machine.proofs.Passing.{rests, picks-next}
+use Rattle.machine.proofs.Picked.{Ready, state-passes}
+use Rattle.orders.proofs.Shapes.{every-shape}
+use Rattle.state.specs.Fields.{InFields}
+use Rattle.steps.specs.Fields.{WordsInField}
+use Rattle.steps.proofs.PickFields.{issued-in-fields}
+
+module _ {cells : List ℕ} {interval places : ℕ} (allowed : Allowed cells interval places) (words : List ℤ) (fit : WordsInField words) where
+  -- while the job has not ended, the next pick is of a running task
+  next-ready : (m : Machine) (k : ℕ) → Fits cells interval places m → jobEnded m ≡ false → ltb (m .work) workLimit ≡ true → Ready m (nextPick m k)
+  next-ready m k s unended room =
+      let r = every-shape cells words m (allowed .program) (record { sized = s .sized; shaped = fits-shape allowed m s }) .open-runs unended in
+      let n = next-runs m k (r .0) (r .1) (r .2) in
+      record { below = n .0; runs = n .1; below-limit = ltb-true (m .work) workLimit room }
+
+  abbrev LeavesFields : ℕ → Run → Type 0
+  LeavesFields n r = InFields (runs cells words n r .machine)
+
+  stays : (n : ℕ) (r : Run) → InFields (r .machine) → stops (r .machine) ≡ true → LeavesFields n r
+  stays n r x t = subst⁻¹ (λ (e : Run). InFields (e .machine)) (rests cells words n r t) x
+
+  runs-in-fields : (n : ℕ) (r : Run) → Fits cells interval places (r .machine) → InFields (r .machine) → LeavesFields n r
+  unfolding runs
+  runs-in-fields zero r s x = x
+  runs-in-fields (suc n) r s x =
+      let m = r .machine in
+      let k = nextPick m (r .slot) in
+      by-test (jobEnded m)
+      (λ e. stays (suc n) r x (rw e))
+      (λ e. by-test (ltb (m .work) workLimit)
+      (λ l. let a = next-ready m (r .slot) s e l in
+      let below : k < places = omega (arith, a .below, s .its-places) in
+      subst⁻¹ (λ (e : Run). InFields (e .machine)) (picks-next cells words n r (rw (e, l)))
+      (runs-in-fields n (pickedAt cells words k r) (issued-fits allowed words m k s below (a .runs) (a .below-limit))
+      (issued-in-fields cells words m k fit x allowed s below (a .runs) (a .below-limit))))
+      (λ l. stays (suc n) r x (rw (e, l))))
+
+module _ (cells : List ℕ) (words : List ℤ) (m : Machine) where
+  pub run-in-fields : (k budget : ℕ) → programNo cells ≡ 0 → shape cells m ≡ true → WordsInField words → InFields m
+      → InFields (runFrom cells words m k budget .machine)
+  run-in-fields k budget program shaped fit x =
+      runs-in-fields (shape-allowed cells m program shaped) words fit budget (record { machine = m; slot = k; picks = 0 })
+      (shape-fits cells m (x .sized) shaped) x
+
+  -- a refused run hands back the old state
+  pub outcome-in-fields : (budget : ℕ) → WordsInField words → InFields m → InFields (outcome cells words m budget .machine)
+  unfolding outcome
+  outcome-in-fields budget fit x =
+      by-test (eqb (stateNo cells words m) 0)
+      (λ t. let p = state-passes cells words m (eqb-true (stateNo cells words m) 0 t) in
+      rw t (run-in-fields 0 budget (p .program) (p .shaped) fit x))
+      (λ t. rw t x)

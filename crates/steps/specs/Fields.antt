@@ -1,0 +1,17 @@
+-- Integers within their field: the words of a call record, and the start registers.
+use mathlib.Core.List.{List}
+use Prim.Native.Nat.{ℕ}
+use lib.IntN.{ℤ, pos}
+use lib.ListN.{getD}
+use mir.Syntax.{w64}
+use mir.Val.{SFits}
+
+-- each has 64 bits
+abbrev pub IntegersInField : List ℤ → Type 0
+IntegersInField zs = (i : ℕ) → SFits w64 (getD zs i (pos 0))
+
+abbrev pub WordsInField : List ℤ → Type 0
+WordsInField words = IntegersInField words
+
+abbrev pub RegistersInField : List ℤ → Type 0
+RegistersInField registers = IntegersInField registers
