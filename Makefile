@@ -6,6 +6,7 @@
 # make bench      the engine's speed beside the model's
 # make soak       the long comparison of images: make soak IMAGES=.. SEED=..
 # make soak-jobs  the long comparison of jobs: make soak-jobs JOBS=.. SEED=..
+# make soak-steps the long comparison of jobs pick by pick: make soak-steps JOBS=.. SEED=..
 # make tools      installs gcc and cargo where they are missing, from Debian's packages
 
 # A program's text, and options of `tpasm job`.
@@ -25,7 +26,7 @@ assembler = rust/target/release/tpasm
 in_rust = --release --offline --manifest-path rust/Cargo.toml
 as_root = $(shell [ "$$(id -u)" -eq 0 ] || echo sudo -n)
 
-.PHONY: all run test rust-test c-test bench soak soak-jobs tools
+.PHONY: all run test rust-test c-test bench soak soak-jobs soak-steps tools
 .DELETE_ON_ERROR:
 
 all: tools $(archive) $(program)
@@ -67,3 +68,7 @@ soak: tools $(archive)
 
 soak-jobs: tools $(archive)
 	cargo run $(in_rust) --bin soak_jobs -- $(JOBS) $(SEED)
+
+soak-steps: JOBS = 100000
+soak-steps: tools $(archive)
+	cargo run $(in_rust) --bin soak_steps -- $(JOBS) $(SEED)

@@ -1,3 +1,8 @@
+pub mod Front
+pub mod Cells
+pub mod Answers
+pub mod StartAnswers
+pub mod LentAnswers
 pub mod StepFields
 pub mod SlotFields
 pub mod ShapeFields

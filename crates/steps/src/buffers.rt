@@ -1,7 +1,8 @@
 // Lent buffers of bytes: the cells of a program read and written, and the program's questions put to its bytes.
 ghost use mathlib.Core.Path.{_≡_};
-ghost use Prim.Native.Nat.{_+_, _*_, _≤_};
+ghost use Prim.Native.Nat.{_*_, _/_, _<_, _≤_};
 ghost use lib.ListN.{length};
+ghost use Rattle.image.specs.Layout.{programCells};
 ghost use Rattle.image.specs.Questions.{programNo};
 ghost use Rattle.state.specs.Numbers.{inBytes};
 ghost use Rattle.state.specs.Reading.{table, numberAt};
@@ -31,15 +32,30 @@ pub fn write_cells(cells: &[u64], out: &mut [u8])
     }
 }
 
-// The program's questions, 4 and 6 to 9, put to a buffer of any length: no question looks beyond the cells that a program buffer has.
+// How many cells are read of a program buffer of this length: those that are whole, as many as a program has room for.
+fn cells_in(length: usize) -> usize
+    ensures { λ r. ⌜ (r ≤ length / 8) × (r ≤ programCells) × (r < length / 8 → r ≡ programCells) ⌝ }
+{
+    if 5890 < length / 8 {
+        return 5890;
+    }
+    length / 8
+}
+
+// The program's questions put to the cells that go to the lent slice.
+fn ask_read(program: &[u8], cells: &mut [u64]) -> u8
+    requires { ⌜ 8 * length (now cells) ≤ length (now program) ⌝ }
+    ensures { λ r. ⌜ r ≡ programNo (table (λ i. numberAt (now (program .entry)) (8 * i)) (length (now (cells .entry)))) ⌝ }
+{
+    read_cells(program, cells);
+    image::questions::ask_program(cells)
+}
+
+// The program's questions, 4 and 6 to 9, put to a buffer of any length: no question looks beyond the cells that a program has room for.
 pub fn ask_cells(program: &[u8]) -> u8
     ensures { λ r. ⌜ r ≡ programNo (cellsOf (now (program .entry))) ⌝ }
 {
     let mut cells = [0u64; 5890];
-    let mut count = program.len() / 8;
-    if 5890 < count {
-        count = 5890;
-    }
-    read_cells(program, &mut cells[..count]);
-    image::questions::ask_program(&cells[..count])
+    let count = cells_in(program.len());
+    ask_read(program, &mut cells[..count])
 }

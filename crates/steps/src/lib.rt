@@ -1,3 +1,5 @@
-// The engine in steps, over bytes: programs read and written, a job started, picked and run on. Each function is what the export of its
-// name in `job` does.
+// The engine in steps, over bytes: programs read and written, a job started, picked and run on. `job` exports each.
 mod buffers;
+pub mod going;
+pub mod program;
+pub mod starting;

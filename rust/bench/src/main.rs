@@ -4,8 +4,9 @@
 //! faster. Both get the same bytes and run in turns in the same process, the model built for
 //! release. What the two come to is compared.
 //!
-//! A run is timed from the job's bytes to the report. Last comes how the time of a pick inside a run
-//! grows, with the number of picks and with P.
+//! A pick is timed from its buffers' bytes to the new state's, a run from the job's bytes to the
+//! report. Then comes the engine's run on a state's bytes beside its run of the same job's, and last
+//! how the time of a pick inside a run grows, with the number of picks and with P.
 
 mod jobs;
 mod timing;
@@ -47,45 +48,60 @@ fn compare_images() {
     assert!(models == image && engines == image);
 }
 
-/// The engine picks inside a replay only, so its time is that of a replay less that of one with an
-/// empty order. The program loops for ever, and the call record is the longest.
+/// A job's buffers, as its steps are lent them.
+struct Steps {
+    program: Vec<u8>,
+    words: Vec<u8>,
+    /// The first state.
+    state: Vec<u8>,
+}
+
+impl Steps {
+    fn of(job: &[u8]) -> Self {
+        let job = model::Job::parse(job).expect("the job is as laid out");
+        let mut program = vec![0; engine::PROGRAM_BYTES];
+        model::cells::write(&job.program, &mut program);
+        let words = job.words.iter().flat_map(|word| word.to_le_bytes());
+        Steps {
+            program,
+            words: words.collect(),
+            state: state::bytes(&job.start().expect("start accepts the job")),
+        }
+    }
+}
+
+type Pick = fn(&[u8], &[u8], u64, &mut [u8]) -> Result<(), u8>;
+
+/// A pick from bytes to bytes: the program, the call record and the state are read anew each time. The
+/// program loops for ever, and the call record is the longest.
 fn compare_picks() {
-    const ROUNDS: usize = 101;
-    const PICKS: u32 = 300;
+    const ROUNDS: usize = 201;
+    const CALLS: u32 = 40;
     let mut input = JobInput::new(checks::layout::even_blocks(128, 1024), 64, 0);
     input.words = vec![1; model::MAX_WORDS];
-    let bytes = input.bytes();
-    let job = model::Job::parse(&bytes).expect("the job is as laid out");
-    let mut machine = job.start().expect("start accepts the job");
-    let order = vec![0; PICKS as usize];
-    let mut engines = vec![0; engine::STATE_BYTES];
-    let mut replay = |order: &[u8]| {
-        let answer = engine::replay(black_box(&bytes), black_box(order), black_box(&mut engines));
-        assert_eq!(black_box(answer), 0);
+    let Steps {
+        program,
+        words,
+        state,
+    } = Steps::of(&input.bytes());
+    let mut models = state.clone();
+    let mut engines = state;
+    let pick = |function: Pick, state: &mut [u8]| {
+        let answer = function(black_box(&program), black_box(&words), 0, black_box(state));
+        assert!(black_box(answer).is_ok());
     };
-    let times = in_turns(
+    let times = calls_in_turns(
         ROUNDS,
-        || {
-            let pick = |_| {
-                let answer = machine.pick(black_box(&job.program), black_box(&job.words), 0);
-                assert!(black_box(answer).is_ok());
-            };
-            timed(|| (0..PICKS).for_each(pick)) / PICKS
-        },
-        || {
-            let start_alone = timed(|| replay(&[]));
-            let with_picks = timed(|| replay(&order));
-            with_picks.saturating_sub(start_alone) / PICKS
-        },
+        CALLS,
+        || pick(model::steps::pick, &mut models),
+        || pick(engine::pick, &mut engines),
     );
-    print("pick", "with all its questions, largest program", &times);
-
-    let mut beside = job.start().expect("start accepts the job");
-    for &slot in &order {
-        let answer = beside.pick(&job.program, &job.words, slot.into());
-        assert!(answer.is_ok() && beside.end().is_none());
-    }
-    assert!(engines == state::bytes(&beside));
+    print(
+        "pick",
+        "from bytes to bytes, with all its questions, largest program",
+        &times,
+    );
+    assert!(models == engines);
 }
 
 /// Times whole runs of a job that ends, from its bytes to its report.
@@ -137,6 +153,40 @@ fn compare_jobs() {
     assert!(text[..length as usize] == *model::job::text(&job, BUDGET).as_bytes());
 }
 
+/// The engine's run on a state's bytes beside its run of the same job from the job's bytes.
+fn print_run_beside_job_run(what: &str, job: &[u8]) {
+    const ROUNDS: usize = 21;
+    const PICKS: u64 = 1_000_000;
+    let steps = Steps::of(job);
+    let mut state = steps.state.clone();
+    let [mut of_state, mut of_job] = [[0; engine::REPORT_BYTES]; 2];
+    let times = in_turns(
+        ROUNDS,
+        || {
+            timed(|| {
+                assert!(engine::job_run(black_box(job), PICKS, black_box(&mut of_job)).is_ok())
+            })
+        },
+        || {
+            state.copy_from_slice(&steps.state);
+            let (program, words) = (black_box(&steps.program), black_box(&steps.words));
+            let (state, report) = (black_box(&mut state), black_box(&mut of_state));
+            timed(|| assert!(engine::run(program, words, PICKS, state, report).is_ok()))
+        },
+    );
+    // Both are spent after these picks.
+    assert!(of_state == of_job && checks::numbers::number_at(&of_job, 2) == PICKS);
+    println!(
+        "{:12} job {:11.2} µs, state {:10.2} µs: {} picks of {}, {:.3} times as long",
+        "run-state",
+        times.model * 1e6,
+        times.engine * 1e6,
+        PICKS,
+        what,
+        1.0 / times.ratio
+    );
+}
+
 /// A line of nanoseconds for each pick.
 fn print_growth(what: &str, rounds: usize, job: &[u8]) {
     let (times, report) = time_runs(rounds, job);
@@ -180,5 +230,8 @@ fn main() {
         &jobs::forks(picks),
     );
     compare_jobs();
+    print_run_beside_job_run("one task's loop, P 1", &jobs::serial(2 * picks));
+    print_run_beside_job_run("Figure 2, P 64", &jobs::figure2(2 * picks, 64));
+    print_run_beside_job_run("forks, P 64", &jobs::forks(2 * picks));
     print_growths();
 }

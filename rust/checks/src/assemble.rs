@@ -160,9 +160,25 @@ impl JobInput {
         bytes.extend(&self.image);
         bytes.push(self.places);
         bytes.extend(self.interval.to_le_bytes());
-        bytes.extend(self.registers.iter().flat_map(|r| r.to_le_bytes()));
+        bytes.extend(self.register_bytes());
         bytes.extend((self.words.len() as u16).to_le_bytes());
-        bytes.extend(self.words.iter().flat_map(|word| word.to_le_bytes()));
+        bytes.extend(self.word_bytes());
         bytes
+    }
+
+    /// The start registers as a start is lent them.
+    pub fn register_bytes(&self) -> Vec<u8> {
+        let registers = self.registers.iter();
+        registers
+            .flat_map(|register| register.to_le_bytes())
+            .collect()
+    }
+
+    /// The call record as start, pick and run are lent it.
+    pub fn word_bytes(&self) -> Vec<u8> {
+        self.words
+            .iter()
+            .flat_map(|word| word.to_le_bytes())
+            .collect()
     }
 }

@@ -32,8 +32,21 @@ fn check_image(trial: &mut Trial, image: &[u8]) -> Result<(), String> {
     let written = trial.put_good(&write)?;
     ensure!(written[0] == image, "the image is not written back");
     for _ in 0..2 {
-        trial.put_damaged(write.clone())?;
+        let answered = trial.put_damaged(write.clone())?;
+        if answered.number == 0 {
+            check_written(trial, &answered.written[0])?;
+        }
     }
+    Ok(())
+}
+
+/// An image that was written is read, and comes of what is read.
+fn check_written(trial: &mut Trial, image: &[u8]) -> Result<(), String> {
+    let program = trial.filled(PROGRAM_BYTES);
+    let read = trial.put_good(&Call::read(image, program))?;
+    let again = trial.filled(image.len());
+    let written = trial.put_good(&Call::write(&read[0], again))?;
+    ensure!(written[0] == image, "a written image is not written again");
     Ok(())
 }
 

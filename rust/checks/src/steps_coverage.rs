@@ -102,8 +102,8 @@ const RUNS: [&str; 7] = [
     "run of an ended job",
 ];
 
-/// What a number changed in a state is answered with. These may be taken.
-const TAKEN: [&str; 10] = [
+/// Numbers of a state that may be others alone; P, places and depth may not.
+const TAKEN: [&str; 12] = [
     "interval",
     "work",
     "status",
@@ -113,9 +113,10 @@ const TAKEN: [&str; 10] = [
     "span",
     "fork's continuation",
     "fork's depth",
+    "register's kind",
+    "register's first number",
     "register's second number",
 ];
-const TAKEN_REGISTERS: [&str; 2] = ["register's kind", "register's first number"];
 
 fn answers(door: Door, number: u8) -> String {
     format!("{:?} answers {:2}", door, number)
@@ -145,9 +146,8 @@ fn cell(field: &str, answer: &str) -> String {
     format!("cell {} changed: {}", field, answer)
 }
 
-/// Cells that may hold other numbers.
-const TAKEN_CELLS: [&str; 11] = [
-    "first",
+/// Cells that may hold other numbers. A block starts where the instructions before it say.
+const TAKEN_CELLS: [&str; 10] = [
     "annotation",
     "policy",
     "label",
@@ -184,8 +184,7 @@ impl Default for StepsCoverage {
         names.extend(AFTER_END.map(String::from));
         names.extend(NOT_RUNNING.map(String::from));
 
-        let taken = TAKEN.iter().chain(&TAKEN_REGISTERS);
-        names.extend(taken.map(|field| state_number(field, "taken")));
+        names.extend(TAKEN.map(|field| state_number(field, "taken")));
         names.extend(JOB_FIELDS.map(|field| state_number(field, "refused 20")));
         for field in SLOT_FIELDS {
             names.extend(SITTERS.map(|sitter| sitters_number(field, sitter)));
@@ -267,7 +266,10 @@ impl StepsCoverage {
             HALT if picks == budget => RUNS[3],
             HALT => RUNS[4],
             FAULT => RUNS[5],
-            _ => "run spent early",
+            _ => panic!(
+                "spent after {} of {} picks, with work {}",
+                picks, budget, work
+            ),
         });
     }
 

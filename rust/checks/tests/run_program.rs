@@ -1,52 +1,9 @@
-//! The run program, `target/bin/tpal_run`, on inputs with stored outputs.
+//! The run program, `target/bin/tpal_run`, on inputs with stored outputs, with the engine's job text
+//! and the model beside it.
 
 use checks::hand::{by_zero, endless, f, f_with, figure_2, long, outside, refused};
+use checks::run_program::{at_the_root, printed, printed_for, report};
 use std::fs;
-use std::io::{ErrorKind, Write};
-use std::path::PathBuf;
-use std::process::{Command, Stdio};
-use std::thread;
-use std::time::Duration;
-
-fn at_the_root(path: &str) -> PathBuf {
-    PathBuf::from(env!("CARGO_MANIFEST_DIR"))
-        .join("../..")
-        .join(path)
-}
-
-/// What the program prints for an input that comes in these parts, with a while between them. It
-/// has status 0 and says nothing else.
-fn printed_for(parts: Vec<Vec<u8>>) -> String {
-    let program = at_the_root("target/bin/tpal_run");
-    let mut child = Command::new(&program)
-        .stdin(Stdio::piped())
-        .stdout(Stdio::piped())
-        .stderr(Stdio::piped())
-        .spawn()
-        .unwrap_or_else(|error| panic!("{}: {}; run `make`", program.display(), error));
-    let mut stdin = child.stdin.take().expect("piped");
-    let writer = thread::spawn(move || {
-        for (number, part) in parts.iter().enumerate() {
-            if number > 0 {
-                thread::sleep(Duration::from_millis(20));
-            }
-            match stdin.write_all(part) {
-                // It need not read what is too long to the end.
-                Err(error) if error.kind() != ErrorKind::BrokenPipe => panic!("{}", error),
-                _ => {}
-            }
-        }
-    });
-    let output = child.wait_with_output().expect("the program ends");
-    writer.join().expect("the input is written");
-    assert!(output.status.success(), "{}", output.status);
-    assert_eq!(output.stderr, b"");
-    String::from_utf8(output.stdout).expect("text")
-}
-
-fn printed(input: &[u8]) -> String {
-    printed_for(vec![input.to_vec()])
-}
 
 fn stored(name: &str) -> String {
     let path = at_the_root("rust/checks/tests/data").join(name);
@@ -66,8 +23,7 @@ fn jobs_with_stored_outputs() {
         ("spent.txt", endless()),
     ];
     for (name, input) in jobs {
-        assert_eq!(printed(&input.bytes()), stored(name), "{}", name);
-        assert_eq!(model::job::report(&input.bytes()), stored(name), "{}", name);
+        assert_eq!(report(&input.bytes()), stored(name), "{}", name);
     }
 }
 

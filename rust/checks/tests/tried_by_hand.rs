@@ -1,26 +1,37 @@
-//! Document 01's 'Tried by hand' and document 02's examples, for machine, plain evaluation and run
-//! program.
+//! Document 01's 'Tried by hand' and document 02's examples: for the engine's start, picks and runs
+//! and the model's, for the plain evaluation, and for the run program with the engine's job text and
+//! the model's beside it.
 
 use checks::assemble::{halt, mov, op, Annotation, Assembly, JobInput, Operand};
 use checks::hand::{by_zero, f, f_with, figure_2, outside};
 use checks::layout::even_blocks;
+use checks::numbers::number_at;
 use checks::product::C;
-use model::job::report;
+use checks::report as reports;
+use checks::run_program::report;
+use checks::state;
+use engine::{PROGRAM_BYTES, REPORT_BYTES, STATE_BYTES};
+use model::job::Report;
 use model::opcode::{ADD, DIVIDE, LESS, REMAINDER};
 use model::plain::{evaluate, Evaluation};
 use model::{Answer, End, Job, Value};
 use Operand::{Int, Reg};
 
+/// Jobs with more work than this are run on the engine, but not picked: each pick puts all questions.
+const PICKED: u32 = 1_000;
+
 /// What the plain evaluation says, after the run and picks of the lowest and of the highest slot
-/// have come to the same.
+/// have come to the same, on the model and on the engine.
 fn outcome(input: &JobInput) -> Evaluation {
     let job = Job::parse(&input.bytes()).expect("the input is as laid out");
     let expected = evaluate(&job, 100_000).expect("the job ends");
+    let engine = Engine::new(input);
 
     let mut machine = job.start().expect("start accepts the job");
     let answer = machine.run(&job.program, &job.words, 100_000);
     assert_eq!(answer, Ok((Answer::Ended, expected.work.into())));
     assert_eq!(left_by(&machine), expected);
+    assert!(engine.run(&expected) == state::bytes(&machine));
 
     for highest in [false, true] {
         let mut machine = job.start().unwrap();
@@ -35,8 +46,81 @@ fn outcome(input: &JobInput) -> Evaluation {
             assert!(picked.is_some(), "some slot can be picked before the end");
         }
         assert_eq!(left_by(&machine), expected);
+        if expected.work <= PICKED {
+            assert!(engine.pick(highest) == state::bytes(&machine));
+        }
     }
     expected
+}
+
+/// A job started on the engine, by its exports.
+struct Engine {
+    places: u64,
+    program: Vec<u8>,
+    words: Vec<u8>,
+    fresh: Vec<u8>,
+}
+
+impl Engine {
+    fn new(input: &JobInput) -> Self {
+        let mut engine = Engine {
+            places: input.places.into(),
+            program: vec![0xa5; PROGRAM_BYTES],
+            words: input.word_bytes(),
+            fresh: vec![0xa5; STATE_BYTES],
+        };
+        let read = engine::program_read(&input.image, &mut engine.program);
+        assert_eq!(read, Ok(()));
+        let started = engine::start(
+            &engine.program,
+            engine.places,
+            input.interval.into(),
+            &input.register_bytes(),
+            &engine.words,
+            &mut engine.fresh,
+        );
+        assert_eq!(started, Ok(()));
+        engine
+    }
+
+    /// The state that a run to the end leaves, once its report is the expected one.
+    fn run(&self, expected: &Evaluation) -> Vec<u8> {
+        let mut state = self.fresh.clone();
+        let mut report = [0xa5; REPORT_BYTES];
+        let ran = engine::run(&self.program, &self.words, 100_000, &mut state, &mut report);
+        assert_eq!(ran, Ok(()));
+        let expected = Report {
+            end: Some(expected.end),
+            picks: expected.work.into(),
+            work: expected.work,
+            span: expected.span,
+            registers: expected.registers,
+        };
+        assert_eq!(report[..], reports::bytes(&expected)[..]);
+        state
+    }
+
+    /// The state that picks of the lowest or highest running task leave in the end.
+    fn pick(&self, highest: bool) -> Vec<u8> {
+        const RUNNING: u64 = 1;
+        let mut state = self.fresh.clone();
+        loop {
+            let status = |slot: &u64| number_at(&state, 3 + 67 * *slot as usize);
+            let mut running = (0..self.places).filter(|slot| status(slot) == RUNNING);
+            let slot = if highest {
+                running.next_back()
+            } else {
+                running.next()
+            };
+            match slot {
+                None => return state,
+                Some(slot) => {
+                    let picked = engine::pick(&self.program, &self.words, slot, &mut state);
+                    assert_eq!(picked, Ok(()));
+                }
+            }
+        }
+    }
 }
 
 fn left_by(machine: &model::Machine) -> Evaluation {

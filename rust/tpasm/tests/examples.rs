@@ -1,15 +1,12 @@
-//! Each program of examples/: assembled, run, and compared with the output beside it.
+//! Each program of examples/: assembled, run by the run program, the engine's job text and the model,
+//! and compared with the output beside it.
 
 use checks::replay::{compare, ReplayCase};
+use checks::run_program::RUN_PROGRAMS;
 use engine::STATE_BYTES;
 use std::fs;
 use std::path::{Path, PathBuf};
 use std::process::Command;
-
-/// Name, and what it prints for a job.
-type RunProgram = (&'static str, fn(&[u8]) -> String);
-
-const RUN_PROGRAMS: &[RunProgram] = &[("model", model::job::report)];
 
 /// A job of examples/: `NAME.out` is what it prints. Its source is the folder's, and `NAME.args`,
 /// where it stands, has the options of `tpasm job`.

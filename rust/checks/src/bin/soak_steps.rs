@@ -8,7 +8,7 @@ fn main() {
         name: "soak_steps",
         count: 100_000,
         cases: "jobs",
-        enough: 5_000,
+        enough: 20_000,
     };
     soak.run(checks::steps::run);
 }

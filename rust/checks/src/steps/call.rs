@@ -75,13 +75,18 @@ pub struct Answered {
     pub written: Vec<Vec<u8>>,
 }
 
+type ReadOrWrite = fn(&[u8], &mut [u8]) -> Result<(), u8>;
+type Start = fn(&[u8], u64, u64, &[u8], &[u8], &mut [u8]) -> Result<(), u8>;
+type Pick = fn(&[u8], &[u8], u64, &mut [u8]) -> Result<(), u8>;
+type Run = fn(&[u8], &[u8], u64, &mut [u8], &mut [u8]) -> Result<(), u8>;
+
 /// The five functions of one of the two.
 struct Functions {
-    read: fn(&[u8], &mut [u8]) -> Result<(), u8>,
-    write: fn(&[u8], &mut [u8]) -> Result<(), u8>,
-    start: fn(&[u8], u64, u64, &[u8], &[u8], &mut [u8]) -> Result<(), u8>,
-    pick: fn(&[u8], &[u8], u64, &mut [u8]) -> Result<(), u8>,
-    run: fn(&[u8], &[u8], u64, &mut [u8], &mut [u8]) -> Result<(), u8>,
+    read: ReadOrWrite,
+    write: ReadOrWrite,
+    start: Start,
+    pick: Pick,
+    run: Run,
 }
 
 const MODEL: Functions = Functions {

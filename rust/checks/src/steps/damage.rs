@@ -100,12 +100,25 @@ fn slot_field(at: usize) -> usize {
     }
 }
 
-/// The place in a slot of one of a field's numbers.
-fn slot_place(random: &mut Random, field: usize) -> usize {
+/// The index of one of a field's numbers in a slot. Of registers, those that hold no integer are as
+/// likely as all together.
+fn slot_index(random: &mut Random, state: &[u8], slot: usize, field: usize) -> usize {
+    let first = JOB_NUMBERS + SLOT_NUMBERS * slot;
     match field.checked_sub(FORKS_AT) {
-        None => field,
-        Some(part @ 0..=1) => FORKS_AT + 2 * random.below(MAX_DEPTH) + part,
-        Some(part) => REGISTERS_AT + 3 * random.below(REGISTERS) + part - 2,
+        None => first + field,
+        Some(part @ 0..=1) => first + FORKS_AT + 2 * random.below(MAX_DEPTH) + part,
+        Some(part) => {
+            let at = |register: usize| first + REGISTERS_AT + 3 * register;
+            let others: Vec<usize> = (0..REGISTERS)
+                .filter(|&register| number_at(state, at(register)) != 0)
+                .collect();
+            let register = if others.is_empty() || random.one_in(2) {
+                random.below(REGISTERS)
+            } else {
+                random.pick(&others)
+            };
+            at(register) + part - 2
+        }
     }
 }
 
@@ -173,7 +186,7 @@ pub fn damage_state(random: &mut Random, state: &mut [u8]) -> Damage {
         random.pick(&live)
     };
     let field = random.below(SLOT_FIELDS.len());
-    let index = JOB_NUMBERS + SLOT_NUMBERS * slot + slot_place(random, field);
+    let index = slot_index(random, state, slot, field);
     damage_number(random, state, index)
 }
 

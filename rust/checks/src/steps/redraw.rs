@@ -11,6 +11,7 @@ const WAITING: u64 = 2;
 const HALTED: u64 = 3;
 
 /// Places of a slot's numbers.
+const PLACES: usize = 2;
 const PROGRAM_COUNTER: usize = 3;
 const COUNTER: usize = 4;
 const SPAN: usize = 5;
@@ -29,14 +30,22 @@ fn depth(random: &mut Random) -> u64 {
     }
 }
 
-/// Draws anew what the shape test leaves open in each task: where it stands, what it has counted, and
-/// what its open forks and registers name.
+/// Draws anew what the shape test leaves open: the interval; of each task where it stands, what it has
+/// counted, and what its open forks and registers name; of a task that is alone its places.
 pub fn redraw(random: &mut Random, program: &Program, state: &mut [u8]) {
     let targets: Vec<u64> = (0..)
         .zip(&program.blocks)
         .filter(|(_, block)| block.is_join_target())
         .map(|(label, _)| label)
         .collect();
+    if random.one_in(2) {
+        set(state, 1, random.pick(&[0, 8, 9, 10, 20, 65_535]));
+    }
+    if number_at(state, JOB_NUMBERS + DEPTH) == 0 && random.one_in(2) {
+        let places = 1 << random.below(7);
+        set(state, 0, places);
+        set(state, JOB_NUMBERS + PLACES, places);
+    }
     let work = number_at(state, 2);
     let upto_work = |random: &mut Random| random.below(work as usize + 1) as u64;
     for status in [RUNNING, WAITING, HALTED] {

@@ -55,14 +55,14 @@ impl Trial<'_> {
     }
 
     /// Puts the call with something wrong.
-    pub(super) fn put_damaged(&mut self, mut call: Call) -> Result<(), String> {
+    pub(super) fn put_damaged(&mut self, mut call: Call) -> Result<Answered, String> {
         let door = call.door;
         let damages = damage(&mut self.random, &mut call);
         let answered = self
             .put(&call)
             .map_err(|what| format!("{}\nafter {:?}", what, damages))?;
         self.coverage.count_damage(door, &damages, answered.number);
-        Ok(())
+        Ok(answered)
     }
 
     /// Bytes for a buffer that is only written.
@@ -91,13 +91,7 @@ impl<'t, 'a> Walk<'t, 'a> {
         let program = trial.filled(PROGRAM_BYTES);
         let read = trial.put_good(&Call::read(&input.image, program))?;
         let program = read.into_iter().next().expect("one is written");
-        let bytes = |integers: &[i64]| -> Vec<u8> {
-            integers
-                .iter()
-                .flat_map(|word| word.to_le_bytes())
-                .collect()
-        };
-        let (registers, words) = (bytes(&input.registers), bytes(&input.words));
+        let (registers, words) = (input.register_bytes(), input.word_bytes());
         let numbers = [input.places.into(), input.interval.into()];
         let state = trial.filled(STATE_BYTES);
         let start = Call::start(&program, numbers, &registers, &words, state);
@@ -153,7 +147,8 @@ impl<'t, 'a> Walk<'t, 'a> {
             };
             order.push(slot.min(255) as u8);
             self.pick(slot)?;
-            if self.trial.random.one_in(5) {
+            // Ended states come once in a job.
+            if running.is_empty() || self.trial.random.one_in(5) {
                 self.beside()?;
             }
         }
@@ -213,7 +208,7 @@ impl<'t, 'a> Walk<'t, 'a> {
                     let budget = self.trial.random.below(40) as u64;
                     Call::run(program, words, budget, &state, report)
                 };
-                self.trial.put_damaged(call)
+                (0..6).try_for_each(|_| self.trial.put_damaged(call.clone()).map(|_| ()))
             }
             5 | 6 => {
                 let mut redrawn = state;
@@ -258,7 +253,7 @@ impl<'t, 'a> Walk<'t, 'a> {
             0 => (Budget::None, 0),
             1 => (Budget::One, 1),
             2 | 3 => (Budget::Few, random.between(2, 19) as u64),
-            4 if ends => (Budget::Greatest, u64::MAX),
+            4 if ends => (Budget::Greatest, greatest(random)),
             _ => (Budget::Many, random.between(20, 2_000) as u64),
         }
     }
@@ -296,8 +291,8 @@ impl<'t, 'a> Walk<'t, 'a> {
         if self.expected.is_none() {
             return Ok(());
         }
-        let (state, mut report) =
-            self.run(Kind::of(&state), &state, (Budget::Greatest, u64::MAX))?;
+        let budget = (Budget::Greatest, greatest(&mut self.trial.random));
+        let (state, mut report) = self.run(Kind::of(&state), &state, budget)?;
         if Kind::of(&self.state) == Kind::Ended {
             ensure!(state == self.state, "picks and runs leave different states");
         }
@@ -318,6 +313,11 @@ impl<'t, 'a> Walk<'t, 'a> {
         ensure!(state == self.state, "the replay leaves another state");
         Ok(())
     }
+}
+
+/// A budget that no work comes to, though it would if it were cut to size.
+fn greatest(random: &mut Random) -> u64 {
+    random.pick(&[u64::MAX, 1 << 32, 1 << 32 | 2, 1 << 63])
 }
 
 /// A number that is no slot's, though it would be if it were cut to size.

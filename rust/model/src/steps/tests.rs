@@ -7,7 +7,7 @@ use crate::{Program, WORK_LIMIT};
 
 const ZEROS: [u8; REGISTERS_BYTES] = [0; REGISTERS_BYTES];
 /// 4,097 words and a part of one.
-const MANY: [u8; 8 * 4097 + 1] = [0; 8 * 4097 + 1];
+static MANY: [u8; 8 * 4097 + 1] = [0; 8 * 4097 + 1];
 
 fn cells_of(program: &Program) -> Vec<u8> {
     let mut buffer = vec![0; cells::BYTES];

@@ -1,54 +1,51 @@
+-- `read_cells` meets its contract.
+use mathlib.Core.Path.{refl}
+use mathlib.Core.List.{List}
+use Prim.Native.Nat.{ℕ, _*_, _-_}
+use native.Mathlib.Omega.{arith}
+use lib.ListN.{length}
+use Rattle.state.specs.Reading.{numberAt}
+use Rattle.state.proofs.Filling.{Filled, filled-none, filled-more, filled-all}
 use Rattle.steps.proofs.buffers.read_cells.Statement.{statement}
 use Rattle.steps.proofs.buffers.read_cells.Tie as tie
-use Rattle.steps.proofs.buffers.read_cells.Reads as reads
-use Rattle.steps.proofs.buffers.read_cells.Lts as lts
-use Rattle.int64.proofs.read_u64.Reads as read-u64-reads
 
 abbrev Inv-loop : tie.InvT-loop
-Inv-loop bytes out₀ i₀ out i = ?
+Inv-loop bytes out₀ i₀ out i = Filled (λ (k : ℕ). numberAt bytes (8 * k)) (length out₀) i out
 
 abbrev μ-loop : tie.MeasureT-loop
-μ-loop bytes out₀ i₀ out i = ?
+μ-loop bytes out₀ i₀ out i = length out₀ - i
 
--- src/buffers.rt:16:5
 loop-holds : tie.Need-loop-holds Inv-loop μ-loop
-loop-holds c = ?
+loop-holds c = filled-none _ _ _ refl
 
--- src/buffers.rt:17:41
 mul-read-u64 : tie.Need-mul-read-u64 Inv-loop μ-loop
-mul-read-u64 c = ?
+mul-read-u64 c = omega (arith, c .before .loop .inv .in-all)
 
--- src/buffers.rt:17:18
 read-u64-requires : tie.Need-read-u64-requires Inv-loop μ-loop
-read-u64-requires c κs = ?
+read-u64-requires c κs = omega (arith, c .before .loop .inv .in-all)
 
--- src/buffers.rt:17:9
 mul-out : tie.Need-mul-out Inv-loop μ-loop
-mul-out c = ?
+mul-out c = omega arith
 
--- src/buffers.rt:17:9
 slice-write-out : tie.Need-slice-write-out Inv-loop μ-loop
-slice-write-out c = ?
+slice-write-out c = omega arith
 
--- src/buffers.rt:18:13
 add-i : tie.Need-add-i Inv-loop μ-loop
-add-i c = ?
+add-i c = omega arith
 
--- src/buffers.rt:16:5
 loop-less : tie.Need-loop-less Inv-loop μ-loop
-loop-less c = ?
+loop-less c = omega (arith, c .before .before .loop .inv .in-all)
 
--- src/buffers.rt:16:5
 loop-again : tie.Need-loop-again Inv-loop μ-loop
-loop-again c = ?
+loop-again c =
+    let l = c .before .before .loop in
+    filled-more _ _ (l .out) (l .i) _ (l .inv) (omega (arith, l .inv .in-all, c .before .loop-test .taken)) (c .read-u64 .ensures .equal)
 
--- src/buffers.rt:11:1
 same-length : tie.Need-same-length Inv-loop μ-loop
-same-length c = ?
+same-length c = c .before .loop .inv .in-all
 
--- src/buffers.rt:11:1
 returns : tie.Need-returns Inv-loop μ-loop
-returns c = ?
+returns c = let l = c .before .loop in filled-all _ _ (l .out) (l .i) (l .inv) (omega (arith, l .inv .in-all, c .loop-test .left))
 
 pub read-cells-spec : {M : Type 1} → statement M
 read-cells-spec =

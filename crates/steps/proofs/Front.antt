@@ -1,0 +1,111 @@
+-- The questions put to a program look at no cell beyond the first 5,890.
+use mathlib.Core.Path.{_≡_, refl, sym, ap, ap₂, _∙_}
+use mathlib.Core.Bool.{_||_}
+use mathlib.Core.List.{List}
+use Prim.Native.Nat.{ℕ, zero, suc, _+_, _*_, _-_, _<_, _≤_, min}
+use native.Mathlib.Omega.{arith}
+use lib.ListN.{length, getD, take, length-take}
+use lib.Seq.{getD-take}
+use lib.Dec.{eqb, leb}
+use borrow.Author.Tests.{leb-true, leb-false, le-leb, lt-leb, eqb-true, eqb-false}
+use Rattle.agreement.specs.Facts.{by-test}
+use Rattle.image.specs.Layout.{programCells, blockCount, instructionCount, blockOf, instructionOf}
+use Rattle.image.specs.Questions.{ask, orElse, firstNo, countsNo, blockRecordNo, blockNo, startsAt, lastInBlock, instructionRecordNo, instructionNo, recordsNo, programNo}
+use Rattle.image.proofs.Asked.{or-else-no, or-else-yes}
+use Rattle.image.proofs.Counts.{Counted, counted}
+
+-- ---- the same answers up to the first no
+
+-- the second answer counts only where the first is 0
+or-else-same : (a : ℕ) {b c : ℕ} → (a ≡ 0 → b ≡ c) → orElse a b ≡ orElse a c
+or-else-same a {b} {c} h =
+    by-test (eqb a 0)
+    (λ t. (let z = eqb-true a 0 t in or-else-yes a b z ∙ h z ∙ sym (or-else-yes a c z)))
+    (λ t. (let z = eqb-false a 0 t in or-else-no a b z ∙ sym (or-else-no a c z)))
+
+first-no-same : (f g : ℕ → ℕ) (n i : ℕ) → ((j : ℕ) → j < i + n → f j ≡ g j) → firstNo f n i ≡ firstNo g n i
+unfolding firstNo
+first-no-same f g zero i h = refl
+first-no-same f g (suc n) i h = ap₂ orElse (h i (omega arith)) (first-no-same f g n (i + 1) (λ j k. h j (omega arith)))
+
+-- ---- two buffers that agree in the cells of a program
+
+record SameFront (p q : List ℕ) : Type 0 where
+  cell : (i : ℕ) → i < programCells → getD p i 0 ≡ getD q i 0
+  stored : (n : ℕ) → n ≤ programCells → leb n (length p) ≡ leb n (length q)
+
+module _ (p q : List ℕ) (same : SameFront p q) where
+  blocks-same : blockCount p ≡ blockCount q
+  blocks-same = same .cell 0 (omega arith)
+
+  instructions-same : instructionCount p ≡ instructionCount q
+  instructions-same = same .cell 1 (omega arith)
+
+  block-same : (b : ℕ) → b < 128 → blockOf p b ≡ blockOf q b
+  block-same b h = λ j. record {
+    first = same .cell (2 + 6 * b) (omega arith) j;
+    annotation = same .cell (2 + 6 * b + 1) (omega arith) j;
+    policy = same .cell (2 + 6 * b + 2) (omega arith) j;
+    label = same .cell (2 + 6 * b + 3) (omega arith) j;
+    pairs = same .cell (2 + 6 * b + 4) (omega arith) j;
+    packed = same .cell (2 + 6 * b + 5) (omega arith) j;
+  }
+
+  instruction-same : (i : ℕ) → i < 1024 → instructionOf p i ≡ instructionOf q i
+  instruction-same i h = λ j. record {
+    opcode = same .cell (770 + 5 * i) (omega arith) j;
+    r = same .cell (770 + 5 * i + 1) (omega arith) j;
+    s = same .cell (770 + 5 * i + 2) (omega arith) j;
+    kind = same .cell (770 + 5 * i + 3) (omega arith) j;
+    operand = same .cell (770 + 5 * i + 4) (omega arith) j;
+  }
+
+  block-no-same : (b : ℕ) → b < 128 → blockNo p b ≡ blockNo q b
+  unfolding blockNo
+  block-no-same b h = λ j. ask (same .stored (2 + 6 * b + 6) (omega arith) j) 6
+      (blockRecordNo (blocks-same j) (instructions-same j) b (block-same (b - 1) (omega arith) j .first) (block-same b h j))
+
+  starts-at-same : (n i : ℕ) → n ≤ 128 → startsAt p n i ≡ startsAt q n i
+  unfolding startsAt
+  starts-at-same zero i h = refl
+  starts-at-same (suc n) i h = λ j. eqb (block-same n (omega arith) j .first) i || starts-at-same n i (omega arith) j
+
+  last-same : (i : ℕ) → blockCount p ≤ 128 → lastInBlock p i ≡ lastInBlock q i
+  unfolding lastInBlock
+  last-same i few =
+      ap₂ _||_ (ap (eqb (i + 1)) instructions-same)
+      (starts-at-same (blockCount p) (i + 1) few ∙ ap (λ (n : ℕ). startsAt q n (i + 1)) blocks-same)
+
+  instruction-no-same : (i : ℕ) → blockCount p ≤ 128 → i < 1024 → instructionNo p i ≡ instructionNo q i
+  unfolding instructionNo
+  instruction-no-same i few h = λ j. ask (same .stored (770 + 5 * i + 5) (omega arith) j) 8
+      (instructionRecordNo (blocks-same j) (last-same i few j) (instruction-same i h j))
+
+  records-same : Counted (blockCount p) (instructionCount p) → recordsNo p ≡ recordsNo q
+  unfolding recordsNo
+  records-same c =
+      ap₂ orElse
+      (first-no-same (blockNo p) (blockNo q) (blockCount p) 0 (λ b h. block-no-same b (omega arith))
+      ∙ ap (λ (n : ℕ). firstNo (blockNo q) n 0) blocks-same)
+      (first-no-same (instructionNo p) (instructionNo q) (instructionCount p) 0 (λ i h. instruction-no-same i (c .blocks-fit) (omega arith))
+      ∙ ap (λ (n : ℕ). firstNo (instructionNo q) n 0) instructions-same)
+
+  program-same : programNo p ≡ programNo q
+  unfolding programNo
+  program-same =
+      or-else-same (countsNo (blockCount p) (instructionCount p)) (λ z. records-same (counted (blockCount p) (instructionCount p) z))
+      ∙ ap (λ (n : ℕ). orElse n (recordsNo q)) (ap₂ countsNo blocks-same instructions-same)
+
+-- ---- a buffer and its front
+
+leb-min : (n m l : ℕ) → n ≤ m → leb n (min m l) ≡ leb n l
+leb-min n m l h =
+    by-test (leb n l)
+    (λ t. (le-leb n (min m l) (omega (arith, leb-true n l t)) ∙ sym t))
+    (λ t. (lt-leb n (min m l) (omega (arith, leb-false n l t)) ∙ sym t))
+
+pub front-same : (cells : List ℕ) → programNo (take programCells cells) ≡ programNo cells
+front-same cells = program-same (take programCells cells) cells record {
+  cell = λ i h. getD-take programCells cells i 0 h;
+  stored = λ n h. ap (leb n) (length-take programCells cells) ∙ leb-min n programCells (length cells) h;
+}
