@@ -13,6 +13,7 @@ ghost use Rattle.state.specs.State.{stateBytes};
 ghost use Rattle.job.specs.Job.{jobImage, wordCount, jobNo};
 ghost use Rattle.report.specs.Report.{reportBytes};
 ghost use Rattle.job.specs.Replay.{jobIn, replayNo, replayOf};
+ghost use Rattle.steps.specs.Calls.{readNo, programAfter, writtenNo, imageAfter, startedNo, stateAfterStart, pickedNo, stateAfterPick, ranNo, stateAfterRun, reportAfterRun};
 ghost use Rattle.job.specs.Run.{reportIn, runNo, textLength, textStored};
 
 // The image check: 0, or the number of the first question, 1 to 9, that is answered with no.
@@ -137,4 +138,66 @@ pub extern "C" fn tpal_job_text(job: &[u8], budget: u64, out: &mut [u8]) -> u64
     }
     let r = run_accepted(job, &cells, budget);
     report::text::write_text(r, out) as u64
+}
+
+// ---- A job in steps
+
+// Reads an image into a program buffer of 47,120 bytes (15). A refusal leaves `program` as it was.
+#[no_mangle]
+pub extern "C" fn tpal_program_read(image: &[u8], program: &mut [u8]) -> u8
+    ensures { λ r. ⌜ r ≡ readNo (now (image .entry)) (length (now (program .entry))) ⌝ }
+    ensures { λ _. ⌜ now (program .exit) ≡ programAfter (now (image .entry)) (now (program .entry)) ⌝ }
+{
+    steps::program::read_program(image, program)
+}
+
+// Writes a program buffer to an image of its length (15). A refusal leaves `image` as it was.
+#[no_mangle]
+pub extern "C" fn tpal_program_write(program: &[u8], image: &mut [u8]) -> u8
+    ensures { λ r. ⌜ r ≡ writtenNo (now (program .entry)) (length (now (image .entry))) ⌝ }
+    ensures { λ _. ⌜ now (image .exit) ≡ imageAfter (now (program .entry)) (now (image .entry)) ⌝ }
+{
+    steps::program::write_program(program, image)
+}
+
+// Starts a job: `state`, 34,328 bytes (15), then holds its state. A refusal leaves `state` as it was.
+#[no_mangle]
+pub extern "C" fn tpal_start(
+    program: &[u8],
+    places: u64,
+    interval: u64,
+    registers: &[u8],
+    words: &[u8],
+    state: &mut [u8],
+) -> u8
+    ensures { λ r. ⌜ r ≡ startedNo (now (program .entry)) places interval (now (registers .entry)) (now (words .entry)) (length (now (state .entry))) ⌝ }
+    ensures { λ _. ⌜ now (state .exit) ≡ stateAfterStart (now (program .entry)) places interval (now (registers .entry)) (now (words .entry)) (now (state .entry)) ⌝ }
+{
+    steps::starting::start(program, places, interval, registers, words, state)
+}
+
+// One pick of a slot on the state that the bytes stand for; they then are the new state's. A refusal leaves them as they were.
+#[no_mangle]
+pub extern "C" fn tpal_pick(program: &[u8], words: &[u8], slot: u64, state: &mut [u8]) -> u8
+    ensures { λ r. ⌜ r ≡ pickedNo (now (program .entry)) (now (words .entry)) slot (now (state .entry)) ⌝ }
+    ensures { λ _. ⌜ now (state .exit) ≡ stateAfterPick (now (program .entry)) (now (words .entry)) slot (now (state .entry)) ⌝ }
+{
+    steps::going::pick(program, words, slot, state)
+}
+
+// A run on the state that the bytes stand for; they then are the new state's, and `report`, 424 bytes (15), has this run's picks. A
+// refusal leaves both as they were.
+#[no_mangle]
+pub extern "C" fn tpal_run(
+    program: &[u8],
+    words: &[u8],
+    budget: u64,
+    state: &mut [u8],
+    report: &mut [u8],
+) -> u8
+    ensures { λ r. ⌜ r ≡ ranNo (now (program .entry)) (now (words .entry)) (now (state .entry)) (length (now (report .entry))) ⌝ }
+    ensures { λ _. ⌜ now (state .exit) ≡ stateAfterRun (now (program .entry)) (now (words .entry)) budget (now (state .entry)) (length (now (report .entry))) ⌝ }
+    ensures { λ _. ⌜ now (report .exit) ≡ reportAfterRun (now (program .entry)) (now (words .entry)) budget (now (state .entry)) (now (report .entry)) ⌝ }
+{
+    steps::going::run(program, words, budget, state, report)
 }
