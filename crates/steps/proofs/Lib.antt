@@ -9,3 +9,4 @@ pub mod ShapeFields
 pub mod PickFields
 pub mod OrderFields
 pub mod RunFields
+pub mod Orders

@@ -21,12 +21,12 @@ use Rattle.machine.proofs.ShapeLaws.{Fits, shape-allowed, shape-fits}
 use Rattle.machine.proofs.PickLaws.{issued-fits}
 use Rattle.machine.proofs.Picked.{pick-accepts}
 use Rattle.state.specs.Fields.{InFields}
-use Rattle.steps.specs.Fields.{WordsInField}
+use Rattle.steps.specs.Fields.{IntegersInField}
 use Rattle.steps.proofs.StepFields.{AllNarrow, Narrow, vacant-narrow, step-narrow, join-narrow}
 use Rattle.steps.proofs.SlotFields.{put-narrow, fields-narrow}
 use Rattle.steps.proofs.ShapeFields.{fits-in-fields}
 
-module _ (cells : List ℕ) (words : List ℤ) (m : Machine) (k : ℕ) (fit : WordsInField words) (x : InFields m) where
+module _ (cells : List ℕ) (words : List ℤ) (m : Machine) (k : ℕ) (fit : IntegersInField words) (x : InFields m) where
   issued-narrow : k < 64 → (i : ℕ) → Narrow (at (issued cells words m k) i)
   issued-narrow below =
       let leaves = step-narrow cells words (m .interval) (at m k) fit (x .tasks k below .depth) (fields-narrow m x k) in

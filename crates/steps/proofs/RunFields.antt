@@ -22,10 +22,10 @@ use Rattle.machine.proofs.Passing.{rests, picks-next}
 use Rattle.machine.proofs.Picked.{Ready, state-passes}
 use Rattle.orders.proofs.Shapes.{every-shape}
 use Rattle.state.specs.Fields.{InFields}
-use Rattle.steps.specs.Fields.{WordsInField}
+use Rattle.steps.specs.Fields.{IntegersInField}
 use Rattle.steps.proofs.PickFields.{issued-in-fields}
 
-module _ {cells : List ℕ} {interval places : ℕ} (allowed : Allowed cells interval places) (words : List ℤ) (fit : WordsInField words) where
+module _ {cells : List ℕ} {interval places : ℕ} (allowed : Allowed cells interval places) (words : List ℤ) (fit : IntegersInField words) where
   -- while the job has not ended, the next pick is of a running task
   next-ready : (m : Machine) (k : ℕ) → Fits cells interval places m → jobEnded m ≡ false → ltb (m .work) workLimit ≡ true → Ready m (nextPick m k)
   next-ready m k s unended room =
@@ -56,14 +56,14 @@ module _ {cells : List ℕ} {interval places : ℕ} (allowed : Allowed cells int
       (λ l. stays (suc n) r x (rw (e, l))))
 
 module _ (cells : List ℕ) (words : List ℤ) (m : Machine) where
-  pub run-in-fields : (k budget : ℕ) → programNo cells ≡ 0 → shape cells m ≡ true → WordsInField words → InFields m
+  pub run-in-fields : (k budget : ℕ) → programNo cells ≡ 0 → shape cells m ≡ true → IntegersInField words → InFields m
       → InFields (runFrom cells words m k budget .machine)
   run-in-fields k budget program shaped fit x =
       runs-in-fields (shape-allowed cells m program shaped) words fit budget (record { machine = m; slot = k; picks = 0 })
       (shape-fits cells m (x .sized) shaped) x
 
   -- a refused run hands back the old state
-  pub outcome-in-fields : (budget : ℕ) → WordsInField words → InFields m → InFields (outcome cells words m budget .machine)
+  pub outcome-in-fields : (budget : ℕ) → IntegersInField words → InFields m → InFields (outcome cells words m budget .machine)
   unfolding outcome
   outcome-in-fields budget fit x =
       by-test (eqb (stateNo cells words m) 0)

@@ -107,6 +107,14 @@ module _ (program : List ℕ) (places interval : ℕ) (registers words : List �
         go true q = clash (fits-then q) h
         go false q = refl
 
+  -- an accepted start: its own questions were answered with yes, and every length is right
+  pub start-accepted : startedNo program places interval registers words lent ≡ 0
+      → (startNo (cellsOf program) places interval (integersOf registers) (integersOf words) ≡ 0) × Fit program registers words lent
+  unfolding startedNo
+  start-accepted h =
+      let a = or-else-both first _ h in
+      (a .0, fit program registers words lent (fits-then (a .0) (ask-yes rest 14 0 (a .1) .0)))
+
   -- where all lengths are right, start's own questions decide
   pub start-whole : Fit program registers words lent → startedNo program places interval registers words lent ≡ startNo (cellsOf program) places interval (integersOf registers) (integersOf words)
   unfolding startedNo

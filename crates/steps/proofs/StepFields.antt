@@ -31,7 +31,7 @@ use Rattle.task.specs.Values.{integerOf, labelOf, recordOf, truth}
 use Rattle.task.specs.Step.{register, operand, counted, withTask, stored, faulted, asked, promotes, enteredBy, jumpedIf, side, metBy, carriedOut, step, copied, firstFault, joinedBy, join}
 use Rattle.task.specs.Step.{Op, move, plus, minus, times, divide, modulo, less, equal, word, ifJump, jralloc, fork, jump, halt, meet, unknown, opcodes}
 use Rattle.task.proofs.Facts.{set-keeps, constant-at}
-use Rattle.steps.specs.Fields.{IntegersInField, WordsInField}
+use Rattle.steps.specs.Fields.{IntegersInField}
 
 -- an integer of 64 bits, a record's depth of 32
 abbrev pub NarrowValue : Value → Type 0
@@ -55,7 +55,7 @@ pub zero-narrow : NarrowRegister zeroRegister
 zero-narrow = record { sfits = omega arith }
 
 -- bits read as signed, also more than 64 of them
-read-fits : (n : ℕ) → SFits w64 (toZ w64 n)
+pub read-fits : (n : ℕ) → SFits w64 (toZ w64 n)
 read-fits n = go (ltb n (2 ^ 63)) refl
   where
     go : (t : Bool) → ltb n (2 ^ 63) ≡ t → SFits w64 (toZ w64 n)
@@ -137,7 +137,7 @@ module _ (f : Frame) (n : Narrow f) where
     met-narrow true k = entered-narrow (promotes cells interval (k .continuation) (f .task .counter) (f .task .places)) (k .continuation)
     met-narrow false k = same-forks f _ n refl
 
-    module _ (words : List ℤ) (fit : WordsInField words) (shallow : f .task .depth < 2 ^ 32) (r : ℕ) (s v : Value) (ns : NarrowValue s)
+    module _ (words : List ℤ) (fit : IntegersInField words) (shallow : f .task .depth < 2 ^ 32) (r : ℕ) (s v : Value) (ns : NarrowValue s)
         (nv : NarrowValue v) where
       stores : (v : Value) → NarrowValue v → Narrow (stored r v f)
       stores v x = stored-narrow f r v n x
@@ -167,7 +167,7 @@ module _ (f : Frame) (n : Narrow f) where
       carried-narrow unknown = faulted-narrow f 8 n
 
 -- jralloc records the task's own depth
-pub step-narrow : (cells : List ℕ) (words : List ℤ) (interval : ℕ) (f : Frame) → WordsInField words → f .task .depth < 2 ^ 32 → Narrow f
+pub step-narrow : (cells : List ℕ) (words : List ℤ) (interval : ℕ) (f : Frame) → IntegersInField words → f .task .depth < 2 ^ 32 → Narrow f
     → AllNarrow (step cells words interval f)
 unfolding step
 step-narrow cells words interval f fit shallow n =

@@ -9,9 +9,3 @@ use mir.Val.{SFits}
 -- each has 64 bits
 abbrev pub IntegersInField : List ℤ → Type 0
 IntegersInField zs = (i : ℕ) → SFits w64 (getD zs i (pos 0))
-
-abbrev pub WordsInField : List ℤ → Type 0
-WordsInField words = IntegersInField words
-
-abbrev pub RegistersInField : List ℤ → Type 0
-RegistersInField registers = IntegersInField registers

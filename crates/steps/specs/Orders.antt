@@ -4,7 +4,6 @@ use mathlib.Core.Bool.{true}
 use mathlib.Core.List.{List, [], _∷_}
 use Prim.Native.Nat.{ℕ}
 use lib.ListN.{length}
-use Rattle.image.specs.RoundTrip.{Bytes}
 use Rattle.machine.specs.declared.Machine.{Machine}
 use Rattle.machine.specs.Starting.{empty}
 use Rattle.machine.specs.Picking.{pickNo}
@@ -58,10 +57,11 @@ pub record CallsAre (l : Lent) (state : List ℕ) (ks : List ℕ) : Type 0 where
   pub its-state : stateIn (afterPicks l (afterStart l state) ks) ≡ inOrder l ks
   pub stands : standsState (afterPicks l (afterStart l state) ks) ≡ true
   -- the next call answers as the next pick does
-  pub next-answer : (k : ℕ) → pickedNo (l .program) (l .words) k (afterPicks l (afterStart l state) ks) ≡ pickNo (cellsOf (l .program)) (integersOf (l .words)) (inOrder l ks) k
+  pub next-answer : (k : ℕ) → pickedNo (l .program) (l .words) k (afterPicks l (afterStart l state) ks)
+      ≡ pickNo (cellsOf (l .program)) (integersOf (l .words)) (inOrder l ks) k
   -- so demand 3 holds of them
   pub whatever-the-order : WhateverTheOrder (jobLent l) (startOn (jobLent l) (empty 0 0)) ks
 
--- for all bytes that start does not refuse, whatever the state's buffer held, and for every list of numbers as slots
+-- for everything that start does not refuse, whatever the state's buffer held, and for every list of numbers as slots
 abbrev pub CallsAreAnOrder : Type 0
-CallsAreAnOrder = (l : Lent) (state : List ℕ) → Bytes (l .registers) → Bytes (l .words) → startAnswer l state ≡ 0 → (ks : List ℕ) → CallsAre l state ks
+CallsAreAnOrder = (l : Lent) (state : List ℕ) → startAnswer l state ≡ 0 → (ks : List ℕ) → CallsAre l state ks

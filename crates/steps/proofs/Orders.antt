@@ -1,0 +1,84 @@
+-- A sequence of calls is an order of picks.
+use mathlib.Core.Path.{_≡_, refl, sym, ap, _∙_}
+use mathlib.Core.List.{List, [], _∷_}
+use Prim.Native.Nat.{ℕ, _*_, _%_, _≤_}
+use native.Mathlib.Omega.{arith}
+use lib.Dec.{eqb}
+use lib.ListN.{length}
+use borrow.Author.Tests.{eq-eqb, le-leb}
+use Rattle.agreement.specs.Facts.{by-test, true-both}
+use Rattle.image.specs.Doors.{unlessRefused}
+use Rattle.machine.specs.declared.Machine.{Machine}
+use Rattle.machine.specs.Starting.{empty}
+use Rattle.machine.specs.Picking.{pickNo, picked}
+use Rattle.orders.specs.Demand.{startOn, played}
+use Rattle.orders.proofs.Demand.{demand-3}
+use Rattle.state.specs.State.{stateLength, stateBytes}
+use Rattle.state.specs.Reading.{standsState, stateIn}
+use Rattle.state.specs.Fields.{InFields}
+use Rattle.state.proofs.StateLaws.{state-length}
+use Rattle.state.proofs.RoundTrip.{round-trip}
+use Rattle.steps.specs.Buffers.{wholes, cellsOf, integersOf, programBytes}
+use Rattle.steps.specs.Calls.{pickedNo, stateAfterPick}
+use Rattle.steps.specs.Orders.{Lent, jobLent, startAnswer, afterStart, afterPicks, inOrder, CallsAreAnOrder}
+use Rattle.steps.proofs.Answers.{left-accepted}
+use Rattle.steps.proofs.StartAnswers.{start-accepted}
+use Rattle.steps.proofs.LentAnswers.{Ready, when-ready, pick-ready}
+use Rattle.steps.proofs.OrderFields.{integers-in-field, fresh-in-fields, played-in-fields}
+use Rattle.steps.proofs.PickFields.{picked-in-fields}
+
+-- ---- One call of pick, on a buffer that holds a state's bytes
+
+module _ (program words : List ℕ) (whole : length program ≡ programBytes) (even : length words ≡ 8 * wholes words) (few : wholes words ≤ 4096) where
+  module _ (m : Machine) (fields : InFields m) where
+    ready : Ready program words (stateBytes m) (eqb (length (stateBytes m)) stateLength)
+    ready =
+        let none : length words % 8 ≡ 0 = omega arith in
+        let lengths = true-both (eq-eqb _ programBytes whole) (true-both (eq-eqb _ 0 none) (eq-eqb _ stateLength (state-length m))) in
+        when-ready program words (stateBytes m) (eqb (length (stateBytes m)) stateLength) _ _ refl refl
+        (true-both lengths (true-both (le-leb (wholes words) 4096 few) (round-trip .read-again m fields .0)))
+
+    pub same-answer : (k : ℕ) → pickedNo program words k (stateBytes m) ≡ pickNo (cellsOf program) (integersOf words) m k
+    same-answer k =
+        pick-ready program words (stateBytes m) k ready
+        ∙ ap (λ (n : Machine). pickNo (cellsOf program) (integersOf words) n k) (round-trip .read-again m fields .1)
+
+    pub same-bytes : (k : ℕ) → stateAfterPick program words k (stateBytes m) ≡ stateBytes (picked (cellsOf program) (integersOf words) m k)
+    unfolding unlessRefused
+    same-bytes k =
+        (λ i. unlessRefused (same-answer k i) (stateBytes (picked (cellsOf program) (integersOf words) (round-trip .read-again m fields .1 i) k)) (stateBytes m))
+        ∙ by-test (eqb (pickNo (cellsOf program) (integersOf words) m k) 0) (λ e. rw e) (λ e. rw e)
+
+-- ---- Calls one after the other
+
+module _ (l : Lent) (whole : length (l .program) ≡ programBytes) (even : length (l .words) ≡ 8 * wholes (l .words)) (few : wholes (l .words) ≤ 4096) where
+  pub picks-bytes : (ks : List ℕ) (m : Machine) → InFields m → afterPicks l (stateBytes m) ks ≡ stateBytes (played (jobLent l) m ks)
+  unfolding afterPicks played
+  picks-bytes [] m fields = refl
+  picks-bytes (k ∷ ks) m fields =
+      ap (λ (state : List ℕ). afterPicks l state ks) (same-bytes (l .program) (l .words) whole even few m fields k)
+      ∙ picks-bytes ks (picked (cellsOf (l .program)) (integersOf (l .words)) m k)
+      (picked-in-fields (cellsOf (l .program)) (integersOf (l .words)) m k (integers-in-field (l .words) 0 (wholes (l .words))) fields)
+
+pub calls-are-an-order : CallsAreAnOrder
+calls-are-an-order l state answer ks =
+    let registers = integers-in-field (l .registers) 0 (wholes (l .registers)) in
+    let words = integers-in-field (l .words) 0 (wholes (l .words)) in
+    let a = start-accepted (l .program) (l .places) (l .interval) (l .registers) (l .words) (length state) answer in
+    let f = a .1 in
+    let m = startOn (jobLent l) (empty 0 0) in
+    let fresh = fresh-in-fields (empty 0 0) (cellsOf (l .program)) (l .places) (l .interval) (integersOf (l .registers)) (integersOf (l .words)) (a .0) registers in
+    let fields = played-in-fields (jobLent l) words ks m fresh in
+    let bytes =
+    ap (λ (b : List ℕ). afterPicks l b ks) (left-accepted (startAnswer l state) (stateBytes m) state (afterStart l state) answer refl)
+    ∙ picks-bytes l (f .program-length) (f .words-whole) (f .words-few) ks m fresh in
+    let again = round-trip .read-again (inOrder l ks) fields in
+    record {
+      its-bytes = bytes;
+      its-state = ap stateIn bytes ∙ again .1;
+      stands = ap standsState bytes ∙ again .0;
+      next-answer =
+          λ k. ap (pickedNo (l .program) (l .words) k) bytes
+          ∙ same-answer (l .program) (l .words) (f .program-length) (f .words-whole) (f .words-few) (inOrder l ks) fields k;
+      whatever-the-order = demand-3 (jobLent l) (a .0) (empty 0 0) ks;
+    }
