@@ -1,5 +1,5 @@
 -- Questions put one after the other: the first no decides.
-use mathlib.Core.Path.{_≡_, refl, ap, _∙_}
+use mathlib.Core.Path.{_≡_, refl, sym, ap, ap₂, _∙_}
 use mathlib.Core.Bool.{Bool, true, false}
 use Prim.Native.Nat.{ℕ, zero, suc, _+_, _-_, _<_, _≤_}
 use native.Mathlib.Omega.{arith}
@@ -20,7 +20,8 @@ pub or-else-yes : (a b : ℕ) → a ≡ 0 → orElse a b ≡ b
 unfolding orElse
 or-else-yes a b h = rw (eq-eqb a 0 h)
 
-or-else-none : (a : ℕ) → orElse a 0 ≡ a
+-- nothing is asked after it
+pub or-else-none : (a : ℕ) → orElse a 0 ≡ a
 unfolding orElse
 or-else-none zero = refl
 or-else-none (suc a) = or-else-no (suc a) 0 (λ e. (omega arith))
@@ -30,7 +31,19 @@ unfolding orElse
 or-else-both zero b h = (refl, h)
 or-else-both (suc a) b h = absurd (omega (arith, or-else-no (suc a) b (λ e. (omega arith))))
 
+-- what is asked next counts only where the first answer was 0
+pub or-else-same : (a : ℕ) {b c : ℕ} → (a ≡ 0 → b ≡ c) → orElse a b ≡ orElse a c
+unfolding orElse
+or-else-same zero h = h refl
+or-else-same (suc a) {b} {c} h = or-else-no (suc a) b (λ e. omega arith) ∙ sym (or-else-no (suc a) c (λ e. omega arith))
+
 -- ---- the questions at i, i + 1, .., to - 1
+
+-- equal answers
+pub first-no-same : (f g : ℕ → ℕ) (n i : ℕ) → ((j : ℕ) → j < i + n → f j ≡ g j) → firstNo f n i ≡ firstNo g n i
+unfolding firstNo
+first-no-same f g zero i h = refl
+first-no-same f g (suc n) i h = ap₂ orElse (h i (omega arith)) (first-no-same f g n (i + 1) (λ j k. h j (omega arith)))
 
 less-one : (n : ℕ) → suc n - 1 ≡ n
 less-one n = omega arith

@@ -6,9 +6,9 @@ use Prim.Native.Nat.{ℕ, _+_, _*_, _/_, _%_, _^_, _<_}
 use native.Mathlib.Omega.{arith}
 use native.Mathlib.Nat.{zero-add}
 use lib.ListN.{length, getD}
-use borrow.Author.Tests.{ltb-true, eqb-true, eq-eqb}
+use borrow.Author.Tests.{eq-eqb}
 use lib.Dec.{eqb}
-use Rattle.agreement.specs.Facts.{both-true, true-both}
+use Rattle.agreement.specs.Facts.{true-both}
 use Rattle.image.specs.Layout.{rows}
 use Rattle.image.specs.RoundTrip.{Bytes, Cells}
 use Rattle.task.specs.declared.Value.{Value}
@@ -20,8 +20,9 @@ use Rattle.task.proofs.Facts.{every-at, every-from}
 use Rattle.machine.specs.declared.Machine.{Machine}
 use Rattle.state.specs.Numbers.{valueNumbers}
 use Rattle.state.specs.State.{taskNumbers, slotNumbers, stateNumbers, stateLength, stateBytes}
-use Rattle.state.specs.Reading.{table, numberAt, in16, in32, standsValue, registerIn, standsTask, taskIn, slotPlace, registerPlace, standsState, stateIn}
+use Rattle.state.specs.Reading.{table, numberAt, standsValue, registerIn, standsTask, taskIn, slotPlace, registerPlace, standsState, stateIn}
 use Rattle.state.specs.Fields.{ValueInField, TaskInFields, InFields}
+use Rattle.state.proofs.Rooms.{StateRoom, state-room}
 use Rattle.state.proofs.Laying.{length-inBytes, length-value}
 use Rattle.state.proofs.StateLaws.{length-task, length-slot, state-length}
 use Rattle.state.proofs.Tables.{length-table, getD-table, table-same, table-list, table-keeps}
@@ -131,27 +132,18 @@ module _ (m : Machine) (f : InFields m) where
 
 module _ (bytes : List ℕ) (small : Bytes bytes) (h : standsState bytes ≡ true) where
   -- the tests, taken apart
-  stood : (length bytes ≡ stateLength)
-      × (numberAt bytes 8 < 2 ^ 16)
-      × (numberAt bytes 16 < 2 ^ 32)
-      × ((k : ℕ) → k < 64 → standsTask bytes (slotPlace k) ≡ true)
-      × ((i : ℕ) → i < 1024 → standsValue bytes (registerPlace i) ≡ true)
-  unfolding standsState
-  stood =
-      let a = both-true (eqb (length bytes) stateLength) _ h in
-      let b = both-true (in16 (numberAt bytes 8)) _ (a .1) in
-      let c = both-true (in32 (numberAt bytes 16)) _ (b .1) in
-      let d = both-true (every (λ k. standsTask bytes (slotPlace k)) 64 0) (every (λ i. standsValue bytes (registerPlace i)) 1024 0) (c .1) in (
-        eqb-true (length bytes) stateLength (a .0),
-        ltb-true (numberAt bytes 8) (2 ^ 16) (b .0),
-        ltb-true (numberAt bytes 16) (2 ^ 32) (c .0),
-        λ k q. every-at (λ n. standsTask bytes (slotPlace n)) 64 0 (d .0) k (omega arith) (omega arith),
-        λ i q. every-at (λ n. standsValue bytes (registerPlace n)) 1024 0 (d .1) i (omega arith) (omega arith),
-      )
+  stood : StateRoom bytes
+  stood = state-room bytes h
+
+  task-stands-at : (k : ℕ) → k < 64 → standsTask bytes (slotPlace k) ≡ true
+  task-stands-at k q = every-at (λ n. standsTask bytes (slotPlace n)) 64 0 (stood .tasks) k (omega arith) (omega arith)
+
+  value-stands-at : (i : ℕ) → i < 1024 → standsValue bytes (registerPlace i) ≡ true
+  value-stands-at i q = every-at (λ n. standsValue bytes (registerPlace n)) 1024 0 (stood .bank) i (omega arith) (omega arith)
 
   abbrev register-stood : (i : ℕ) → i < 1024
       → ValueInField (registerIn bytes (registerPlace i) .value) × NumbersAt bytes (registerPlace i) (valueNumbers (registerIn bytes (registerPlace i) .value))
-  register-stood i q = register-back bytes (registerPlace i) small (stood .4 i q)
+  register-stood i q = register-back bytes (registerPlace i) small (value-stands-at i q)
 
   task-of : (k : ℕ) → k < 64 → taskIn bytes (slotPlace k) ≡ getD (stateIn bytes .tasks) k noTask
   unfolding stateIn
@@ -161,19 +153,19 @@ module _ (bytes : List ℕ) (small : Bytes bytes) (h : standsState bytes ≡ tru
   unfolding stateIn
   state-in-fields = record {
     places = number-below bytes small 0;
-    interval = stood .1;
-    work = stood .2;
+    interval = stood .interval;
+    work = stood .work;
     sized = record { of-bank = length-table (λ i. registerIn bytes (registerPlace i)) 1024; of-tasks = length-table (λ k. taskIn bytes (slotPlace k)) 64 };
     registers =
         table-keeps (λ (r : Register). ValueInField (r .value)) (λ i. registerIn bytes (registerPlace i)) 1024 zeroRegister
         (λ i q. register-stood i q .0)
         (record { sfits = omega arith });
-    tasks = λ k q. subst TaskInFields (task-of k q) (task-in-fields bytes (slotPlace k) small (stood .3 k q));
+    tasks = λ k q. subst TaskInFields (task-of k q) (task-in-fields bytes (slotPlace k) small (task-stands-at k q));
   }
 
   -- each part's numbers are those at its place
   task-there : (k : ℕ) → k < 64 → NumbersAt bytes (slotPlace k) (taskNumbers (getD (stateIn bytes .tasks) k noTask))
-  task-there k q = subst (λ (t : Task). NumbersAt bytes (slotPlace k) (taskNumbers t)) (task-of k q) (task-back bytes (slotPlace k) small (stood .3 k q))
+  task-there k q = subst (λ (t : Task). NumbersAt bytes (slotPlace k) (taskNumbers t)) (task-of k q) (task-back bytes (slotPlace k) small (task-stands-at k q))
 
   register-there : (k : ℕ) → k < 64 → (i : ℕ) → i < 16 → NumbersAt bytes (slotPlace k + 152 + 24 * i) (registers (stateIn bytes) k i)
   unfolding stateIn
@@ -208,5 +200,5 @@ module _ (bytes : List ℕ) (small : Bytes bytes) (h : standsState bytes ≡ tru
   pub state-back : stateBytes (stateIn bytes) ≡ bytes
   state-back =
       written-from bytes small (stateNumbers (stateIn bytes)) 0
-      (omega (arith, stood .0, state-length (stateIn bytes), length-inBytes (stateNumbers (stateIn bytes))))
+      (omega (arith, stood .whole, state-length (stateIn bytes), length-inBytes (stateNumbers (stateIn bytes))))
       state-there

@@ -8,8 +8,8 @@ use native.Mathlib.Omega.{arith}
 use native.Mathlib.Nat.{add-zero}
 use lib.ListN.{length, getD, drop}
 use lib.Dec.{ltb}
-use borrow.Author.Tests.{ltb-true, lt-ltb}
-use Rattle.agreement.specs.Facts.{both-true, true-both}
+use borrow.Author.Tests.{lt-ltb}
+use Rattle.agreement.specs.Facts.{true-both}
 use Rattle.image.specs.Layout.{rows}
 use Rattle.image.specs.RoundTrip.{Bytes, Cells}
 use Rattle.task.specs.declared.Value.{Value}
@@ -19,13 +19,14 @@ use Rattle.task.specs.Frames.{zeroFork}
 use Rattle.task.proofs.Facts.{every-at, every-from}
 use Rattle.state.specs.Numbers.{valueNumbers}
 use Rattle.state.specs.State.{statusNumber, faultNumber, forkNumbers, taskNumbers}
-use Rattle.state.specs.Reading.{table, numberAt, in16, in32, isStatus, statusOf, standsValue, registerIn, standsFork, forkIn, standsTask, taskIn}
+use Rattle.state.specs.Reading.{table, numberAt, isStatus, statusOf, standsValue, registerIn, standsFork, forkIn, standsTask, taskIn}
 use Rattle.state.specs.Fields.{ValueInField, ForkInField, TaskInFields}
 use Rattle.state.proofs.Tables.{length-table, getD-table, list-table, table-same, table-list, table-keeps}
 use Rattle.state.proofs.NumbersAt.{NumbersAt, number-below, numbersFrom, numbers-there, three-from, number-first, numbers-before, numbers-after}
 use Rattle.state.proofs.NumbersAt.{numbers-joined, numbers-row, numbers-rows, cells-each, cells-append, cells-rows}
 use Rattle.state.proofs.Alternatives.{value-again, value-back, status-again, status-back, status-below}
 use Rattle.state.proofs.Laying.{length-value}
+use Rattle.state.proofs.Rooms.{fork-room, TaskRoom, task-room}
 
 -- a task record's seven numbers before the forks
 abbrev head : Task → List ℕ
@@ -68,8 +69,7 @@ module _ (bytes : List ℕ) (at : ℕ) where
 
   fork-back : standsFork bytes at ≡ true → ForkInField (forkIn bytes at) × NumbersAt bytes at (forkNumbers (forkIn bytes at))
   fork-back h =
-      let t = both-true (in32 (numberAt bytes at)) (in32 (numberAt bytes (at + 8))) h in
-      ((ltb-true (numberAt bytes at) (2 ^ 32) (t .0), ltb-true (numberAt bytes (at + 8)) (2 ^ 32) (t .1)), subst (NumbersAt bytes at) two-from (numbers-there bytes at 2))
+      (fork-room bytes at h, subst (NumbersAt bytes at) two-from (numbers-there bytes at 2))
 
 -- ---- a task record
 
@@ -135,33 +135,24 @@ module _ (bytes : List ℕ) (at : ℕ) where
   -- written back
   module _ (small : Bytes bytes) (h : standsTask bytes at ≡ true) where
     -- the tests, taken apart
-    stood : (isStatus (numberAt bytes at) (numberAt bytes (at + 8)) ≡ true)
-        × (in16 (numberAt bytes (at + 24)) ≡ true)
-        × (in32 (numberAt bytes (at + 32)) ≡ true)
-        × (in32 (numberAt bytes (at + 40)) ≡ true)
-        × (in32 (numberAt bytes (at + 48)) ≡ true)
-        × ((i : ℕ) → i < 6 → standsFork bytes (at + 56 + 16 * i) ≡ true)
-    unfolding standsTask
-    stood =
-        let a = both-true (isStatus (numberAt bytes at) (numberAt bytes (at + 8))) _ h in
-        let b = both-true (in16 (numberAt bytes (at + 24))) _ (a .1) in
-        let c = both-true (in32 (numberAt bytes (at + 32))) _ (b .1) in
-        let d = both-true (in32 (numberAt bytes (at + 40))) _ (c .1) in
-        let e = both-true (in32 (numberAt bytes (at + 48))) _ (d .1) in
-        (a .0, b .0, c .0, d .0, e .0, λ i q. every-at (λ k. standsFork bytes (at + 56 + 16 * k)) 6 0 (e .1) i (omega arith) (omega arith))
+    stood : TaskRoom bytes at
+    stood = task-room bytes at h
+
+    fork-stands : (i : ℕ) → i < 6 → standsFork bytes (at + 56 + 16 * i) ≡ true
+    fork-stands i q = every-at (λ k. standsFork bytes (at + 56 + 16 * k)) 6 0 (stood .forks) i (omega arith) (omega arith)
 
     abbrev fork-stood : (i : ℕ) → i < 6 → ForkInField (forkIn bytes (at + 56 + 16 * i)) × NumbersAt bytes (at + 56 + 16 * i) (forkNumbers (forkIn bytes (at + 56 + 16 * i)))
-    fork-stood i q = fork-back bytes (at + 56 + 16 * i) (stood .5 i q)
+    fork-stood i q = fork-back bytes (at + 56 + 16 * i) (fork-stands i q)
 
     pub task-in-fields : TaskInFields (taskIn bytes at)
     unfolding taskIn
     task-in-fields = record {
-      fault = let s = status-back (numberAt bytes at) (numberAt bytes (at + 8)) (stood .0) in rw (s .1) (s .2);
+      fault = let s = status-back (numberAt bytes at) (numberAt bytes (at + 8)) (stood .status) in rw (s .1) (s .2);
       places = number-below bytes small (at + 16);
-      pc = ltb-true (numberAt bytes (at + 24)) (2 ^ 16) (stood .1);
-      counter = ltb-true (numberAt bytes (at + 32)) (2 ^ 32) (stood .2);
-      span = ltb-true (numberAt bytes (at + 40)) (2 ^ 32) (stood .3);
-      depth = ltb-true (numberAt bytes (at + 48)) (2 ^ 32) (stood .4);
+      pc = stood .pc;
+      counter = stood .counter;
+      span = stood .span;
+      depth = stood .depth;
       six-forks = length-table (λ i. forkIn bytes (at + 56 + 16 * i)) 6;
       forks = table-keeps ForkInField (λ i. forkIn bytes (at + 56 + 16 * i)) 6 zeroFork (λ i q. fork-stood i q .0) (omega arith);
     }
@@ -176,7 +167,7 @@ module _ (bytes : List ℕ) (at : ℕ) where
     head-there : NumbersAt bytes at (head (taskIn bytes at))
     unfolding taskIn
     head-there =
-        let s = status-back (numberAt bytes at) (numberAt bytes (at + 8)) (stood .0) in
+        let s = status-back (numberAt bytes at) (numberAt bytes (at + 8)) (stood .status) in
         subst (NumbersAt bytes at)
         (seven-from ∙ ap₂ (λ (m n : ℕ). m ∷ n ∷ drop 2 (head (taskIn bytes at))) (sym (s .0)) (sym (s .1)))
         (numbers-there bytes at 7)

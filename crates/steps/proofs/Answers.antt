@@ -2,7 +2,7 @@
 use mathlib.Core.Path.{_≡_, refl, sym, ap, _∙_}
 use mathlib.Core.Bool.{Bool, true, false}
 use mathlib.Core.List.{List}
-use Prim.Native.Nat.{ℕ, zero, suc, _%_}
+use Prim.Native.Nat.{ℕ, _%_}
 use native.Mathlib.Omega.{arith}
 use lib.Dec.{eqb}
 use lib.ListN.{length}
@@ -11,7 +11,7 @@ use Rattle.image.specs.Layout.{programCells, blockCount, instructionCount, imag
 use Rattle.image.specs.Questions.{ask, orElse, programNo}
 use Rattle.image.specs.Doors as doors
 use Rattle.image.specs.Doors.{imageNo, writeNo, unlessRefused}
-use Rattle.image.proofs.Asked.{or-else-no, or-else-yes}
+use Rattle.image.proofs.Asked.{or-else-no, or-else-yes, or-else-none}
 use Rattle.state.proofs.Tables.{length-table}
 use Rattle.steps.specs.Buffers.{wholes, isWhole, cellsOf, programBytes}
 use Rattle.steps.specs.Calls.{readNo, writtenNo, imageAfter}
@@ -31,12 +31,6 @@ pub left-accepted : {A : Type 0} (r : ℕ) (new old after : A) → r ≡ 0 → a
 unfolding unlessRefused
 left-accepted r new old after e h = h ∙ rw (eq-eqb r 0 e)
 
--- nothing is asked after it
-pub or-else-nothing : (a : ℕ) → orElse a 0 ≡ a
-unfolding orElse
-or-else-nothing zero = refl
-or-else-nothing (suc a) = or-else-no (suc a) 0 (λ e. omega arith)
-
 -- 15 asked twice, where not both can be answered with yes
 fifteen : (s u t : Bool) → (s ≡ true → t ≡ true → ⊥) → orElse (ask s 15 (ask u 15 0)) (ask t 15 0) ≡ 15
 unfolding orElse
@@ -50,7 +44,7 @@ fifteen false u t n = refl
 module _ (image : List ℕ) (lent r : ℕ) (answer : r ≡ doors.readNo image programCells) where
   asked-image : r ≡ imageNo image
   unfolding doors.readNo
-  asked-image = answer ∙ or-else-nothing (imageNo image)
+  asked-image = answer ∙ or-else-none (imageNo image)
 
   pub read-refused : (r ≡ 0 → ⊥) → r ≡ readNo image lent
   unfolding readNo
@@ -101,7 +95,7 @@ module _ (program : List ℕ) (lent : ℕ) where
   unfolding writtenNo
   write-whole e =
       let none : length program % 8 ≡ 0 = omega arith in
-      sym (rw (eq-eqb (length program % 8) 0 none) (or-else-nothing (writeNo cells lent)))
+      sym (rw (eq-eqb (length program % 8) 0 none) (or-else-none (writeNo cells lent)))
 
 -- the writer's answer, to the cells that were read
 pub write-answered : (program read image after : List ℕ) (r : ℕ) → length program ≡ programBytes → read ≡ cellsOf program

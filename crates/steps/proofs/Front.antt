@@ -7,26 +7,12 @@ use native.Mathlib.Omega.{arith}
 use lib.ListN.{length, getD, take, length-take}
 use lib.Seq.{getD-take}
 use lib.Dec.{eqb, leb}
-use borrow.Author.Tests.{leb-true, leb-false, le-leb, lt-leb, eqb-true, eqb-false}
+use borrow.Author.Tests.{leb-true, leb-false, le-leb, lt-leb}
 use Rattle.agreement.specs.Facts.{by-test}
 use Rattle.image.specs.Layout.{programCells, blockCount, instructionCount, blockOf, instructionOf}
 use Rattle.image.specs.Questions.{ask, orElse, firstNo, countsNo, blockRecordNo, blockNo, startsAt, lastInBlock, instructionRecordNo, instructionNo, recordsNo, programNo}
-use Rattle.image.proofs.Asked.{or-else-no, or-else-yes}
+use Rattle.image.proofs.Asked.{or-else-same, first-no-same}
 use Rattle.image.proofs.Counts.{Counted, counted}
-
--- ---- the same answers up to the first no
-
--- the second answer counts only where the first is 0
-or-else-same : (a : ℕ) {b c : ℕ} → (a ≡ 0 → b ≡ c) → orElse a b ≡ orElse a c
-or-else-same a {b} {c} h =
-    by-test (eqb a 0)
-    (λ t. (let z = eqb-true a 0 t in or-else-yes a b z ∙ h z ∙ sym (or-else-yes a c z)))
-    (λ t. (let z = eqb-false a 0 t in or-else-no a b z ∙ sym (or-else-no a c z)))
-
-first-no-same : (f g : ℕ → ℕ) (n i : ℕ) → ((j : ℕ) → j < i + n → f j ≡ g j) → firstNo f n i ≡ firstNo g n i
-unfolding firstNo
-first-no-same f g zero i h = refl
-first-no-same f g (suc n) i h = ap₂ orElse (h i (omega arith)) (first-no-same f g n (i + 1) (λ j k. h j (omega arith)))
 
 -- ---- two buffers that agree in the cells of a program
 

@@ -10,7 +10,7 @@ use lib.ListN.{length}
 use borrow.Author.Tests.{leb-true, eqb-true, ne-eqb}
 use Rattle.agreement.specs.Facts.{both-true}
 use Rattle.image.specs.Questions.{ask, orElse, programNo}
-use Rattle.image.proofs.Asked.{or-else-no, or-else-both}
+use Rattle.image.proofs.Asked.{or-else-no, or-else-both, or-else-none}
 use Rattle.image.proofs.Booleans.{clash}
 use Rattle.machine.specs.declared.Machine.{Machine}
 use Rattle.machine.specs.declared.Outcome.{Outcome}
@@ -21,7 +21,6 @@ use Rattle.state.specs.State.{stateLength}
 use Rattle.state.specs.Reading.{standsState, stateIn}
 use Rattle.steps.specs.Buffers.{wholes, isWhole, cellsOf, integersOf, programBytes}
 use Rattle.steps.specs.Calls.{lentNo, pickedNo, ranNo, runOutcome}
-use Rattle.steps.proofs.Answers.{or-else-nothing}
 
 -- a question asked a second time
 asked-again : (p x : ℕ) → orElse p (orElse p x) ≡ orElse p x
@@ -68,7 +67,7 @@ module _ (program words state : List ℕ) (others : Bool) where
           words-few = leb-true _ 4096 (b .0);
           stands = b .1;
           others-fit = q .1;
-          left = rw (b .0, a .0, b .1) (or-else-nothing (programNo (cellsOf program)));
+          left = rw (b .0, a .0, b .1) (or-else-none (programNo (cellsOf program)));
         }
 
     -- the refusal where it is not

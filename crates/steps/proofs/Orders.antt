@@ -1,5 +1,6 @@
--- A sequence of calls is an order of picks.
-use mathlib.Core.Path.{_≡_, refl, sym, ap, _∙_}
+-- A sequence of calls is an order of picks; and any bytes that stand for a state can be gone on with.
+use mathlib.Core.Path.{_≡_, refl, ap, _∙_}
+use mathlib.Core.Bool.{true}
 use mathlib.Core.List.{List, [], _∷_}
 use Prim.Native.Nat.{ℕ, _*_, _%_, _≤_}
 use native.Mathlib.Omega.{arith}
@@ -19,13 +20,14 @@ use Rattle.state.specs.Fields.{InFields}
 use Rattle.state.proofs.StateLaws.{state-length}
 use Rattle.state.proofs.RoundTrip.{round-trip}
 use Rattle.steps.specs.Buffers.{wholes, cellsOf, integersOf, programBytes}
-use Rattle.steps.specs.Calls.{pickedNo, stateAfterPick}
-use Rattle.steps.specs.Orders.{Lent, jobLent, startAnswer, afterStart, afterPicks, inOrder, CallsAreAnOrder}
+use Rattle.steps.specs.Calls.{pickedNo, stateAfterPick, ranNo}
+use Rattle.steps.specs.Orders.{Lent, jobLent, startAnswer, afterStart, afterPicks, inOrder, CallsAreAnOrder, EveryBufferGoesOn}
 use Rattle.steps.proofs.Answers.{left-accepted}
 use Rattle.steps.proofs.StartAnswers.{start-accepted}
 use Rattle.steps.proofs.LentAnswers.{Ready, when-ready, pick-ready}
 use Rattle.steps.proofs.OrderFields.{integers-in-field, fresh-in-fields, played-in-fields}
 use Rattle.steps.proofs.PickFields.{picked-in-fields}
+use Rattle.steps.proofs.RunFields.{outcome-in-fields}
 
 -- ---- One call of pick, on a buffer that holds a state's bytes
 
@@ -82,3 +84,23 @@ calls-are-an-order l state answer ks =
           ∙ same-answer (l .program) (l .words) (f .program-length) (f .words-whole) (f .words-few) (inOrder l ks) fields k;
       whatever-the-order = demand-3 (jobLent l) (a .0) (empty 0 0) ks;
     }
+
+-- ---- From any bytes that stand for a state
+
+pub every-buffer-goes-on : EveryBufferGoesOn
+every-buffer-goes-on program words state small stands =
+    let fields = round-trip .written-back state small stands .0 in
+    let held = integers-in-field words 0 (wholes words) in
+    record {
+      after-pick =
+          λ k accepted. after (pickedNo program words k state) _ accepted (picked-in-fields (cellsOf program) (integersOf words) (stateIn state) k held fields);
+      after-run =
+          λ budget report accepted. after (ranNo program words state report) _ accepted (outcome-in-fields (cellsOf program) (integersOf words) (stateIn state) budget held fields);
+    }
+  where
+    after : (answer : ℕ) (m : Machine) → answer ≡ 0 → InFields m
+        → (standsState (unlessRefused answer (stateBytes m) state) ≡ true) × (stateIn (unlessRefused answer (stateBytes m) state) ≡ m)
+    after answer m accepted fields =
+        let e = left-accepted answer (stateBytes m) state _ accepted refl in
+        let again = round-trip .read-again m fields in
+        (ap standsState e ∙ again .0, ap stateIn e ∙ again .1)

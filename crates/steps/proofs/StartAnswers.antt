@@ -11,7 +11,7 @@ use borrow.Author.Tests.{eq-eqb, le-leb, leb-true, eqb-true}
 use Rattle.agreement.specs.Facts.{both-true, true-both}
 use Rattle.image.specs.Layout.{programCells}
 use Rattle.image.specs.Questions.{ask, orElse, programNo}
-use Rattle.image.proofs.Asked.{ask-yes, or-else-no, or-else-yes, or-else-both}
+use Rattle.image.proofs.Asked.{ask-yes, or-else-no, or-else-yes, or-else-both, or-else-none}
 use Rattle.image.proofs.Booleans.{clash}
 use Rattle.machine.specs.declared.Machine.{Machine}
 use Rattle.machine.specs.Starting.{placesAllowed, intervalAllowed, startNoBy, startNo, started, empty}
@@ -19,7 +19,7 @@ use Rattle.state.specs.State.{stateLength}
 use Rattle.state.proofs.Integers.{length-integers}
 use Rattle.steps.specs.Buffers.{wholes, isWhole, cellsOf, integersOf, programBytes}
 use Rattle.steps.specs.Calls.{startedNo, startState}
-use Rattle.steps.proofs.Answers.{or-else-nothing, count-cells}
+use Rattle.steps.proofs.Answers.{count-cells}
 
 -- the lengths that the code asks for at once
 abbrev pub fits : ℕ → ℕ → ℕ → ℕ → Bool
@@ -124,7 +124,7 @@ module _ (program : List ℕ) (places interval : ℕ) (registers words : List �
       let c : length words % 8 ≡ 0 = omega (arith, f .words-whole) in
       ap (λ (t : Bool). orElse first (ask t 15 0))
       (true-both (eq-eqb _ 0 a) (true-both (eq-eqb _ 0 b) (true-both (eq-eqb _ 0 c) (eq-eqb _ stateLength (f .lent-length)))))
-      ∙ or-else-nothing first
+      ∙ or-else-none first
 
 -- start's answer, to what was read
 pub start-answered : (program : List ℕ) (places interval : ℕ) (registers words : List ℕ) (answer : ℕ) (m blank : Machine) (cells : List ℕ) (first held : List ℤ)

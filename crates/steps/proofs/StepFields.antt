@@ -31,6 +31,7 @@ use Rattle.task.specs.Values.{integerOf, labelOf, recordOf, truth}
 use Rattle.task.specs.Step.{register, operand, counted, withTask, stored, faulted, asked, promotes, enteredBy, jumpedIf, side, metBy, carriedOut, step, copied, firstFault, joinedBy, join}
 use Rattle.task.specs.Step.{Op, move, plus, minus, times, divide, modulo, less, equal, word, ifJump, jralloc, fork, jump, halt, meet, unknown, opcodes}
 use Rattle.task.proofs.Facts.{set-keeps, constant-at}
+use Rattle.task.proofs.JoinKeeps.{copied-keeps}
 use Rattle.steps.specs.Fields.{IntegersInField}
 
 -- an integer of 64 bits, a record's depth of 32
@@ -177,14 +178,6 @@ step-narrow cells words interval f fit shallow n =
 
 -- ---- a join
 
-copied-narrow : (child : List Register) → ((i : ℕ) → NarrowRegister (getD child i zeroRegister)) → (n packed : ℕ) (l : List Register)
-    → ((i : ℕ) → NarrowRegister (getD l i zeroRegister)) → (i : ℕ) → NarrowRegister (getD (copied child n packed l) i zeroRegister)
-unfolding copied
-copied-narrow child of-child zero packed l before i = before i
-copied-narrow child of-child (suc n) packed l before i =
-    copied-narrow child of-child n (packed / 256) _
-    (λ i. set-keeps NarrowRegister l (packed % 16) i (getD child (packed / 16 % 16) zeroRegister) zeroRegister (of-child (packed / 16 % 16)) (before i)) i
-
 pub join-narrow : (cells : List ℕ) (p c : Frame) → Narrow p → Narrow c → Narrow (join cells p c)
 unfolding join
 join-narrow cells p c x y = go (firstFault (faultOf (p .task .status)) (faultOf (c .task .status)))
@@ -196,7 +189,7 @@ join-narrow cells p c x y = go (firstFault (faultOf (p .task .status)) (faultOf 
     b = getD (p .task .forks) (p .task .depth - 1) zeroFork .continuation
 
     go : (o : Option ℕ) → Narrow (joinedBy o cells b p c)
-    go none = record { values = copied-narrow (c .registers) (y .values) _ _ (p .registers) (x .values); forks = closed }
+    go none = record { values = copied-keeps NarrowRegister (c .registers) (y .values) _ _ (p .registers) (x .values); forks = closed }
     go (some k) = record { values = zeros-narrow; forks = closed }
 
 -- ---- the fixed frames

@@ -4,14 +4,15 @@ use mathlib.Core.Bool.{true}
 use mathlib.Core.List.{List, [], _∷_}
 use Prim.Native.Nat.{ℕ}
 use lib.ListN.{length}
+use Rattle.image.specs.RoundTrip.{Bytes}
 use Rattle.machine.specs.declared.Machine.{Machine}
 use Rattle.machine.specs.Starting.{empty}
-use Rattle.machine.specs.Picking.{pickNo}
+use Rattle.machine.specs.Picking.{pickNo, picked}
 use Rattle.orders.specs.Demand.{Job, WhateverTheOrder, startOn, played}
 use Rattle.state.specs.State.{stateBytes}
 use Rattle.state.specs.Reading.{standsState, stateIn}
 use Rattle.steps.specs.Buffers.{cellsOf, integersOf}
-use Rattle.steps.specs.Calls.{startedNo, stateAfterStart, pickedNo, stateAfterPick}
+use Rattle.steps.specs.Calls.{startedNo, stateAfterStart, pickedNo, stateAfterPick, ranNo, runOutcome, stateAfterRun}
 
 -- what start is lent and given; every pick gets the same program and words
 pub record Lent : Type 0 where
@@ -65,3 +66,16 @@ pub record CallsAre (l : Lent) (state : List ℕ) (ks : List ℕ) : Type 0 where
 -- for everything that start does not refuse, whatever the state's buffer held, and for every list of numbers as slots
 abbrev pub CallsAreAnOrder : Type 0
 CallsAreAnOrder = (l : Lent) (state : List ℕ) → startAnswer l state ≡ 0 → (ks : List ℕ) → CallsAre l state ks
+
+-- ---- From any bytes that stand for a state, reached or not: after an accepted call they stand for the new one
+
+pub record GoesOn (program words state : List ℕ) : Type 0 where
+  pub after-pick : (k : ℕ) → pickedNo program words k state ≡ 0
+      → (standsState (stateAfterPick program words k state) ≡ true)
+      × (stateIn (stateAfterPick program words k state) ≡ picked (cellsOf program) (integersOf words) (stateIn state) k)
+  pub after-run : (budget report : ℕ) → ranNo program words state report ≡ 0
+      → (standsState (stateAfterRun program words budget state report) ≡ true)
+      × (stateIn (stateAfterRun program words budget state report) ≡ runOutcome program words budget state .machine)
+
+abbrev pub EveryBufferGoesOn : Type 0
+EveryBufferGoesOn = (program words state : List ℕ) → Bytes state → standsState state ≡ true → GoesOn program words state

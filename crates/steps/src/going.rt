@@ -94,9 +94,9 @@ pub fn pick(program: &[u8], words: &[u8], slot: u64, lent: &mut [u8]) -> u8
     let mut held = [0i64; 4096];
     let count = words.len() / 8;
     let answer = pick_on(program, words, &mut held[..count], slot, lent);
-    let no = answer.no;
-    if no != 0 {
-        return no;
+    let refusal = answer.no;
+    if refusal != 0 {
+        return refusal;
     }
     let machine = answer.machine;
     state::writer::write_state(machine, lent);

@@ -29,15 +29,14 @@ unfolding copied
 length-copied child zero packed l = refl
 length-copied child (suc n) packed l = length-copied child n (packed / 256) _ ∙ length-set l (packed % 16) _
 
-copied-fits : (cells : List ℕ) (child : List Register) → ((i : ℕ) → valueFits cells (getD child i zeroRegister .value) ≡ true)
-    → (n packed : ℕ) (l : List Register) → ((i : ℕ) → valueFits cells (getD l i zeroRegister .value) ≡ true)
-    → (i : ℕ) → valueFits cells (getD (copied child n packed l) i zeroRegister .value) ≡ true
+-- what holds of every register of both sides holds of those of the joined task
+pub copied-keeps : (P : Register → Type 0) (child : List Register) → ((i : ℕ) → P (getD child i zeroRegister))
+    → (n packed : ℕ) (l : List Register) → ((i : ℕ) → P (getD l i zeroRegister)) → (i : ℕ) → P (getD (copied child n packed l) i zeroRegister)
 unfolding copied
-copied-fits cells child fits zero packed l before i = before i
-copied-fits cells child fits (suc n) packed l before i =
-    copied-fits cells child fits n (packed / 256) _
-    (λ i. set-keeps (λ (k : Register). valueFits cells (k .value) ≡ true) l (packed % 16) i (getD child (packed / 16 % 16) zeroRegister) zeroRegister
-    (fits (packed / 16 % 16)) (before i)) i
+copied-keeps P child of-child zero packed l before i = before i
+copied-keeps P child of-child (suc n) packed l before i =
+    copied-keeps P child of-child n (packed / 256) _
+    (λ i. set-keeps P l (packed % 16) i (getD child (packed / 16 % 16) zeroRegister) zeroRegister (of-child (packed / 16 % 16)) (before i)) i
 
 -- ---- its status
 
@@ -88,7 +87,7 @@ module _ (cells : List ℕ) (ok : Accepted cells) (D : ℕ) (room : D ≤ 6) (h 
   continues b q =
       let label = ok .block b q .label-below in
       outward-formed Running _ _ (length-copied (c .registers) _ _ (p .registers) ∙ x .registers-full) (ok .block _ label .first-below) refl
-      (copied-fits cells (c .registers) (y .values-fit) _ _ (p .registers) (x .values-fit))
+      (copied-keeps (λ r. valueFits cells (r .value) ≡ true) (c .registers) (y .values-fit) _ _ (p .registers) (x .values-fit))
 
   stops : (b n : ℕ) → Listed n → Formed cells D (suc h) (joinedBy (some n) cells b p c)
   unfolding every
