@@ -1,63 +1,75 @@
-# make            builds the engine's archive, the run program and the Rust programs
-# make run        assembles a program's text and runs it: make run JOB=examples/f/f.tpal OPTIONS='--places 1'
-# make test       the whole gate, as .ci/run
-# make rust-test  the model's tests, and the engine compared with the model
-# make c-test     the engine called from C
-# make bench      the engine's speed beside the model's
-# make soak       the long comparison of images: make soak IMAGES=.. SEED=..
-# make soak-jobs  the long comparison of jobs: make soak-jobs JOBS=.. SEED=..
-# make soak-steps the long comparison of jobs pick by pick: make soak-steps JOBS=.. SEED=..
-# make tools      installs gcc and cargo where they are missing, from Debian's packages
+# The block engine. `rt`, the Rattle toolchain, proves and builds it; it has to be on the path.
+#
+# make             the library for C, the run program and the Rust programs
+# make run         assembles a program's text, runs it and prints the result:
+#                    make run JOB=examples/f/f.tpal OPTIONS='--places 1' BUDGET=5000000
+#                  JOB is a path, OPTIONS are those of `tpasm job`, BUDGET the most picks (1,000,000).
+#                  It ends with 'Error n' unless the job halts: 1 refused, 2 a fault, 3 spent, 4 not run.
+# make test        the whole gate, as .ci/run
+# make rust-test   the model's tests, and the engine compared with the model
+# make c-test      the engine called from C, the installation, header and exports
+# make bench       the engine's speed beside the model's
+# make soak        the long comparison of images: make soak IMAGES=.. SEED=..
+# make soak-jobs   the long comparison of jobs: make soak-jobs JOBS=.. SEED=..
+# make soak-steps  the long comparison of jobs pick by pick: make soak-steps JOBS=.. SEED=..
+# make install     tpal.h, libtpal.a, libtpal.so, tpal.pc, tpal_run and tpasm below PREFIX, /usr/local:
+#                    make install PREFIX=/opt/tpal DESTDIR=stage
+# make uninstall   removes them again, with the same PREFIX and DESTDIR
+# make tools       installs gcc and cargo where they are missing, from Debian's packages
+# make clean       removes what was built, but for what has been proved; make distclean that too
+# make help        this list
 
-# A program's text, and options of `tpasm job`.
 JOB = examples/f/f.tpal
 OPTIONS =
+BUDGET =
 
 IMAGES = 10000000
 JOBS = 1000000
 SEED = 1
 
+PREFIX = /usr/local
+DESTDIR =
+
+CC = gcc
+CFLAGS = -O2
+
 export PATH := $(PATH):$(HOME)/.cargo/bin
 
-archive = target/staticlib/libjob.a
+version := $(shell sed -n 's/^.define TPAL_VERSION_STRING "\(.*\)"/\1/p' c/tpal.h)
+soname := libtpal.so.$(firstword $(subst ., ,$(version)))
+
 program = target/bin/tpal_run
-sources = crates.txt $(shell find crates -type f)
+archive = target/staticlib/libjob.a
+static = target/lib/libtpal.a
+shared = target/lib/libtpal.so.$(version)
+budgeted = target/c/run
 assembler = rust/target/release/tpasm
+sources = crates.txt $(shell find crates -type f -not -path '*/must-fail/*')
+rust_sources = rust/Cargo.toml rust/Cargo.lock $(shell find rust/tpasm rust/model -type f)
 in_rust = --release --offline --manifest-path rust/Cargo.toml
-as_root = $(shell [ "$$(id -u)" -eq 0 ] || echo sudo -n)
 
-.PHONY: all run test rust-test c-test bench soak soak-jobs soak-steps tools
+# rt's checks share target/: one at a time.
+.NOTPARALLEL:
 .DELETE_ON_ERROR:
+.PHONY: all run lib test rust-test c-test bench soak soak-jobs soak-steps install uninstall tools \
+        clean distclean help
 
-all: tools $(archive) $(program)
+all: tools $(program) lib
 	cargo build $(in_rust)
 
-run: tools $(program)
-	@cargo build --quiet $(in_rust) -p tpasm
-	@$(assembler) job $(JOB) $(OPTIONS) -o target/run.job
-	@$(program) <target/run.job
+run: tools $(program) $(assembler) $(if $(BUDGET),$(budgeted))
+	@sh scripts/run.sh $(if $(BUDGET),-b '$(BUDGET)') "$$JOB" $(OPTIONS)
+run: export JOB := $(JOB)
 
-tools:
-	@set --; command -v gcc >/dev/null || set -- gcc libc6-dev; \
-	command -v cargo >/dev/null || set -- "$$@" cargo; \
-	[ $$# -eq 0 ] || { $(as_root) apt-get update -q && \
-	    $(as_root) env DEBIAN_FRONTEND=noninteractive apt-get install -q -y --no-install-recommends "$$@"; }
-
-$(archive): $(sources)
-	rt staticlib job
-	touch $@
-
-$(program): $(sources)
-	rt check tpal_run
-	touch $@
+lib: $(static) $(shared)
 
 test:
 	bash .ci/run
 
-rust-test: tools $(archive) $(program)
+rust-test: tools $(program) $(archive)
 	cargo test $(in_rust)
 
-c-test: tools $(archive)
+c-test: tools $(program) $(archive)
 	sh c/test.sh
 
 bench: tools $(archive)
@@ -72,3 +84,67 @@ soak-jobs: tools $(archive)
 soak-steps: JOBS = 100000
 soak-steps: tools $(archive)
 	cargo run $(in_rust) --bin soak_steps -- $(JOBS) $(SEED)
+
+tools:
+	@sh scripts/tools.sh gcc cargo
+
+help:
+	@sed -n '/^#/!q; s/^# \{0,1\}//p' $(firstword $(MAKEFILE_LIST))
+
+# ---- Proved
+
+$(program): $(sources)
+	@sh scripts/prove.sh tpal_run
+	@touch $@
+
+$(archive): $(program)
+	@sh scripts/prove.sh --archive job
+	@touch $@
+
+# ---- Built of that
+
+$(static): $(archive)
+	@mkdir -p $(@D)
+	cp $< $@
+
+# Position-independent as it is. Bound at once: no call needs the loader's stack.
+$(shared): $(archive) c/libtpal.map
+	@mkdir -p $(@D)
+	$(CC) -shared -Wl,-soname,$(soname) -Wl,--version-script=c/libtpal.map -Wl,--no-undefined \
+	    -Wl,-z,now -Wl,--whole-archive $< -Wl,--no-whole-archive -o $@
+	ln -sf $(@F) $(@D)/$(soname)
+	ln -sf $(soname) $(@D)/libtpal.so
+
+$(budgeted): c/run.c c/tpal.h $(static)
+	@mkdir -p $(@D)
+	$(CC) -std=c11 -Wall -Wextra $(CFLAGS) -Ic c/run.c $(static) -o $@
+
+$(assembler): $(rust_sources)
+	@cargo build --quiet $(in_rust) -p tpasm
+	@touch $@
+
+# ---- Installed
+
+to = $(DESTDIR)$(PREFIX)
+installed = include/tpal.h lib/libtpal.a lib/libtpal.so lib/$(soname) lib/libtpal.so.$(version) \
+            lib/pkgconfig/tpal.pc bin/tpal_run bin/tpasm
+
+install: lib $(program) $(assembler)
+	@case '$(PREFIX)' in *[[:space:]]*|[!/]*|'') echo 'PREFIX is a path from / on, without spaces'; exit 1;; esac
+	install -d '$(to)/include' '$(to)/lib/pkgconfig' '$(to)/bin'
+	install -m 644 c/tpal.h '$(to)/include'
+	install -m 644 $(static) $(shared) '$(to)/lib'
+	ln -sf libtpal.so.$(version) '$(to)/lib/$(soname)'
+	ln -sf $(soname) '$(to)/lib/libtpal.so'
+	sed -e 's|@PREFIX@|$(PREFIX)|' -e 's|@VERSION@|$(version)|' c/tpal.pc.in >'$(to)/lib/pkgconfig/tpal.pc'
+	chmod 644 '$(to)/lib/pkgconfig/tpal.pc'
+	install -m 755 $(program) $(assembler) '$(to)/bin'
+
+uninstall:
+	rm -f $(foreach file,$(installed),'$(to)/$(file)')
+
+clean:
+	rm -rf target/c target/lib rust/target
+
+distclean: clean
+	rm -rf target

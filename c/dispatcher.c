@@ -16,10 +16,7 @@
 #include <stdio.h>
 #include <stdlib.h>
 
-enum { LANES = 4, SLOTS = 64, REGISTERS = 16 };
-
-/* No job goes further; it is spent then. */
-#define WORK_LIMIT UINT64_C(4294967295)
+enum { LANES = 4 };
 
 /* A job's input: where its parts are. Registers and words go to the engine as they stand there. */
 struct job {
@@ -32,12 +29,6 @@ struct job {
     size_t words_len;
 };
 
-/* The numbers of a state: three of the job, then 67 for each slot. Of a slot's, those that are read
- * here; a register has three. */
-enum { WORK = 2, SLOTS_AT = 3, SLOT_NUMBERS = 67 };
-enum { STATUS = 0, FAULT = 1, SPAN = 5, DEPTH = 6, REGISTERS_AT = 19, REGISTER_NUMBERS = 3 };
-enum { RUNNING = 1, HALTED = 3, FAULTED = 4 };
-
 static uint64_t little_endian(const uint8_t *bytes, size_t len)
 {
     uint64_t number = 0;
@@ -47,32 +38,14 @@ static uint64_t little_endian(const uint8_t *bytes, size_t len)
     return number;
 }
 
-static uint64_t number_at(const uint8_t *state, size_t index)
-{
-    return little_endian(state + 8 * index, 8);
-}
-
-static uint64_t slot_number(const uint8_t *state, size_t slot, size_t index)
-{
-    return number_at(state, SLOTS_AT + SLOT_NUMBERS * slot + index);
-}
-
-/* The job has ended when slot 0 is halted, or faulted with no fork open. */
-static int has_ended(const uint8_t *state)
-{
-    uint64_t status = slot_number(state, 0, STATUS);
-
-    return status == HALTED || (status == FAULTED && slot_number(state, 0, DEPTH) == 0);
-}
-
 /* Collects the slots that have a running task. Answers how many there are. */
-static size_t running_slots(const uint8_t *state, size_t slots[SLOTS])
+static size_t running_slots(const uint8_t *state, size_t slots[TPAL_SLOT_COUNT])
 {
     size_t count = 0;
     size_t slot;
 
-    for (slot = 0; slot < SLOTS; slot++)
-        if (slot_number(state, slot, STATUS) == RUNNING)
+    for (slot = 0; slot < TPAL_SLOT_COUNT; slot++)
+        if (tpal_slot_number(state, slot, TPAL_SLOT_STATUS) == TPAL_STATUS_RUNNING)
             slots[count++] = slot;
     return count;
 }
@@ -80,24 +53,22 @@ static size_t running_slots(const uint8_t *state, size_t slots[SLOTS])
 /* Finds the job's parts. Question 10: does the input end exactly after its last word? */
 static uint8_t divide_input(const uint8_t *input, size_t len, struct job *job)
 {
-    enum { IMAGE_AT = 2, AFTER_IMAGE = 1 + 2 + TPAL_REGISTERS_BYTES + 2 };
-    const uint8_t *at = input + IMAGE_AT;
+    size_t image_len;
 
-    if (len < IMAGE_AT)
-        return TPAL_INPUT;
-    job->image_len = little_endian(input, 2);
-    if (len < IMAGE_AT + job->image_len + AFTER_IMAGE)
-        return TPAL_INPUT;
-    job->image = at;
-    at += job->image_len;
-    job->places = little_endian(at, 1);
-    job->interval = little_endian(at + 1, 2);
-    job->registers = at + 3;
-    at += 3 + TPAL_REGISTERS_BYTES;
-    job->words_len = 8 * little_endian(at, 2);
-    job->words = at + 2;
-    if (len != IMAGE_AT + job->image_len + AFTER_IMAGE + job->words_len)
-        return TPAL_INPUT;
+    if (len < TPAL_JOB_IMAGE_AT)
+        return TPAL_REFUSED_INPUT;
+    image_len = little_endian(input, 2);
+    if (len < TPAL_JOB_BYTES(image_len, 0))
+        return TPAL_REFUSED_INPUT;
+    job->image = input + TPAL_JOB_IMAGE_AT;
+    job->image_len = image_len;
+    job->places = little_endian(input + TPAL_JOB_PLACES_AT(image_len), 1);
+    job->interval = little_endian(input + TPAL_JOB_INTERVAL_AT(image_len), 2);
+    job->registers = input + TPAL_JOB_REGISTERS_AT(image_len);
+    job->words = input + TPAL_JOB_WORDS_AT(image_len);
+    job->words_len = 8 * little_endian(input + TPAL_JOB_WORD_COUNT_AT(image_len), 2);
+    if (len != TPAL_JOB_WORDS_AT(image_len) + job->words_len)
+        return TPAL_REFUSED_INPUT;
     return TPAL_ACCEPTED;
 }
 
@@ -120,16 +91,17 @@ static uint64_t draw(uint64_t *seed)
 static uint8_t take_turn(const uint8_t *program, const struct job *job, uint8_t *state,
                          uint64_t budget, uint64_t *seed)
 {
-    size_t slots[SLOTS];
+    size_t slots[TPAL_SLOT_COUNT];
     size_t count = running_slots(state, slots);
     int lane;
 
-    for (lane = 0; lane < LANES && number_at(state, WORK) < budget; lane++) {
+    for (lane = 0; lane < LANES && tpal_number(state, TPAL_STATE_WORK) < budget; lane++) {
         size_t slot = slots[draw(seed) % count];
         uint8_t answer = tpal_pick(program, TPAL_PROGRAM_BYTES, job->words, job->words_len, slot,
                                    state, TPAL_STATE_BYTES);
 
-        if (answer != TPAL_ACCEPTED && answer != TPAL_RUNNING && answer != TPAL_NOT_ENDED)
+        if (answer != TPAL_ACCEPTED && answer != TPAL_REFUSED_NOT_RUNNING
+            && answer != TPAL_REFUSED_ENDED)
             return answer;
     }
     return TPAL_ACCEPTED;
@@ -137,19 +109,19 @@ static uint8_t take_turn(const uint8_t *program, const struct job *job, uint8_t 
 
 static void print_register(const uint8_t *state, size_t index)
 {
-    size_t at = REGISTERS_AT + REGISTER_NUMBERS * index;
-    uint64_t first = slot_number(state, 0, at + 1);
-    uint64_t second = slot_number(state, 0, at + 2);
+    size_t at = TPAL_SLOT_REGISTER(index);
+    uint64_t value = tpal_slot_number(state, 0, at + TPAL_REGISTER_VALUE);
+    uint64_t depth = tpal_slot_number(state, 0, at + TPAL_REGISTER_DEPTH);
 
-    switch (slot_number(state, 0, at)) {
+    switch (tpal_slot_number(state, 0, at + TPAL_REGISTER_KIND)) {
     case TPAL_KIND_INTEGER:
-        printf("r%zu int %" PRId64 "\n", index, (int64_t)first);
+        printf("r%zu int %" PRId64 "\n", index, (int64_t)value);
         break;
     case TPAL_KIND_LABEL:
-        printf("r%zu lab %" PRIu64 "\n", index, first);
+        printf("r%zu lab %" PRIu64 "\n", index, value);
         break;
     case TPAL_KIND_RECORD:
-        printf("r%zu rec %" PRIu64 " %" PRIu64 "\n", index, first, second);
+        printf("r%zu rec %" PRIu64 " %" PRIu64 "\n", index, value, depth);
         break;
     }
 }
@@ -158,17 +130,17 @@ static void print_result(const uint8_t *state)
 {
     size_t i;
 
-    if (!has_ended(state)) {
-        printf("end spent\nwork %" PRIu64 "\n", number_at(state, WORK));
+    if (!tpal_state_ended(state)) {
+        printf("end spent\nwork %" PRIu64 "\n", tpal_number(state, TPAL_STATE_WORK));
         return;
     }
-    if (slot_number(state, 0, STATUS) == HALTED)
+    if (tpal_slot_number(state, 0, TPAL_SLOT_STATUS) == TPAL_STATUS_HALTED)
         printf("end halt\n");
     else
-        printf("end fault %" PRIu64 "\n", slot_number(state, 0, FAULT));
-    printf("work %" PRIu64 "\n", number_at(state, WORK));
-    printf("span %" PRIu64 "\n", slot_number(state, 0, SPAN));
-    for (i = 0; i < REGISTERS; i++)
+        printf("end fault %" PRIu64 "\n", tpal_slot_number(state, 0, TPAL_SLOT_FAULT));
+    printf("work %" PRIu64 "\n", tpal_number(state, TPAL_STATE_WORK));
+    printf("span %" PRIu64 "\n", tpal_slot_number(state, 0, TPAL_SLOT_SPAN));
+    for (i = 0; i < TPAL_REGISTER_COUNT; i++)
         print_register(state, i);
 }
 
@@ -200,12 +172,12 @@ static int read_number(const char *text, uint64_t *number)
 
 int main(int argc, char **argv)
 {
-    static uint8_t input[TPAL_JOB_MAX + 1]; /* a longer input is refused as well */
+    static uint8_t input[TPAL_MAX_INPUT_BYTES + 1]; /* a longer input is refused as well */
     static uint8_t program[TPAL_PROGRAM_BYTES];
     static uint8_t state[TPAL_STATE_BYTES];
     struct job job;
     uint64_t seed;
-    uint64_t budget = 1000000;
+    uint64_t budget = TPAL_RUN_BUDGET;
     uint8_t answer;
     size_t len;
 
@@ -214,8 +186,8 @@ int main(int argc, char **argv)
         fprintf(stderr, "usage: dispatcher SEED [BUDGET] <JOB\n");
         return 2;
     }
-    if (budget > WORK_LIMIT)
-        budget = WORK_LIMIT;
+    if (budget > TPAL_MAX_WORK)
+        budget = TPAL_MAX_WORK;
     len = fread(input, 1, sizeof input, stdin);
     if (ferror(stdin)) {
         fprintf(stderr, "dispatcher: standard input could not be read\n");
@@ -227,10 +199,11 @@ int main(int argc, char **argv)
         printf("refused %u\n", answer);
         return 0;
     }
-    while (!has_ended(state) && number_at(state, WORK) < budget) {
+    while (!tpal_state_ended(state) && tpal_number(state, TPAL_STATE_WORK) < budget) {
         answer = take_turn(program, &job, state, budget, &seed);
         if (answer != TPAL_ACCEPTED) {
-            fprintf(stderr, "dispatcher: a pick was refused with %u\n", answer);
+            fprintf(stderr, "dispatcher: a pick was refused with %u: %s\n", answer,
+                    tpal_refusal_message(answer));
             return 1;
         }
     }

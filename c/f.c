@@ -5,48 +5,44 @@
 #include <string.h>
 
 /* F's records: first instruction, annotation, policy, label, number of pairs, first pair byte. */
-enum { BLOCKS = 4, BLOCK_CELLS = 6 };
-static const uint8_t blocks[BLOCKS][BLOCK_CELLS] = {
+static const uint8_t blocks[F_BLOCKS][TPAL_BLOCK_CELLS] = {
     {0},
     {4},
-    {6, 2, 0, 3, 1, 0x02}, /* join target, assoc, combining 3, pair r0 to r2 */
+    {6, TPAL_ANNOTATION_JOIN_TARGET, TPAL_POLICY_ASSOC, 3, 1, 0x02}, /* pair r0 to r2 */
     {7}
 };
 
 /* Opcode, r, s, operand kind, operand. */
-enum { INSTRUCTIONS = 9, INSTRUCTION_CELLS = 5, REGISTER = 1, LABEL = 2, INTEGER = 3 };
-static const uint8_t instructions[INSTRUCTIONS][INSTRUCTION_CELLS] = {
-    {11, 1, 0, LABEL, 2},    /* r1 := jralloc 2 */
-    {12, 0, 1, LABEL, 1},    /* fork r1, 1 */
-    {2, 0, 0, INTEGER, 1},   /* r0 := r0 + 1 */
-    {15, 0, 0, REGISTER, 1}, /* join r1 */
-    {1, 0, 0, INTEGER, 7},   /* r0 := 7 */
-    {15, 0, 0, REGISTER, 1}, /* join r1 */
-    {14},                    /* halt */
-    {2, 0, 0, REGISTER, 2},  /* r0 := r0 + r2 */
-    {15, 0, 0, REGISTER, 1}  /* join r1 */
+static const uint8_t instructions[F_INSTRUCTIONS][TPAL_INSTRUCTION_CELLS] = {
+    {11, 1, 0, TPAL_OPERAND_LABEL, 2},    /* r1 := jralloc 2 */
+    {12, 0, 1, TPAL_OPERAND_LABEL, 1},    /* fork r1, 1 */
+    {2, 0, 0, TPAL_OPERAND_INTEGER, 1},   /* r0 := r0 + 1 */
+    {15, 0, 0, TPAL_OPERAND_REGISTER, 1}, /* join r1 */
+    {1, 0, 0, TPAL_OPERAND_INTEGER, 7},   /* r0 := 7 */
+    {15, 0, 0, TPAL_OPERAND_REGISTER, 1}, /* join r1 */
+    {14},                                 /* halt */
+    {2, 0, 0, TPAL_OPERAND_REGISTER, 2},  /* r0 := r0 + r2 */
+    {15, 0, 0, TPAL_OPERAND_REGISTER, 1}  /* join r1 */
 };
 
 size_t make_f(uint8_t *image)
 {
     enum { HEADER = 8, BLOCK_RECORD = 10, INSTRUCTION_RECORD = 12 };
-    const uint8_t header[HEADER] = {'T', 'P', 'B', 1, 0, BLOCKS, INSTRUCTIONS, 0};
+    const uint8_t header[HEADER] = {'T', 'P', 'B', 1, 0, F_BLOCKS, F_INSTRUCTIONS, 0};
     uint8_t *at = image;
     size_t i;
 
     memset(image, 0, F_LEN);
     memcpy(at, header, sizeof header);
     at += sizeof header;
-    for (i = 0; i < BLOCKS; i++, at += BLOCK_RECORD) {
+    for (i = 0; i < F_BLOCKS; i++, at += BLOCK_RECORD) {
         at[0] = blocks[i][0];
-        memcpy(at + 2, blocks[i] + 1, BLOCK_CELLS - 1);
+        memcpy(at + 2, blocks[i] + 1, TPAL_BLOCK_CELLS - 1);
     }
-    for (i = 0; i < INSTRUCTIONS; i++, at += INSTRUCTION_RECORD)
-        memcpy(at, instructions[i], INSTRUCTION_CELLS);
+    for (i = 0; i < F_INSTRUCTIONS; i++, at += INSTRUCTION_RECORD)
+        memcpy(at, instructions[i], TPAL_INSTRUCTION_CELLS);
     return (size_t)(at - image);
 }
-
-enum { BLOCK_CELL = 2, INSTRUCTION_CELL = 770 };
 
 void make_program(uint8_t *program)
 {
@@ -54,56 +50,61 @@ void make_program(uint8_t *program)
     size_t cell;
 
     memset(program, 0, TPAL_PROGRAM_BYTES);
-    put_number(program, 0, BLOCKS);
-    put_number(program, 1, INSTRUCTIONS);
-    for (i = 0; i < BLOCKS; i++)
-        for (cell = 0; cell < BLOCK_CELLS; cell++)
-            put_number(program, BLOCK_CELL + BLOCK_CELLS * i + cell, blocks[i][cell]);
-    for (i = 0; i < INSTRUCTIONS; i++)
-        for (cell = 0; cell < INSTRUCTION_CELLS; cell++)
-            put_number(program, INSTRUCTION_CELL + INSTRUCTION_CELLS * i + cell,
-                       instructions[i][cell]);
+    tpal_put_number(program, TPAL_PROGRAM_BLOCK_COUNT, F_BLOCKS);
+    tpal_put_number(program, TPAL_PROGRAM_INSTRUCTION_COUNT, F_INSTRUCTIONS);
+    for (i = 0; i < F_BLOCKS; i++)
+        for (cell = 0; cell < TPAL_BLOCK_CELLS; cell++)
+            tpal_put_number(program, TPAL_PROGRAM_BLOCK(i) + cell, blocks[i][cell]);
+    for (i = 0; i < F_INSTRUCTIONS; i++)
+        for (cell = 0; cell < TPAL_INSTRUCTION_CELLS; cell++)
+            tpal_put_number(program, TPAL_PROGRAM_INSTRUCTION(i) + cell, instructions[i][cell]);
 }
 
 enum {
     WHOLE = TPAL_PROGRAM_BYTES,
-    BLOCK_2 = BLOCK_CELL + 2 * BLOCK_CELLS,
-    BLOCKS_END = BLOCK_CELL + BLOCKS * BLOCK_CELLS,
-    USED_END = INSTRUCTION_CELL + INSTRUCTIONS * INSTRUCTION_CELLS
+    BLOCKS_END = TPAL_PROGRAM_BLOCK(F_BLOCKS),
+    USED_END = TPAL_PROGRAM_INSTRUCTION(F_INSTRUCTIONS)
 };
 
+/* Cells of a block and of an instruction, by the ends of their names. */
+#define BLOCK(b, name) (TPAL_PROGRAM_BLOCK(b) + TPAL_BLOCK_##name)
+#define INSTRUCTION(i, name) (TPAL_PROGRAM_INSTRUCTION(i) + TPAL_INSTRUCTION_##name)
+
 const struct bad_program bad_programs[] = {
-    {"no program bytes", 0, NO_CELL, 0, TPAL_COUNTS},
-    {"one cell", 8, NO_CELL, 0, TPAL_COUNTS},
-    {"two cells less a byte", 15, NO_CELL, 0, TPAL_COUNTS},
-    {"0 blocks", WHOLE, 0, 0, TPAL_COUNTS},
-    {"129 blocks", WHOLE, 0, 129, TPAL_COUNTS},
-    {"2^32 + 4 blocks", WHOLE, 0, (UINT64_C(1) << 32) + BLOCKS, TPAL_COUNTS},
-    {"0 instructions", WHOLE, 1, 0, TPAL_COUNTS},
-    {"1,025 instructions", WHOLE, 1, 1025, TPAL_COUNTS},
-    {"two cells", 16, NO_CELL, 0, TPAL_BLOCK_START},
-    {"no cell of its last block", 8 * (BLOCKS_END - BLOCK_CELLS), NO_CELL, 0, TPAL_BLOCK_START},
-    {"its blocks less a byte", 8 * BLOCKS_END - 1, NO_CELL, 0, TPAL_BLOCK_START},
-    {"block 0 at 1", WHOLE, BLOCK_CELL, 1, TPAL_BLOCK_START},
-    {"block 3 at 9", WHOLE, BLOCK_2 + BLOCK_CELLS, 9, TPAL_BLOCK_START},
-    {"block 3 at 2^16 + 7", WHOLE, BLOCK_2 + BLOCK_CELLS, 65536 + 7, TPAL_BLOCK_START},
-    {"annotation 3", WHOLE, BLOCK_2 + 1, 3, TPAL_ANNOTATION},
-    {"annotation 2^8 + 2", WHOLE, BLOCK_2 + 1, 256 + 2, TPAL_ANNOTATION},
-    {"combining block 4", WHOLE, BLOCK_2 + 3, 4, TPAL_ANNOTATION},
-    {"five pairs", WHOLE, BLOCK_2 + 4, 5, TPAL_ANNOTATION},
-    {"pair bytes of 2^32", WHOLE, BLOCK_2 + 5, UINT64_C(1) << 32 | 0x02, TPAL_ANNOTATION},
-    {"its blocks alone", 8 * BLOCKS_END, NO_CELL, 0, TPAL_FIELDS},
-    {"its used cells less a byte", 8 * USED_END - 1, NO_CELL, 0, TPAL_FIELDS},
-    {"opcode 0", WHOLE, INSTRUCTION_CELL, 0, TPAL_FIELDS},
-    {"opcode 2^8 + 11", WHOLE, INSTRUCTION_CELL, 256 + 11, TPAL_FIELDS},
-    {"r16", WHOLE, INSTRUCTION_CELL + 1, 16, TPAL_FIELDS},
-    {"label 4", WHOLE, INSTRUCTION_CELL + 4, 4, TPAL_FIELDS},
-    {"block 1 at 3", WHOLE, BLOCK_CELL + BLOCK_CELLS, 3, TPAL_LAST_IN_BLOCK},
-    {"its used cells alone", 8 * USED_END, NO_CELL, 0, TPAL_BUFFER},
-    {"a cell less", WHOLE - 8, NO_CELL, 0, TPAL_BUFFER},
-    {"a byte less", WHOLE - 1, NO_CELL, 0, TPAL_BUFFER},
-    {"a byte more", WHOLE + 1, NO_CELL, 0, TPAL_BUFFER},
-    {"a cell more", WHOLE + 8, NO_CELL, 0, TPAL_BUFFER}
+    {"no program bytes", 0, NO_CELL, 0, TPAL_REFUSED_COUNTS},
+    {"one cell", 8, NO_CELL, 0, TPAL_REFUSED_COUNTS},
+    {"two cells less a byte", 15, NO_CELL, 0, TPAL_REFUSED_COUNTS},
+    {"0 blocks", WHOLE, TPAL_PROGRAM_BLOCK_COUNT, 0, TPAL_REFUSED_COUNTS},
+    {"129 blocks", WHOLE, TPAL_PROGRAM_BLOCK_COUNT, 129, TPAL_REFUSED_COUNTS},
+    {"2^32 + 4 blocks", WHOLE, TPAL_PROGRAM_BLOCK_COUNT, (UINT64_C(1) << 32) + F_BLOCKS,
+     TPAL_REFUSED_COUNTS},
+    {"0 instructions", WHOLE, TPAL_PROGRAM_INSTRUCTION_COUNT, 0, TPAL_REFUSED_COUNTS},
+    {"1,025 instructions", WHOLE, TPAL_PROGRAM_INSTRUCTION_COUNT, 1025, TPAL_REFUSED_COUNTS},
+    {"two cells", 16, NO_CELL, 0, TPAL_REFUSED_BLOCK_START},
+    {"no cell of its last block", 8 * TPAL_PROGRAM_BLOCK(F_BLOCKS - 1), NO_CELL, 0,
+     TPAL_REFUSED_BLOCK_START},
+    {"its blocks less a byte", 8 * BLOCKS_END - 1, NO_CELL, 0, TPAL_REFUSED_BLOCK_START},
+    {"block 0 at 1", WHOLE, BLOCK(0, FIRST), 1, TPAL_REFUSED_BLOCK_START},
+    {"block 3 at 9", WHOLE, BLOCK(3, FIRST), 9, TPAL_REFUSED_BLOCK_START},
+    {"block 3 at 2^16 + 7", WHOLE, BLOCK(3, FIRST), 65536 + 7, TPAL_REFUSED_BLOCK_START},
+    {"annotation 3", WHOLE, BLOCK(2, ANNOTATION), 3, TPAL_REFUSED_ANNOTATION},
+    {"annotation 2^8 + 2", WHOLE, BLOCK(2, ANNOTATION), 256 + 2, TPAL_REFUSED_ANNOTATION},
+    {"combining block 4", WHOLE, BLOCK(2, LABEL), 4, TPAL_REFUSED_ANNOTATION},
+    {"five pairs", WHOLE, BLOCK(2, PAIR_COUNT), 5, TPAL_REFUSED_ANNOTATION},
+    {"pair bytes of 2^32", WHOLE, BLOCK(2, PAIRS), UINT64_C(1) << 32 | 0x02,
+     TPAL_REFUSED_ANNOTATION},
+    {"its blocks alone", 8 * BLOCKS_END, NO_CELL, 0, TPAL_REFUSED_FIELDS},
+    {"its used cells less a byte", 8 * USED_END - 1, NO_CELL, 0, TPAL_REFUSED_FIELDS},
+    {"opcode 0", WHOLE, INSTRUCTION(0, OPCODE), 0, TPAL_REFUSED_FIELDS},
+    {"opcode 2^8 + 11", WHOLE, INSTRUCTION(0, OPCODE), 256 + 11, TPAL_REFUSED_FIELDS},
+    {"r16", WHOLE, INSTRUCTION(0, R), 16, TPAL_REFUSED_FIELDS},
+    {"label 4", WHOLE, INSTRUCTION(0, OPERAND), 4, TPAL_REFUSED_FIELDS},
+    {"block 1 at 3", WHOLE, BLOCK(1, FIRST), 3, TPAL_REFUSED_LAST_IN_BLOCK},
+    {"its used cells alone", 8 * USED_END, NO_CELL, 0, TPAL_REFUSED_BUFFER},
+    {"a cell less", WHOLE - 8, NO_CELL, 0, TPAL_REFUSED_BUFFER},
+    {"a byte less", WHOLE - 1, NO_CELL, 0, TPAL_REFUSED_BUFFER},
+    {"a byte more", WHOLE + 1, NO_CELL, 0, TPAL_REFUSED_BUFFER},
+    {"a cell more", WHOLE + 8, NO_CELL, 0, TPAL_REFUSED_BUFFER}
 };
 const size_t bad_program_count = sizeof bad_programs / sizeof *bad_programs;
 
@@ -111,7 +112,7 @@ void make_bad_program(uint8_t *program, const struct bad_program *bad)
 {
     make_program(program);
     if (bad->cell != NO_CELL)
-        put_number(program, bad->cell, bad->number);
+        tpal_put_number(program, bad->cell, bad->number);
     memset(program + TPAL_PROGRAM_BYTES, 0, MARGIN);
 }
 

@@ -73,27 +73,27 @@ static void try_reads(void)
 
     make_f(f);
     try_read("F", f, F_LEN, TPAL_PROGRAM_BYTES, TPAL_ACCEPTED);
-    try_read("F", f, F_LEN, 0, TPAL_BUFFER);
-    try_read("F", f, F_LEN, TPAL_PROGRAM_BYTES - 8, TPAL_BUFFER);
-    try_read("F", f, F_LEN, TPAL_PROGRAM_BYTES - 1, TPAL_BUFFER);
-    try_read("F", f, F_LEN, TPAL_PROGRAM_BYTES + 1, TPAL_BUFFER);
-    try_read("F", f, F_LEN, TPAL_PROGRAM_BYTES + 8, TPAL_BUFFER);
+    try_read("F", f, F_LEN, 0, TPAL_REFUSED_BUFFER);
+    try_read("F", f, F_LEN, TPAL_PROGRAM_BYTES - 8, TPAL_REFUSED_BUFFER);
+    try_read("F", f, F_LEN, TPAL_PROGRAM_BYTES - 1, TPAL_REFUSED_BUFFER);
+    try_read("F", f, F_LEN, TPAL_PROGRAM_BYTES + 1, TPAL_REFUSED_BUFFER);
+    try_read("F", f, F_LEN, TPAL_PROGRAM_BYTES + 8, TPAL_REFUSED_BUFFER);
 
-    try_read("no bytes", f, 0, TPAL_PROGRAM_BYTES, TPAL_HEADER);
-    try_read("7 bytes of F", f, 7, TPAL_PROGRAM_BYTES, TPAL_HEADER);
-    try_read("8 bytes of F", f, 8, TPAL_PROGRAM_BYTES, TPAL_LENGTH);
-    try_read("F less a byte", f, F_LEN - 1, TPAL_PROGRAM_BYTES, TPAL_LENGTH);
-    try_read("F and a byte", f, F_LEN + 1, TPAL_PROGRAM_BYTES, TPAL_LENGTH);
-    try_damaged("F with mark TPC", 2, 'C', TPAL_MARK);
-    try_damaged("F with version 2", 3, 2, TPAL_VERSION);
-    try_damaged("F with 0 blocks", 5, 0, TPAL_COUNTS);
-    try_damaged("F with 129 blocks", 5, 129, TPAL_COUNTS);
-    try_damaged("F with 3 blocks", 5, 3, TPAL_LENGTH);
-    try_damaged("F with block 0 at 1", 8, 1, TPAL_BLOCK_START);
-    try_damaged("F with annotation 3", 30, 3, TPAL_ANNOTATION);
-    try_damaged("F with opcode 0", 48, 0, TPAL_FIELDS);
-    try_damaged("F with its last byte 1", F_LEN - 1, 1, TPAL_FIELDS);
-    try_damaged("F with block 1 at 3", 18, 3, TPAL_LAST_IN_BLOCK);
+    try_read("no bytes", f, 0, TPAL_PROGRAM_BYTES, TPAL_REFUSED_HEADER);
+    try_read("7 bytes of F", f, 7, TPAL_PROGRAM_BYTES, TPAL_REFUSED_HEADER);
+    try_read("8 bytes of F", f, 8, TPAL_PROGRAM_BYTES, TPAL_REFUSED_LENGTH);
+    try_read("F less a byte", f, F_LEN - 1, TPAL_PROGRAM_BYTES, TPAL_REFUSED_LENGTH);
+    try_read("F and a byte", f, F_LEN + 1, TPAL_PROGRAM_BYTES, TPAL_REFUSED_LENGTH);
+    try_damaged("F with mark TPC", 2, 'C', TPAL_REFUSED_MARK);
+    try_damaged("F with version 2", 3, 2, TPAL_REFUSED_VERSION);
+    try_damaged("F with 0 blocks", 5, 0, TPAL_REFUSED_COUNTS);
+    try_damaged("F with 129 blocks", 5, 129, TPAL_REFUSED_COUNTS);
+    try_damaged("F with 3 blocks", 5, 3, TPAL_REFUSED_LENGTH);
+    try_damaged("F with block 0 at 1", 8, 1, TPAL_REFUSED_BLOCK_START);
+    try_damaged("F with annotation 3", 30, 3, TPAL_REFUSED_ANNOTATION);
+    try_damaged("F with opcode 0", 48, 0, TPAL_REFUSED_FIELDS);
+    try_damaged("F with its last byte 1", F_LEN - 1, 1, TPAL_REFUSED_FIELDS);
+    try_damaged("F with block 1 at 3", 18, 3, TPAL_REFUSED_LAST_IN_BLOCK);
 }
 
 static void try_writes(void)
@@ -104,10 +104,10 @@ static void try_writes(void)
 
     make_program(program);
     try_write("F", program, TPAL_PROGRAM_BYTES, F_LEN, TPAL_ACCEPTED);
-    try_write("F", program, TPAL_PROGRAM_BYTES, 0, TPAL_BUFFER);
-    try_write("F", program, TPAL_PROGRAM_BYTES, F_LEN - 1, TPAL_BUFFER);
-    try_write("F", program, TPAL_PROGRAM_BYTES, F_LEN + 1, TPAL_BUFFER);
-    put_number(program, NO_CELL - 1, UINT64_MAX);
+    try_write("F", program, TPAL_PROGRAM_BYTES, 0, TPAL_REFUSED_BUFFER);
+    try_write("F", program, TPAL_PROGRAM_BYTES, F_LEN - 1, TPAL_REFUSED_BUFFER);
+    try_write("F", program, TPAL_PROGRAM_BYTES, F_LEN + 1, TPAL_REFUSED_BUFFER);
+    tpal_put_number(program, NO_CELL - 1, UINT64_MAX);
     try_write("F with its last, unused cell filled", program, TPAL_PROGRAM_BYTES, F_LEN,
               TPAL_ACCEPTED);
     for (i = 0; i < bad_program_count; i++) {

@@ -1,20 +1,28 @@
-/* Runs with budgets, to a report and to a text: F's job, refused ones, and lengths of the buffers. */
+/* Runs with budgets, to a report and to a text: F's job, refused ones, and lengths of buffers. */
 
 #include "testing.h"
 
 #include <stdio.h>
 #include <string.h>
 
-enum { NUMBERS = TPAL_REPORT_BYTES / 8, BUDGET = 1000000 };
-
 /* Registers with integers 0 have only zeros. */
-static const uint64_t f_report[NUMBERS] = {
-    TPAL_END_HALT, 0, 9, 9, 7,
-    TPAL_KIND_INTEGER, 12, 0,
-    TPAL_KIND_RECORD, 2, 0,
-    TPAL_KIND_INTEGER, 7, 0
+static const uint64_t f_report[TPAL_REPORT_NUMBERS] = {
+    [TPAL_REPORT_END] = TPAL_END_HALT,
+    [TPAL_REPORT_PICKS] = 9,
+    [TPAL_REPORT_WORK] = 9,
+    [TPAL_REPORT_SPAN] = 7,
+    [TPAL_REPORT_REGISTER(0) + TPAL_REGISTER_VALUE] = 12,
+    [TPAL_REPORT_REGISTER(1) + TPAL_REGISTER_KIND] = TPAL_KIND_RECORD,
+    [TPAL_REPORT_REGISTER(1) + TPAL_REGISTER_VALUE] = 2,
+    [TPAL_REPORT_REGISTER(2) + TPAL_REGISTER_VALUE] = 7
 };
-static const uint64_t f_fault_report[NUMBERS] = {TPAL_END_FAULT, TPAL_FAULT_PLACES, 2, 2, 2};
+static const uint64_t f_fault_report[TPAL_REPORT_NUMBERS] = {
+    [TPAL_REPORT_END] = TPAL_END_FAULT,
+    [TPAL_REPORT_FAULT] = TPAL_FAULT_PLACES,
+    [TPAL_REPORT_PICKS] = 2,
+    [TPAL_REPORT_WORK] = 2,
+    [TPAL_REPORT_SPAN] = 2
+};
 
 #define ZEROS_FROM_R3 \
     "r3 int 0\nr4 int 0\nr5 int 0\nr6 int 0\nr7 int 0\nr8 int 0\nr9 int 0\nr10 int 0\n" \
@@ -42,7 +50,7 @@ static void try_report(const char *name, const uint8_t *job, size_t job_len, uin
     answer = tpal_job_run(job, job_len, budget, report, report_len);
     right = memcmp(report + written, untouched, sizeof report - written) == 0;
     for (index = 0; index < written / 8; index++)
-        right = right && number_at(report, index) == numbers[index];
+        right = right && tpal_number(report, index) == numbers[index];
     snprintf(line, sizeof line, "run %s into %zu bytes%s", name, report_len,
              right ? "" : " (wrong bytes in report)");
     expect(line, answer == expected && right, expected, answer);
@@ -81,31 +89,31 @@ static void try_refused(const char *name, const uint8_t *job, size_t job_len, un
     char text[16];
 
     snprintf(text, sizeof text, "refused %u\n", number);
-    try_report(name, job, job_len, BUDGET, TPAL_REPORT_BYTES, number, NULL);
+    try_report(name, job, job_len, TPAL_RUN_BUDGET, TPAL_REPORT_BYTES, number, NULL);
     try_report(name, job, job_len, 0, 0, number, NULL);
-    try_text(name, job, job_len, BUDGET, TPAL_TEXT_BYTES, text);
+    try_text(name, job, job_len, TPAL_RUN_BUDGET, TPAL_TEXT_BYTES, text);
     try_text(name, job, job_len, 0, TPAL_TEXT_BYTES, text);
 }
 
 static void try_budgets(uint8_t *job)
 {
-    uint64_t spent[NUMBERS] = {TPAL_END_SPENT};
+    uint64_t spent[TPAL_REPORT_NUMBERS] = {[TPAL_REPORT_END] = TPAL_END_SPENT};
     char name[32];
     char text[32];
     unsigned budget;
 
     for (budget = 0; budget < 9; budget++) {
-        spent[2] = spent[3] = budget;
+        spent[TPAL_REPORT_PICKS] = spent[TPAL_REPORT_WORK] = budget;
         snprintf(name, sizeof name, "F with budget %u", budget);
         snprintf(text, sizeof text, "end spent\nwork %u\n", budget);
         try_accepted(name, job, budget, spent, text);
     }
     try_accepted("F with budget 9", job, 9, f_report, f_text);
     try_accepted("F with budget 10", job, 10, f_report, f_text);
-    try_accepted("F", job, BUDGET, f_report, f_text);
+    try_accepted("F", job, TPAL_RUN_BUDGET, f_report, f_text);
     try_accepted("F with the largest budget", job, UINT64_MAX, f_report, f_text);
     job[PLACES_AT] = 1;
-    try_accepted("F with P 1", job, BUDGET, f_fault_report, f_fault_text);
+    try_accepted("F with P 1", job, TPAL_RUN_BUDGET, f_fault_report, f_fault_text);
 }
 
 /* F's job with one byte changed. */
@@ -120,35 +128,38 @@ static void try_damaged(const char *name, size_t at, uint8_t byte, unsigned numb
 
 static void try_refusals(void)
 {
-    static uint8_t longest[TPAL_JOB_MAX + 1];
-    static uint8_t many_words[JOB_LEN + 8 * 4097];
-    uint8_t short_image[JOB_LEN - F_LEN + 7] = {7};
+    static uint8_t longest[TPAL_MAX_INPUT_BYTES + 1];
+    enum { MANY = TPAL_MAX_WORDS + 1, LONGEST = 65535 };
+    static uint8_t many_words[TPAL_JOB_BYTES(F_LEN, MANY)];
+    uint8_t short_image[TPAL_JOB_BYTES(7, 0)] = {7};
     uint8_t job[JOB_LEN + 1] = {0};
 
-    try_refused("a job with an image of 7 bytes", short_image, sizeof short_image, TPAL_HEADER);
-    try_damaged("F with mark TPC", IMAGE_AT + 2, 'C', TPAL_MARK);
-    try_damaged("F with version 2", IMAGE_AT + 3, 2, TPAL_VERSION);
-    try_damaged("F with 0 blocks", IMAGE_AT + 5, 0, TPAL_COUNTS);
-    try_damaged("F with 3 blocks", IMAGE_AT + 5, 3, TPAL_LENGTH);
-    try_damaged("F with block 0 at 1", IMAGE_AT + 8, 1, TPAL_BLOCK_START);
-    try_damaged("F with annotation 3", IMAGE_AT + 30, 3, TPAL_ANNOTATION);
-    try_damaged("F with opcode 0", IMAGE_AT + 48, 0, TPAL_FIELDS);
-    try_damaged("F with block 1 at 3", IMAGE_AT + 18, 3, TPAL_LAST_IN_BLOCK);
-    try_damaged("F with P 3", PLACES_AT, 3, TPAL_PLACES);
-    try_damaged("F with interval 7", INTERVAL_AT, 7, TPAL_INTERVAL);
+    try_refused("a job with an image of 7 bytes", short_image, sizeof short_image,
+                TPAL_REFUSED_HEADER);
+    try_damaged("F with mark TPC", IMAGE_AT + 2, 'C', TPAL_REFUSED_MARK);
+    try_damaged("F with version 2", IMAGE_AT + 3, 2, TPAL_REFUSED_VERSION);
+    try_damaged("F with 0 blocks", IMAGE_AT + 5, 0, TPAL_REFUSED_COUNTS);
+    try_damaged("F with 3 blocks", IMAGE_AT + 5, 3, TPAL_REFUSED_LENGTH);
+    try_damaged("F with block 0 at 1", IMAGE_AT + 8, 1, TPAL_REFUSED_BLOCK_START);
+    try_damaged("F with annotation 3", IMAGE_AT + 30, 3, TPAL_REFUSED_ANNOTATION);
+    try_damaged("F with opcode 0", IMAGE_AT + 48, 0, TPAL_REFUSED_FIELDS);
+    try_damaged("F with block 1 at 3", IMAGE_AT + 18, 3, TPAL_REFUSED_LAST_IN_BLOCK);
+    try_damaged("F with P 3", PLACES_AT, 3, TPAL_REFUSED_PLACES);
+    try_damaged("F with interval 7", INTERVAL_AT, 7, TPAL_REFUSED_INTERVAL);
     make_job(many_words);
-    many_words[WORD_COUNT_AT] = 4097 % 256;
-    many_words[WORD_COUNT_AT + 1] = 4097 / 256;
-    try_refused("F with 4,097 words", many_words, sizeof many_words, TPAL_WORDS);
+    many_words[WORD_COUNT_AT] = MANY % 256;
+    many_words[WORD_COUNT_AT + 1] = MANY / 256;
+    try_refused("F with 4,097 words", many_words, sizeof many_words, TPAL_REFUSED_WORDS);
 
     make_job(job);
-    try_refused("no bytes", job, 0, TPAL_INPUT);
-    try_refused("F less a byte", job, JOB_LEN - 1, TPAL_INPUT);
-    try_refused("F and a byte", job, JOB_LEN + 1, TPAL_INPUT);
+    try_refused("no bytes", job, 0, TPAL_REFUSED_INPUT);
+    try_refused("F less a byte", job, JOB_LEN - 1, TPAL_REFUSED_INPUT);
+    try_refused("F and a byte", job, JOB_LEN + 1, TPAL_REFUSED_INPUT);
     memset(longest, 0xff, 2);
-    memset(longest + 2 + 65535 + 3 + 16 * 8, 0xff, 2);
-    try_refused("the longest job", longest, TPAL_JOB_MAX, TPAL_MARK);
-    try_refused("the longest job and a byte", longest, TPAL_JOB_MAX + 1, TPAL_INPUT);
+    memset(longest + TPAL_JOB_WORD_COUNT_AT(LONGEST), 0xff, 2);
+    try_refused("the longest job", longest, TPAL_MAX_INPUT_BYTES, TPAL_REFUSED_MARK);
+    try_refused("the longest job and a byte", longest, TPAL_MAX_INPUT_BYTES + 1,
+                TPAL_REFUSED_INPUT);
 }
 
 void try_runs(void)
@@ -159,13 +170,15 @@ void try_runs(void)
 
     make_job(job);
     for (i = 0; i < sizeof off_by / sizeof *off_by; i++) {
-        try_report("F", job, JOB_LEN, BUDGET, TPAL_REPORT_BYTES - off_by[i], TPAL_BUFFER, NULL);
-        try_report("F", job, JOB_LEN, BUDGET, TPAL_REPORT_BYTES + off_by[i], TPAL_BUFFER, NULL);
-        try_text("F", job, JOB_LEN, BUDGET, TPAL_TEXT_BYTES - off_by[i], "");
-        try_text("F", job, JOB_LEN, BUDGET, TPAL_TEXT_BYTES + off_by[i], "");
+        try_report("F", job, JOB_LEN, TPAL_RUN_BUDGET, TPAL_REPORT_BYTES - off_by[i],
+                   TPAL_REFUSED_BUFFER, NULL);
+        try_report("F", job, JOB_LEN, TPAL_RUN_BUDGET, TPAL_REPORT_BYTES + off_by[i],
+                   TPAL_REFUSED_BUFFER, NULL);
+        try_text("F", job, JOB_LEN, TPAL_RUN_BUDGET, TPAL_TEXT_BYTES - off_by[i], "");
+        try_text("F", job, JOB_LEN, TPAL_RUN_BUDGET, TPAL_TEXT_BYTES + off_by[i], "");
     }
-    try_text("F", job, JOB_LEN, BUDGET, 0, "");
-    try_text("F less a byte", job, JOB_LEN - 1, BUDGET, 0, "");
+    try_text("F", job, JOB_LEN, TPAL_RUN_BUDGET, 0, "");
+    try_text("F less a byte", job, JOB_LEN - 1, TPAL_RUN_BUDGET, 0, "");
     try_budgets(job);
     try_refusals();
 }

@@ -20,7 +20,7 @@ struct steps {
     size_t report_len;
     uint8_t program[TPAL_PROGRAM_BYTES + MARGIN];
     uint8_t registers[TPAL_REGISTERS_BYTES + MARGIN];
-    uint8_t words[8 * TPAL_WORDS_MAX + MARGIN];
+    uint8_t words[8 * TPAL_MAX_WORDS + MARGIN];
     uint8_t before_state[MARGIN];
     uint8_t state[TPAL_STATE_BYTES + MARGIN];
     uint8_t before_report[MARGIN];
@@ -56,20 +56,15 @@ static const struct door start = {"start", call_start, 0};
 static const struct door pick = {"pick", call_pick, 0};
 static const struct door run = {"run", call_run, 1};
 
-/* The numbers of a state and of a report. */
-enum { P, INTERVAL, WORK, SLOTS, SLOT = 67 };
-enum { STATUS, FAULT, PLACES, PC, COUNTER, SPAN, DEPTH, FORKS, REGISTERS = 19 };
-enum { VACANT, RUNNING, WAITING, HALTED, FAULTED };
-enum { END, END_FAULT, PICKS, REPORT_WORK, REPORT_SPAN, REPORT_REGISTERS };
-enum { KIND, FIRST, SECOND, REGISTER = 3 };
-enum { SLOT_0 = SLOTS, SLOT_1 = SLOT_0 + SLOT, SLOT_2 = SLOT_1 + SLOT };
-enum { STATE_END = TPAL_STATE_BYTES / 8 };
-enum { MANY = 1000000 };
+/* Places in a state, and statuses, by the ends of their names. */
+#define IN_SLOT(slot, name) (TPAL_STATE_SLOT(slot) + TPAL_SLOT_##name)
+#define IN_FORK(fork, name) (IN_SLOT(0, FORK(fork)) + TPAL_FORK_##name)
+#define IN_REGISTER(slot, i, name) (IN_SLOT(slot, REGISTER(i)) + TPAL_REGISTER_##name)
+#define STATUSES(slot_0, slot_1) {TPAL_STATUS_##slot_0, TPAL_STATUS_##slot_1}
 
 /* Where the next number of 16 or 32 bits would be 0 again. */
 #define WRAP_16 UINT64_C(65536)
 #define WRAP_32 UINT64_C(4294967296)
-#define WORK_LIMIT (WRAP_32 - 1)
 
 /* One call. A refused one leaves everything as it was, an accepted one all but what it writes. */
 static void try_call(const struct door *door, const char *name, struct steps *steps,
@@ -100,7 +95,7 @@ static void try_equal(const char *name, const uint8_t *bytes, const uint8_t *oth
 
 static void try_number(const char *name, const uint8_t *bytes, size_t index, uint64_t expected)
 {
-    uint64_t number = number_at(bytes, index);
+    uint64_t number = tpal_number(bytes, index);
     expect(name, number == expected, (unsigned)expected, (unsigned)number);
 }
 
@@ -122,11 +117,11 @@ static void make_f_steps(struct steps *steps)
     memset(steps, FILL, sizeof *steps);
     make_program(steps->program);
     memset(steps->registers, 0, TPAL_REGISTERS_BYTES);
-    put_number(steps->registers, 0, 4);
+    tpal_put_number(steps->registers, 0, 4);
     steps->places = 2;
     steps->interval = 0;
     steps->slot = 0;
-    steps->budget = MANY;
+    steps->budget = TPAL_RUN_BUDGET;
     steps->program_len = TPAL_PROGRAM_BYTES;
     steps->registers_len = TPAL_REGISTERS_BYTES;
     steps->words_len = 0;
@@ -187,23 +182,23 @@ static void try_lengths(struct steps *steps, const struct door *door)
 
     make_forked(steps);
     steps->state_len = 0;
-    try_call(door, "F with no state bytes", steps, TPAL_BUFFER);
+    try_call(door, "F with no state bytes", steps, TPAL_REFUSED_BUFFER);
     for (i = 0; i < sizeof off_by / sizeof *off_by; i++) {
         make_forked(steps);
         steps->state_len = TPAL_STATE_BYTES - off_by[i];
-        try_call(door, "F with a short state", steps, TPAL_BUFFER);
+        try_call(door, "F with a short state", steps, TPAL_REFUSED_BUFFER);
         steps->state_len = TPAL_STATE_BYTES + off_by[i];
-        try_call(door, "F with a long state", steps, TPAL_BUFFER);
+        try_call(door, "F with a long state", steps, TPAL_REFUSED_BUFFER);
         steps->state_len = TPAL_STATE_BYTES;
         steps->words_len = off_by[i];
         try_call(door, "F with 1, 7 or 8 bytes of words", steps,
-                 off_by[i] == 8 ? TPAL_ACCEPTED : TPAL_BUFFER);
-        steps->words_len = 8 * TPAL_WORDS_MAX + off_by[i];
+                 off_by[i] == 8 ? TPAL_ACCEPTED : TPAL_REFUSED_BUFFER);
+        steps->words_len = 8 * TPAL_MAX_WORDS + off_by[i];
         try_call(door, "F with 4,096 words and as many bytes", steps,
-                 off_by[i] == 8 ? TPAL_WORDS : TPAL_BUFFER);
+                 off_by[i] == 8 ? TPAL_REFUSED_WORDS : TPAL_REFUSED_BUFFER);
     }
     make_forked(steps);
-    steps->words_len = 8 * TPAL_WORDS_MAX;
+    steps->words_len = 8 * TPAL_MAX_WORDS;
     try_call(door, "F with 4,096 words", steps, TPAL_ACCEPTED);
 }
 
@@ -217,24 +212,24 @@ static void try_settings(struct steps *steps)
     make_f_steps(steps);
     for (steps->places = 1; steps->places <= 64; steps->places *= 2) {
         try_call(&start, "F with P from 1 to 64", steps, TPAL_ACCEPTED);
-        try_number("P", steps->state, P, steps->places);
-        try_number("the task's places", steps->state, SLOT_0 + PLACES, steps->places);
+        try_number("P", steps->state, TPAL_STATE_PLACES, steps->places);
+        try_number("the task's places", steps->state, IN_SLOT(0, PLACES), steps->places);
     }
     make_f_steps(steps);
     for (i = 0; i < sizeof intervals / sizeof *intervals; i++) {
         steps->interval = intervals[i];
         try_call(&start, "F with interval 0, 8 or 65,535", steps, TPAL_ACCEPTED);
-        try_number("interval", steps->state, INTERVAL, intervals[i]);
+        try_number("interval", steps->state, TPAL_STATE_INTERVAL, intervals[i]);
     }
     make_f_steps(steps);
     for (i = 0; i < sizeof bad_places / sizeof *bad_places; i++) {
         steps->places = bad_places[i];
-        try_call(&start, "F with another P", steps, TPAL_PLACES);
+        try_call(&start, "F with another P", steps, TPAL_REFUSED_PLACES);
     }
     make_f_steps(steps);
     for (i = 0; i < sizeof bad_intervals / sizeof *bad_intervals; i++) {
         steps->interval = bad_intervals[i];
-        try_call(&start, "F with another interval", steps, TPAL_INTERVAL);
+        try_call(&start, "F with another interval", steps, TPAL_REFUSED_INTERVAL);
     }
 }
 
@@ -242,18 +237,17 @@ static void try_registers(struct steps *steps)
 {
     make_f_steps(steps);
     steps->registers_len = 0;
-    try_call(&start, "F with no registers", steps, TPAL_REGISTERS);
+    try_call(&start, "F with no registers", steps, TPAL_REFUSED_REGISTERS);
     steps->registers_len = TPAL_REGISTERS_BYTES - 1;
-    try_call(&start, "F with 15 registers and 7 bytes", steps, TPAL_REGISTERS);
+    try_call(&start, "F with 15 registers and 7 bytes", steps, TPAL_REFUSED_REGISTERS);
     steps->registers_len = TPAL_REGISTERS_BYTES + 1;
-    try_call(&start, "F with 16 registers and a byte", steps, TPAL_BUFFER);
+    try_call(&start, "F with 16 registers and a byte", steps, TPAL_REFUSED_BUFFER);
     steps->registers_len = TPAL_REGISTERS_BYTES + 8;
-    try_call(&start, "F with 17 registers", steps, TPAL_REGISTERS);
+    try_call(&start, "F with 17 registers", steps, TPAL_REFUSED_REGISTERS);
     make_f_steps(steps);
-    put_number(steps->registers, 15, UINT64_MAX);
+    tpal_put_number(steps->registers, 15, UINT64_MAX);
     try_call(&start, "F with r15 -1", steps, TPAL_ACCEPTED);
-    try_number("r15", steps->state, SLOT_0 + REGISTERS + 15 * REGISTER + FIRST,
-               UINT64_MAX);
+    try_number("r15", steps->state, IN_REGISTER(0, 15, VALUE), UINT64_MAX);
 }
 
 static void try_starts(struct steps *steps)
@@ -271,17 +265,17 @@ static void try_starts(struct steps *steps)
     /* One more no at a time, each put before the last. */
     make_f_steps(steps);
     steps->state_len = 0;
-    try_call(&start, "F with no state bytes", steps, TPAL_BUFFER);
-    steps->words_len = 8 * (TPAL_WORDS_MAX + 1);
-    try_call(&start, "and 4,097 words", steps, TPAL_WORDS);
+    try_call(&start, "F with no state bytes", steps, TPAL_REFUSED_BUFFER);
+    steps->words_len = 8 * (TPAL_MAX_WORDS + 1);
+    try_call(&start, "and 4,097 words", steps, TPAL_REFUSED_WORDS);
     steps->registers_len = 0;
-    try_call(&start, "and no registers", steps, TPAL_REGISTERS);
+    try_call(&start, "and no registers", steps, TPAL_REFUSED_REGISTERS);
     steps->interval = 7;
-    try_call(&start, "and interval 7", steps, TPAL_INTERVAL);
+    try_call(&start, "and interval 7", steps, TPAL_REFUSED_INTERVAL);
     steps->places = 3;
-    try_call(&start, "and P 3", steps, TPAL_PLACES);
-    put_number(steps->program, 0, 0);
-    try_call(&start, "and 0 blocks", steps, TPAL_COUNTS);
+    try_call(&start, "and P 3", steps, TPAL_REFUSED_PLACES);
+    tpal_put_number(steps->program, 0, 0);
+    try_call(&start, "and 0 blocks", steps, TPAL_REFUSED_COUNTS);
 }
 
 /* F's picks one by one, and what they leave of slots 0 and 1. */
@@ -292,25 +286,25 @@ static const struct {
     unsigned statuses[2];
     unsigned work;
 } f_picks[] = {
-    {"F's slot 1, vacant", 1, TPAL_RUNNING, {RUNNING, VACANT}, 0},
-    {"F's slot 2, beyond P", 2, TPAL_SLOT, {RUNNING, VACANT}, 0},
-    {"F's slot 64", 64, TPAL_SLOT, {RUNNING, VACANT}, 0},
-    {"F's slot 2^32", WRAP_32, TPAL_SLOT, {RUNNING, VACANT}, 0},
-    {"F's slot 2^64 - 1", UINT64_MAX, TPAL_SLOT, {RUNNING, VACANT}, 0},
-    {"r1 := jralloc 2", 0, TPAL_ACCEPTED, {RUNNING, VACANT}, 1},
-    {"fork r1, 1", 0, TPAL_ACCEPTED, {RUNNING, RUNNING}, 2},
-    {"the child's r0 := 7", 1, TPAL_ACCEPTED, {RUNNING, RUNNING}, 3},
-    {"the child's join r1", 1, TPAL_ACCEPTED, {RUNNING, WAITING}, 4},
-    {"the child, waiting", 1, TPAL_RUNNING, {RUNNING, WAITING}, 4},
-    {"the parent's r0 := r0 + 1", 0, TPAL_ACCEPTED, {RUNNING, WAITING}, 5},
-    {"the parent's join r1", 0, TPAL_ACCEPTED, {RUNNING, VACANT}, 6},
-    {"the child's slot, vacant again", 1, TPAL_RUNNING, {RUNNING, VACANT}, 6},
-    {"r0 := r0 + r2", 0, TPAL_ACCEPTED, {RUNNING, VACANT}, 7},
-    {"join r1", 0, TPAL_ACCEPTED, {RUNNING, VACANT}, 8},
-    {"halt", 0, TPAL_ACCEPTED, {HALTED, VACANT}, 9},
-    {"slot 0 after the end", 0, TPAL_NOT_ENDED, {HALTED, VACANT}, 9},
-    {"slot 1 after the end", 1, TPAL_NOT_ENDED, {HALTED, VACANT}, 9},
-    {"slot 2 after the end", 2, TPAL_SLOT, {HALTED, VACANT}, 9}
+    {"F's slot 1, vacant", 1, TPAL_REFUSED_NOT_RUNNING, STATUSES(RUNNING, VACANT), 0},
+    {"F's slot 2, beyond P", 2, TPAL_REFUSED_SLOT, STATUSES(RUNNING, VACANT), 0},
+    {"F's slot 64", 64, TPAL_REFUSED_SLOT, STATUSES(RUNNING, VACANT), 0},
+    {"F's slot 2^32", WRAP_32, TPAL_REFUSED_SLOT, STATUSES(RUNNING, VACANT), 0},
+    {"F's slot 2^64 - 1", UINT64_MAX, TPAL_REFUSED_SLOT, STATUSES(RUNNING, VACANT), 0},
+    {"r1 := jralloc 2", 0, TPAL_ACCEPTED, STATUSES(RUNNING, VACANT), 1},
+    {"fork r1, 1", 0, TPAL_ACCEPTED, STATUSES(RUNNING, RUNNING), 2},
+    {"the child's r0 := 7", 1, TPAL_ACCEPTED, STATUSES(RUNNING, RUNNING), 3},
+    {"the child's join r1", 1, TPAL_ACCEPTED, STATUSES(RUNNING, WAITING), 4},
+    {"the child, waiting", 1, TPAL_REFUSED_NOT_RUNNING, STATUSES(RUNNING, WAITING), 4},
+    {"the parent's r0 := r0 + 1", 0, TPAL_ACCEPTED, STATUSES(RUNNING, WAITING), 5},
+    {"the parent's join r1", 0, TPAL_ACCEPTED, STATUSES(RUNNING, VACANT), 6},
+    {"the child's slot, vacant again", 1, TPAL_REFUSED_NOT_RUNNING, STATUSES(RUNNING, VACANT), 6},
+    {"r0 := r0 + r2", 0, TPAL_ACCEPTED, STATUSES(RUNNING, VACANT), 7},
+    {"join r1", 0, TPAL_ACCEPTED, STATUSES(RUNNING, VACANT), 8},
+    {"halt", 0, TPAL_ACCEPTED, STATUSES(HALTED, VACANT), 9},
+    {"slot 0 after the end", 0, TPAL_REFUSED_ENDED, STATUSES(HALTED, VACANT), 9},
+    {"slot 1 after the end", 1, TPAL_REFUSED_ENDED, STATUSES(HALTED, VACANT), 9},
+    {"slot 2 after the end", 2, TPAL_REFUSED_SLOT, STATUSES(HALTED, VACANT), 9}
 };
 enum { F_PICKS = sizeof f_picks / sizeof *f_picks };
 
@@ -325,13 +319,13 @@ static void try_order(struct steps *steps)
         steps->slot = f_picks[i].slot;
         order[i] = steps->slot > 255 ? 255 : (uint8_t)steps->slot;
         try_call(&pick, f_picks[i].name, steps, f_picks[i].expected);
-        try_number("slot 0", steps->state, SLOT_0 + STATUS, f_picks[i].statuses[0]);
-        try_number("slot 1", steps->state, SLOT_1 + STATUS, f_picks[i].statuses[1]);
-        try_number("work", steps->state, WORK, f_picks[i].work);
+        try_number("slot 0", steps->state, IN_SLOT(0, STATUS), f_picks[i].statuses[0]);
+        try_number("slot 1", steps->state, IN_SLOT(1, STATUS), f_picks[i].statuses[1]);
+        try_number("work", steps->state, TPAL_STATE_WORK, f_picks[i].work);
         try_replayed("the replay of these picks", steps, order, i + 1);
     }
-    try_number("span", steps->state, SLOT_0 + SPAN, 7);
-    try_number("r0", steps->state, SLOT_0 + REGISTERS + FIRST, 12);
+    try_number("span", steps->state, IN_SLOT(0, SPAN), 7);
+    try_number("r0", steps->state, IN_REGISTER(0, 0, VALUE), 12);
 }
 
 /* A state's bytes are all there is of a job: from a copy it goes on as before. */
@@ -364,52 +358,52 @@ static const struct {
     size_t index;
     uint64_t number;
 } bad_numbers[] = {
-    {"P 0", P, 0},
-    {"P 3", P, 3},
-    {"P 4", P, 4},
-    {"P 2^32 + 2", P, WRAP_32 + 2},
-    {"interval 7", INTERVAL, 7},
-    {"interval 2^16", INTERVAL, WRAP_16},
-    {"interval 2^16 + 8", INTERVAL, WRAP_16 + 8},
-    {"work 1", WORK, 1},
-    {"work 2^32 + 2", WORK, WRAP_32 + 2},
-    {"a vacant parent", SLOT_0 + STATUS, VACANT},
-    {"a halted parent at depth 1", SLOT_0 + STATUS, HALTED},
-    {"a faulted parent without a number", SLOT_0 + STATUS, FAULTED},
-    {"status 5", SLOT_0 + STATUS, 5},
-    {"status 9", SLOT_0 + STATUS, 9},
-    {"status 2^8 + 1", SLOT_0 + STATUS, 256 + RUNNING},
-    {"a fault number of a running task", SLOT_0 + FAULT, TPAL_FAULT_PLACES},
-    {"fault number 2^8", SLOT_0 + FAULT, 256},
-    {"places 2", SLOT_0 + PLACES, 2},
-    {"places 2^32 + 1", SLOT_0 + PLACES, WRAP_32 + 1},
-    {"program counter 9", SLOT_0 + PC, 9},
-    {"program counter 2^16 + 2", SLOT_0 + PC, WRAP_16 + 2},
-    {"counter 3", SLOT_0 + COUNTER, 3},
-    {"counter 2^32 + 2", SLOT_0 + COUNTER, WRAP_32 + 2},
-    {"span 3", SLOT_0 + SPAN, 3},
-    {"span 2^32 + 2", SLOT_0 + SPAN, WRAP_32 + 2},
-    {"depth 0", SLOT_0 + DEPTH, 0},
-    {"depth 7", SLOT_0 + DEPTH, 7},
-    {"depth 2^32 + 1", SLOT_0 + DEPTH, WRAP_32 + 1},
-    {"a fork under block 3", SLOT_0 + FORKS, 3},
-    {"a fork under block 2^32 + 2", SLOT_0 + FORKS, WRAP_32 + 2},
-    {"a fork of depth 2^32", SLOT_0 + FORKS + 1, WRAP_32},
-    {"an entry of a fork that is not open", SLOT_0 + FORKS + 2, 2},
-    {"the last fork entry 2^32", SLOT_0 + REGISTERS - 1, WRAP_32},
-    {"label 4", SLOT_0 + REGISTERS + KIND, TPAL_KIND_LABEL},
-    {"a record under block 4", SLOT_0 + REGISTERS + KIND, TPAL_KIND_RECORD},
-    {"kind 3", SLOT_0 + REGISTERS + KIND, 3},
-    {"kind 2^32", SLOT_0 + REGISTERS + KIND, WRAP_32},
-    {"an integer with a second number", SLOT_0 + REGISTERS + SECOND, 1},
-    {"a record under block 0", SLOT_0 + REGISTERS + REGISTER + FIRST, 0},
-    {"a record under block 2^32 + 2", SLOT_0 + REGISTERS + REGISTER + FIRST, WRAP_32 + 2},
-    {"a record of depth 2^32", SLOT_0 + REGISTERS + REGISTER + SECOND, WRAP_32},
-    {"a vacant child", SLOT_1 + STATUS, VACANT},
-    {"a vacant slot's span", SLOT_2 + SPAN, 1},
-    {"a vacant slot's kind", SLOT_2 + REGISTERS + KIND, TPAL_KIND_LABEL},
-    {"a vacant slot's last number", SLOT_2 + SLOT - 1, 1},
-    {"slot 63's last number", STATE_END - 1, UINT64_MAX}
+    {"P 0", TPAL_STATE_PLACES, 0},
+    {"P 3", TPAL_STATE_PLACES, 3},
+    {"P 4", TPAL_STATE_PLACES, 4},
+    {"P 2^32 + 2", TPAL_STATE_PLACES, WRAP_32 + 2},
+    {"interval 7", TPAL_STATE_INTERVAL, 7},
+    {"interval 2^16", TPAL_STATE_INTERVAL, WRAP_16},
+    {"interval 2^16 + 8", TPAL_STATE_INTERVAL, WRAP_16 + 8},
+    {"work 1", TPAL_STATE_WORK, 1},
+    {"work 2^32 + 2", TPAL_STATE_WORK, WRAP_32 + 2},
+    {"a vacant parent", IN_SLOT(0, STATUS), TPAL_STATUS_VACANT},
+    {"a halted parent at depth 1", IN_SLOT(0, STATUS), TPAL_STATUS_HALTED},
+    {"a faulted parent without a number", IN_SLOT(0, STATUS), TPAL_STATUS_FAULTED},
+    {"status 5", IN_SLOT(0, STATUS), 5},
+    {"status 9", IN_SLOT(0, STATUS), 9},
+    {"status 2^8 + 1", IN_SLOT(0, STATUS), 256 + TPAL_STATUS_RUNNING},
+    {"a fault number of a running task", IN_SLOT(0, FAULT), TPAL_FAULT_PLACES},
+    {"fault number 2^8", IN_SLOT(0, FAULT), 256},
+    {"places 2", IN_SLOT(0, PLACES), 2},
+    {"places 2^32 + 1", IN_SLOT(0, PLACES), WRAP_32 + 1},
+    {"program counter 9", IN_SLOT(0, PC), 9},
+    {"program counter 2^16 + 2", IN_SLOT(0, PC), WRAP_16 + 2},
+    {"counter 3", IN_SLOT(0, COUNTER), 3},
+    {"counter 2^32 + 2", IN_SLOT(0, COUNTER), WRAP_32 + 2},
+    {"span 3", IN_SLOT(0, SPAN), 3},
+    {"span 2^32 + 2", IN_SLOT(0, SPAN), WRAP_32 + 2},
+    {"depth 0", IN_SLOT(0, DEPTH), 0},
+    {"depth 7", IN_SLOT(0, DEPTH), 7},
+    {"depth 2^32 + 1", IN_SLOT(0, DEPTH), WRAP_32 + 1},
+    {"a fork under block 3", IN_FORK(0, CONTINUATION), 3},
+    {"a fork under block 2^32 + 2", IN_FORK(0, CONTINUATION), WRAP_32 + 2},
+    {"a fork of depth 2^32", IN_FORK(0, DEPTH), WRAP_32},
+    {"an entry of a fork that is not open", IN_FORK(1, CONTINUATION), 2},
+    {"the last fork entry 2^32", IN_FORK(TPAL_MAX_FORKS - 1, DEPTH), WRAP_32},
+    {"label 4", IN_REGISTER(0, 0, KIND), TPAL_KIND_LABEL},
+    {"a record under block 4", IN_REGISTER(0, 0, KIND), TPAL_KIND_RECORD},
+    {"kind 3", IN_REGISTER(0, 0, KIND), 3},
+    {"kind 2^32", IN_REGISTER(0, 0, KIND), WRAP_32},
+    {"an integer with a second number", IN_REGISTER(0, 0, DEPTH), 1},
+    {"a record under block 0", IN_REGISTER(0, 1, VALUE), 0},
+    {"a record under block 2^32 + 2", IN_REGISTER(0, 1, VALUE), WRAP_32 + 2},
+    {"a record of depth 2^32", IN_REGISTER(0, 1, DEPTH), WRAP_32},
+    {"a vacant child", IN_SLOT(1, STATUS), TPAL_STATUS_VACANT},
+    {"a vacant slot's span", IN_SLOT(2, SPAN), 1},
+    {"a vacant slot's kind", IN_REGISTER(2, 0, KIND), TPAL_KIND_LABEL},
+    {"a vacant slot's last number", TPAL_STATE_SLOT(3) - 1, 1},
+    {"slot 63's last number", TPAL_STATE_NUMBERS - 1, UINT64_MAX}
 };
 
 static void try_bad_numbers(struct steps *steps)
@@ -419,10 +413,10 @@ static void try_bad_numbers(struct steps *steps)
 
     for (i = 0; i < sizeof bad_numbers / sizeof *bad_numbers; i++) {
         make_forked(steps);
-        put_number(steps->state, bad_numbers[i].index, bad_numbers[i].number);
+        tpal_put_number(steps->state, bad_numbers[i].index, bad_numbers[i].number);
         snprintf(name, sizeof name, "F with %s", bad_numbers[i].name);
-        try_call(&pick, name, steps, TPAL_SHAPE);
-        try_call(&run, name, steps, TPAL_SHAPE);
+        try_call(&pick, name, steps, TPAL_REFUSED_SHAPE);
+        try_call(&run, name, steps, TPAL_REFUSED_SHAPE);
     }
 }
 
@@ -433,7 +427,7 @@ static void try_changed(struct steps *steps, const char *name, size_t index, uin
     static uint8_t unchanged[TPAL_STATE_BYTES];
 
     memcpy(unchanged, steps->state, sizeof unchanged);
-    put_number(steps->state, index, number);
+    tpal_put_number(steps->state, index, number);
     steps->slot = 1;
     try_call(&pick, name, steps, expected);
     memcpy(steps->state, unchanged, sizeof unchanged);
@@ -441,35 +435,42 @@ static void try_changed(struct steps *steps, const char *name, size_t index, uin
 
 static void try_changes(struct steps *steps)
 {
-    enum { R0 = SLOT_0 + REGISTERS, R1 = R0 + REGISTER };
-
     make_forked(steps);
-    try_changed(steps, "F with r0 -1", R0 + FIRST, UINT64_MAX, TPAL_ACCEPTED);
-    try_changed(steps, "F with a record of depth 2^32 - 1", R1 + SECOND, WRAP_32 - 1,
+    try_changed(steps, "F with r0 -1", IN_REGISTER(0, 0, VALUE), UINT64_MAX, TPAL_ACCEPTED);
+    try_changed(steps, "F with a record of depth 2^32 - 1", IN_REGISTER(0, 1, DEPTH), WRAP_32 - 1,
                 TPAL_ACCEPTED);
-    put_number(steps->state, R0 + KIND, TPAL_KIND_LABEL);
-    try_changed(steps, "F with label 3", R0 + FIRST, 3, TPAL_ACCEPTED);
-    try_changed(steps, "F with label 2^32 + 3", R0 + FIRST, WRAP_32 + 3, TPAL_SHAPE);
-    put_number(steps->state, R0 + FIRST, 3);
-    try_changed(steps, "F with a label with a second number", R0 + SECOND, 1, TPAL_SHAPE);
+    tpal_put_number(steps->state, IN_REGISTER(0, 0, KIND), TPAL_KIND_LABEL);
+    try_changed(steps, "F with label 3", IN_REGISTER(0, 0, VALUE), 3, TPAL_ACCEPTED);
+    try_changed(steps, "F with label 2^32 + 3", IN_REGISTER(0, 0, VALUE), WRAP_32 + 3,
+                TPAL_REFUSED_SHAPE);
+    tpal_put_number(steps->state, IN_REGISTER(0, 0, VALUE), 3);
+    try_changed(steps, "F with a label with a second number", IN_REGISTER(0, 0, DEPTH), 1,
+                TPAL_REFUSED_SHAPE);
 
     make_waiting(steps);
-    try_changed(steps, "F, its parent waiting", SLOT_0 + STATUS, WAITING, TPAL_ACCEPTED);
-    try_changed(steps, "F with a waiting task's program counter", SLOT_0 + PC, 1, TPAL_SHAPE);
-    try_changed(steps, "F with a waiting task's counter", SLOT_0 + COUNTER, 1, TPAL_SHAPE);
-    put_number(steps->state, SLOT_0 + STATUS, FAULTED);
-    try_changed(steps, "F with a faulted task's registers", SLOT_0 + FAULT, TPAL_FAULT_INDEX,
-                TPAL_SHAPE);
-    memset(steps->state + 8 * R0, 0, 8 * 16 * REGISTER);
-    try_changed(steps, "F, its parent faulted", SLOT_0 + FAULT, TPAL_FAULT_INDEX, TPAL_ACCEPTED);
-    try_changed(steps, "F with fault 30", SLOT_0 + FAULT, 30, TPAL_SHAPE);
-    try_changed(steps, "F with fault 39", SLOT_0 + FAULT, 39, TPAL_SHAPE);
-    try_changed(steps, "F with fault 2^8 + 33", SLOT_0 + FAULT, 256 + TPAL_FAULT_INDEX, TPAL_SHAPE);
+    try_changed(steps, "F, its parent waiting", IN_SLOT(0, STATUS), TPAL_STATUS_WAITING,
+                TPAL_ACCEPTED);
+    try_changed(steps, "F with a waiting task's program counter", IN_SLOT(0, PC), 1,
+                TPAL_REFUSED_SHAPE);
+    try_changed(steps, "F with a waiting task's counter", IN_SLOT(0, COUNTER), 1,
+                TPAL_REFUSED_SHAPE);
+    tpal_put_number(steps->state, IN_SLOT(0, STATUS), TPAL_STATUS_FAULTED);
+    try_changed(steps, "F with a faulted task's registers", IN_SLOT(0, FAULT), TPAL_FAULT_INDEX,
+                TPAL_REFUSED_SHAPE);
+    memset(steps->state + 8 * IN_REGISTER(0, 0, KIND), 0,
+           8 * TPAL_REGISTER_COUNT * TPAL_REGISTER_NUMBERS);
+    try_changed(steps, "F, its parent faulted", IN_SLOT(0, FAULT), TPAL_FAULT_INDEX, TPAL_ACCEPTED);
+    try_changed(steps, "F with fault 30", IN_SLOT(0, FAULT), 30, TPAL_REFUSED_SHAPE);
+    try_changed(steps, "F with fault 39", IN_SLOT(0, FAULT), 39, TPAL_REFUSED_SHAPE);
+    try_changed(steps, "F with fault 2^8 + 33", IN_SLOT(0, FAULT), 256 + TPAL_FAULT_INDEX,
+                TPAL_REFUSED_SHAPE);
 
     make_state(steps, steps->words, 0);
-    try_changed(steps, "F, the child's slot vacant", SLOT_0 + STATUS, RUNNING, TPAL_RUNNING);
-    try_changed(steps, "F with a waiting task at depth 0", SLOT_0 + STATUS, WAITING, TPAL_SHAPE);
-    try_changed(steps, "F, halted", SLOT_0 + STATUS, HALTED, TPAL_NOT_ENDED);
+    try_changed(steps, "F, the child's slot vacant", IN_SLOT(0, STATUS), TPAL_STATUS_RUNNING,
+                TPAL_REFUSED_NOT_RUNNING);
+    try_changed(steps, "F with a waiting task at depth 0", IN_SLOT(0, STATUS), TPAL_STATUS_WAITING,
+                TPAL_REFUSED_SHAPE);
+    try_changed(steps, "F, halted", IN_SLOT(0, STATUS), TPAL_STATUS_HALTED, TPAL_REFUSED_ENDED);
 }
 
 /* Where questions stand in the order. */
@@ -477,48 +478,50 @@ static void try_precedence(struct steps *steps)
 {
     make_forked(steps);
     steps->slot = 64;
-    try_call(&pick, "F's slot 64", steps, TPAL_SLOT);
-    put_number(steps->state, WORK, 1);
-    try_call(&pick, "and work 1", steps, TPAL_SHAPE);
-    try_call(&run, "F with work 1", steps, TPAL_SHAPE);
+    try_call(&pick, "F's slot 64", steps, TPAL_REFUSED_SLOT);
+    tpal_put_number(steps->state, TPAL_STATE_WORK, 1);
+    try_call(&pick, "and work 1", steps, TPAL_REFUSED_SHAPE);
+    try_call(&run, "F with work 1", steps, TPAL_REFUSED_SHAPE);
     steps->report_len = 0;
-    try_call(&run, "and no report bytes", steps, TPAL_BUFFER);
+    try_call(&run, "and no report bytes", steps, TPAL_REFUSED_BUFFER);
     steps->words_len = 1;
-    try_call(&pick, "and a byte of words", steps, TPAL_BUFFER);
-    steps->words_len = 8 * (TPAL_WORDS_MAX + 1);
-    try_call(&pick, "and 4,097 words", steps, TPAL_WORDS);
-    try_call(&run, "and 4,097 words", steps, TPAL_WORDS);
-    put_number(steps->program, 0, 0);
-    try_call(&pick, "and 0 blocks", steps, TPAL_COUNTS);
-    try_call(&run, "and 0 blocks", steps, TPAL_COUNTS);
+    try_call(&pick, "and a byte of words", steps, TPAL_REFUSED_BUFFER);
+    steps->words_len = 8 * (TPAL_MAX_WORDS + 1);
+    try_call(&pick, "and 4,097 words", steps, TPAL_REFUSED_WORDS);
+    try_call(&run, "and 4,097 words", steps, TPAL_REFUSED_WORDS);
+    tpal_put_number(steps->program, 0, 0);
+    try_call(&pick, "and 0 blocks", steps, TPAL_REFUSED_COUNTS);
+    try_call(&run, "and 0 blocks", steps, TPAL_REFUSED_COUNTS);
 
     make_forked(steps);
     memset(steps->state, FILL, TPAL_STATE_BYTES);
-    try_call(&pick, "F with no state in the buffer", steps, TPAL_SHAPE);
-    try_call(&run, "F with no state in the buffer", steps, TPAL_SHAPE);
+    try_call(&pick, "F with no state in the buffer", steps, TPAL_REFUSED_SHAPE);
+    try_call(&run, "F with no state in the buffer", steps, TPAL_REFUSED_SHAPE);
     steps->words_len = 1;
-    try_call(&pick, "and a byte of words", steps, TPAL_BUFFER);
+    try_call(&pick, "and a byte of words", steps, TPAL_REFUSED_BUFFER);
     steps->words_len = 0;
     steps->report_len = 0;
-    try_call(&run, "and no report bytes", steps, TPAL_BUFFER);
+    try_call(&run, "and no report bytes", steps, TPAL_REFUSED_BUFFER);
     make_forked(steps);
     memset(steps->state, 0, TPAL_STATE_BYTES);
-    try_call(&pick, "F with a state of zeros", steps, TPAL_SHAPE);
-    try_call(&run, "F with a state of zeros", steps, TPAL_SHAPE);
+    try_call(&pick, "F with a state of zeros", steps, TPAL_REFUSED_SHAPE);
+    try_call(&run, "F with a state of zeros", steps, TPAL_REFUSED_SHAPE);
 }
 
 /* Block 2 is no join target any more. */
 static void try_other_program(struct steps *steps)
 {
-    enum { BLOCK_2 = 2 + 6 * 2, BLOCK_CELLS = 6 };
-
     make_forked(steps);
-    memset(steps->program + 8 * (BLOCK_2 + 1), 0, 8 * (BLOCK_CELLS - 1));
-    try_call(&pick, "F's state with another program", steps, TPAL_SHAPE);
-    try_call(&run, "F's state with another program", steps, TPAL_SHAPE);
+    tpal_put_number(steps->program, TPAL_PROGRAM_BLOCK(2) + TPAL_BLOCK_ANNOTATION,
+                    TPAL_ANNOTATION_NONE);
+    tpal_put_number(steps->program, TPAL_PROGRAM_BLOCK(2) + TPAL_BLOCK_LABEL, 0);
+    tpal_put_number(steps->program, TPAL_PROGRAM_BLOCK(2) + TPAL_BLOCK_PAIR_COUNT, 0);
+    tpal_put_number(steps->program, TPAL_PROGRAM_BLOCK(2) + TPAL_BLOCK_PAIRS, 0);
+    try_call(&pick, "F's state with another program", steps, TPAL_REFUSED_SHAPE);
+    try_call(&run, "F's state with another program", steps, TPAL_REFUSED_SHAPE);
     call_start(steps);
     try_call(&pick, "that program, started", steps, TPAL_ACCEPTED);
-    try_number("its fault", steps->state, SLOT_0 + FAULT, TPAL_FAULT_JOIN_TARGET);
+    try_number("its fault", steps->state, IN_SLOT(0, FAULT), TPAL_FAULT_JOIN_TARGET);
 }
 
 static void try_picks(struct steps *steps)
@@ -537,12 +540,12 @@ static void try_picks(struct steps *steps)
 static void try_report(const struct steps *steps, uint64_t end, uint64_t fault, uint64_t picks,
                        uint64_t work, uint64_t span)
 {
-    try_number("end", steps->report, END, end);
-    try_number("fault", steps->report, END_FAULT, fault);
-    try_number("picks", steps->report, PICKS, picks);
-    try_number("work", steps->report, REPORT_WORK, work);
-    try_number("span", steps->report, REPORT_SPAN, span);
-    try_number("the state's work", steps->state, WORK, work);
+    try_number("end", steps->report, TPAL_REPORT_END, end);
+    try_number("fault", steps->report, TPAL_REPORT_FAULT, fault);
+    try_number("picks", steps->report, TPAL_REPORT_PICKS, picks);
+    try_number("work", steps->report, TPAL_REPORT_WORK, work);
+    try_number("span", steps->report, TPAL_REPORT_SPAN, span);
+    try_number("the state's work", steps->state, TPAL_STATE_WORK, work);
 }
 
 /* F run on from call to call. The passes begin at slot 0 each time. */
@@ -571,9 +574,9 @@ static void try_budgets(struct steps *steps)
     try_report(steps, TPAL_END_HALT, 0, 5, 9, 7);
     try_replayed("all picks", steps, order, sizeof order);
     make_job(job);
-    tpal_job_run(job, sizeof job, MANY, report, sizeof report);
-    try_equal("the registers of the job's run", steps->report + 8 * REPORT_REGISTERS,
-              report + 8 * REPORT_REGISTERS, sizeof report - 8 * REPORT_REGISTERS);
+    tpal_job_run(job, sizeof job, TPAL_RUN_BUDGET, report, sizeof report);
+    try_equal("the registers of the job's run", steps->report + 8 * TPAL_REPORT_REGISTER(0),
+              report + 8 * TPAL_REPORT_REGISTER(0), sizeof report - 8 * TPAL_REPORT_REGISTER(0));
     try_call(&run, "F after its end", steps, TPAL_ACCEPTED);
     try_report(steps, TPAL_END_HALT, 0, 0, 9, 7);
     steps->budget = 0;
@@ -595,28 +598,28 @@ static void try_budgets(struct steps *steps)
 static void try_limit(struct steps *steps)
 {
     make_waiting(steps);
-    put_number(steps->state, WORK, WORK_LIMIT - 1);
+    tpal_put_number(steps->state, TPAL_STATE_WORK, TPAL_MAX_WORK - 1);
     steps->slot = 1;
     try_call(&pick, "F with one instruction to the limit", steps, TPAL_ACCEPTED);
-    try_number("work", steps->state, WORK, WORK_LIMIT);
-    try_call(&pick, "F at the limit", steps, TPAL_WORK);
+    try_number("work", steps->state, TPAL_STATE_WORK, TPAL_MAX_WORK);
+    try_call(&pick, "F at the limit", steps, TPAL_REFUSED_WORK);
     steps->slot = 0;
-    try_call(&pick, "F's waiting parent at the limit", steps, TPAL_RUNNING);
+    try_call(&pick, "F's waiting parent at the limit", steps, TPAL_REFUSED_NOT_RUNNING);
     steps->slot = 2;
-    try_call(&pick, "F's slot 2 at the limit", steps, TPAL_SLOT);
+    try_call(&pick, "F's slot 2 at the limit", steps, TPAL_REFUSED_SLOT);
     try_call(&run, "F at the limit", steps, TPAL_ACCEPTED);
-    try_report(steps, TPAL_END_SPENT, 0, 0, WORK_LIMIT, 0);
+    try_report(steps, TPAL_END_SPENT, 0, 0, TPAL_MAX_WORK, 0);
 
     make_waiting(steps);
-    put_number(steps->state, WORK, WORK_LIMIT - 2);
+    tpal_put_number(steps->state, TPAL_STATE_WORK, TPAL_MAX_WORK - 2);
     try_call(&run, "F with two instructions to the limit", steps, TPAL_ACCEPTED);
-    try_report(steps, TPAL_END_SPENT, 0, 2, WORK_LIMIT, 0);
+    try_report(steps, TPAL_END_SPENT, 0, 2, TPAL_MAX_WORK, 0);
 
     make_waiting(steps);
-    put_number(steps->state, WORK, WORK_LIMIT - 5);
+    tpal_put_number(steps->state, TPAL_STATE_WORK, TPAL_MAX_WORK - 5);
     try_call(&run, "F with five instructions to the limit", steps, TPAL_ACCEPTED);
-    try_report(steps, TPAL_END_HALT, 0, 5, WORK_LIMIT, 7);
-    try_call(&pick, "F ended at the limit", steps, TPAL_NOT_ENDED);
+    try_report(steps, TPAL_END_HALT, 0, 5, TPAL_MAX_WORK, 7);
+    try_call(&pick, "F ended at the limit", steps, TPAL_REFUSED_ENDED);
 }
 
 static void try_runs_on(struct steps *steps)
@@ -631,11 +634,11 @@ static void try_runs_on(struct steps *steps)
     make_forked(steps);
     for (i = 0; i < sizeof off_by / sizeof *off_by; i++) {
         steps->report_len = TPAL_REPORT_BYTES - off_by[i];
-        try_call(&run, "F with a short report", steps, TPAL_BUFFER);
+        try_call(&run, "F with a short report", steps, TPAL_REFUSED_BUFFER);
     }
     for (i = 0; i < 2; i++) {
         steps->report_len = TPAL_REPORT_BYTES + off_by[i];
-        try_call(&run, "F with a long report", steps, TPAL_BUFFER);
+        try_call(&run, "F with a long report", steps, TPAL_REFUSED_BUFFER);
     }
 }
 

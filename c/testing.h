@@ -4,16 +4,17 @@
 
 #include "tpal.h"
 
-enum { F_LEN = 156, FILL = 0xa5, MARGIN = 8 };
+enum { F_BLOCKS = 4, F_INSTRUCTIONS = 9, F_LEN = TPAL_IMAGE_BYTES(F_BLOCKS, F_INSTRUCTIONS) };
+enum { FILL = 0xa5, MARGIN = 8 };
 
-/* F's job: image length, image, P, interval, 16 registers and word count; no words. */
+/* F's job; it has no words. */
 enum {
-    IMAGE_AT = 2,
-    PLACES_AT = IMAGE_AT + F_LEN,
-    INTERVAL_AT = PLACES_AT + 1,
-    REGISTERS_AT = INTERVAL_AT + 2,
-    WORD_COUNT_AT = REGISTERS_AT + 16 * 8,
-    JOB_LEN = WORD_COUNT_AT + 2
+    IMAGE_AT = TPAL_JOB_IMAGE_AT,
+    PLACES_AT = TPAL_JOB_PLACES_AT(F_LEN),
+    INTERVAL_AT = TPAL_JOB_INTERVAL_AT(F_LEN),
+    REGISTERS_AT = TPAL_JOB_REGISTERS_AT(F_LEN),
+    WORD_COUNT_AT = TPAL_JOB_WORD_COUNT_AT(F_LEN),
+    JOB_LEN = TPAL_JOB_BYTES(F_LEN, 0)
 };
 
 /* Counts a test and prints its line. */
@@ -28,13 +29,9 @@ void make_job(uint8_t *job);
 /* F's program buffer, TPAL_PROGRAM_BYTES. */
 void make_program(uint8_t *program);
 
-/* The number at this place in a program, a state or a report. */
-uint64_t number_at(const uint8_t *bytes, size_t index);
-void put_number(uint8_t *bytes, size_t index, uint64_t number);
-
 /* A program that is refused: the first `len` bytes of F's buffer with a cell changed, or with none
  * where `cell` is NO_CELL. */
-enum { NO_CELL = TPAL_PROGRAM_BYTES / 8 };
+enum { NO_CELL = TPAL_PROGRAM_CELLS };
 struct bad_program {
     const char *name;
     size_t len;
@@ -49,6 +46,7 @@ extern const size_t bad_program_count;
 void make_bad_program(uint8_t *program, const struct bad_program *bad);
 
 /* The parts. */
+void try_helpers(void);
 void try_images(void);
 void try_programs(void);
 void try_replays(void);

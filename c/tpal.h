@@ -1,5 +1,6 @@
 /*
- * The block engine's functions for C and C++. Link libjob.a, which `rt staticlib job` makes.
+ * The block engine's functions for C and C++. `make` puts libtpal.a and libtpal.so in target/lib;
+ * `make install` installs them with this header, and pkg-config knows them as tpal.
  *
  * Buffers. A buffer is lent for the call alone, as a pointer and a length in bytes, and needs no
  * alignment. A pointer may not be null: for an empty buffer pass any other pointer with length 0.
@@ -14,6 +15,10 @@
  *
  * Answers. 0 is accepted; any other answer is the number of the first question that was answered
  * with no. A refused call leaves every buffer as it was. Only tpal_job_text answers otherwise.
+ *
+ * Names. TPAL_REFUSED_ is a refusal, TPAL_FAULT_ a fault, TPAL_MAX_ a limit, and a name that ends
+ * with _BYTES the length of a buffer. TPAL_STATE_, TPAL_SLOT_, TPAL_REPORT_ and TPAL_PROGRAM_ are
+ * places of numbers, for tpal_number below.
  */
 #ifndef TPAL_H
 #define TPAL_H
@@ -25,36 +30,75 @@
 extern "C" {
 #endif
 
+/* A major version changes names or meanings, a minor one adds to them. */
+#define TPAL_VERSION_MAJOR 1
+#define TPAL_VERSION_MINOR 0
+#define TPAL_VERSION_PATCH 0
+#define TPAL_VERSION_STRING "1.0.0"
+
+/* ---- Refusals and faults */
+
+#define TPAL_ACCEPTED 0
 /* Questions about an image of B blocks and I instructions, in the order in which they are put.
  * 6 and 7 are put block by block, then 8 and 9 instruction by instruction. A program buffer gets 4
  * and 6 to 9. */
-#define TPAL_ACCEPTED 0
-#define TPAL_HEADER 1        /* 8 bytes or more? */
-#define TPAL_MARK 2          /* mark TPB? */
-#define TPAL_VERSION 3       /* version 1? */
-#define TPAL_COUNTS 4        /* B in 1 to 128 and I in 1 to 1,024? */
-#define TPAL_LENGTH 5        /* length 8 + 10 B + 12 I? */
-#define TPAL_BLOCK_START 6   /* block 0 at 0, a later one after its predecessor, all below I? */
-#define TPAL_ANNOTATION 7    /* annotation as laid out, label below B? */
-#define TPAL_FIELDS 8        /* opcode, registers, labels and zeros as laid out? */
-#define TPAL_LAST_IN_BLOCK 9 /* opcode 13, 14 or 15 exactly when last in its block? */
+#define TPAL_REFUSED_HEADER 1        /* 8 bytes or more? */
+#define TPAL_REFUSED_MARK 2          /* mark TPB? */
+#define TPAL_REFUSED_VERSION 3       /* version 1? */
+#define TPAL_REFUSED_COUNTS 4        /* B in 1 to 128 and I in 1 to 1,024? */
+#define TPAL_REFUSED_LENGTH 5        /* length 8 + 10 B + 12 I? */
+#define TPAL_REFUSED_BLOCK_START 6   /* block 0 at 0, a later one after its predecessor, all below I? */
+#define TPAL_REFUSED_ANNOTATION 7    /* annotation as laid out, label below B? */
+#define TPAL_REFUSED_FIELDS 8        /* opcode, registers, labels and zeros as laid out? */
+#define TPAL_REFUSED_LAST_IN_BLOCK 9 /* opcode 13, 14 or 15 exactly when last in its block? */
 /* Questions about a job: 10 before all others, then those about its image or program, then the rest
  * in this order. */
-#define TPAL_INPUT 10        /* job ends exactly after its last word? */
-#define TPAL_PLACES 11       /* P 1, 2, 4, 8, 16, 32 or 64? */
-#define TPAL_INTERVAL 12     /* interval 0 or 8 to 65,535? */
-#define TPAL_REGISTERS 13    /* sixteen registers? */
-#define TPAL_WORDS 14        /* at most 4,096 words? */
-#define TPAL_BUFFER 15       /* every lent buffer of the right length? */
+#define TPAL_REFUSED_INPUT 10        /* job ends exactly after its last word? */
+#define TPAL_REFUSED_PLACES 11       /* P 1, 2, 4, 8, 16, 32 or 64? */
+#define TPAL_REFUSED_INTERVAL 12     /* interval 0 or 8 to 65,535? */
+#define TPAL_REFUSED_REGISTERS 13    /* sixteen registers? */
+#define TPAL_REFUSED_WORDS 14        /* at most 4,096 words? */
+#define TPAL_REFUSED_BUFFER 15       /* every lent buffer of the right length? */
 /* Questions about a state, put last. */
-#define TPAL_SHAPE 20        /* bytes of a state that fits the program? (tpal_pick, below) */
-#define TPAL_SLOT 21         /* slot below P? */
-#define TPAL_NOT_ENDED 22    /* job not ended? */
-#define TPAL_RUNNING 23      /* a running task there? */
-#define TPAL_WORK 24         /* work below 4,294,967,295? */
+#define TPAL_REFUSED_SHAPE 20        /* bytes of a state that fits the program? (tpal_pick, below) */
+#define TPAL_REFUSED_SLOT 21         /* slot below P? */
+#define TPAL_REFUSED_ENDED 22        /* job not ended? */
+#define TPAL_REFUSED_NOT_RUNNING 23  /* a running task there? */
+#define TPAL_REFUSED_WORK 24         /* work below 4,294,967,295? */
 
-/* Length of the largest image: 128 blocks and 1,024 instructions. */
-#define TPAL_IMAGE_MAX 13576
+/* Faults inside a task, in the order in which their questions are put to an instruction. */
+#define TPAL_FAULT_INTEGERS 31    /* both operands of opcodes 2 to 8, index, if-jump register integers? */
+#define TPAL_FAULT_DIVISOR 32     /* divisor not 0? */
+#define TPAL_FAULT_INDEX 33       /* index inside the call record? */
+#define TPAL_FAULT_RECORD 36      /* fork or join operand a record that fits? */
+#define TPAL_FAULT_TARGET 34      /* jump or fork target a label? (if-jump looks only when it jumps) */
+#define TPAL_FAULT_JOIN_TARGET 35 /* jralloc operand a label of a join target? */
+#define TPAL_FAULT_PLACES 37      /* two places to fork? */
+#define TPAL_FAULT_OPEN_FORK 38   /* no open fork at halt? */
+
+/* ---- Limits */
+
+#define TPAL_REGISTER_COUNT 16 /* of each task */
+#define TPAL_SLOT_COUNT 64     /* in a state; a job has the first P of them */
+
+#define TPAL_MAX_BLOCKS 128
+#define TPAL_MAX_INSTRUCTIONS 1024
+#define TPAL_MAX_IMAGE_BYTES 13576 /* 128 blocks and 1,024 instructions */
+#define TPAL_MAX_PLACES 64
+#define TPAL_MAX_FORKS 6           /* open at once, of one task */
+#define TPAL_MAX_INTERVAL 65535
+#define TPAL_MAX_WORDS 4096
+#define TPAL_MAX_WORK 4294967295u  /* a job that stands there is spent */
+#define TPAL_MAX_JOB_BYTES 46479   /* of a job that is accepted: the largest image, 4,096 words */
+/* Of a job that passes question 10, with an image of 65,535 bytes and 65,535 words; no such job is
+ * accepted. A caller that reads a job from elsewhere and has more bytes need not read on: the answer
+ * is 10. */
+#define TPAL_MAX_INPUT_BYTES 589950
+
+/* ---- Images and programs */
+
+/* Length of an image. */
+#define TPAL_IMAGE_BYTES(blocks, instructions) (8 + 10 * (blocks) + 12 * (instructions))
 
 /* Tests an image of any length. Answers 0, or 1 to 9. */
 uint8_t tpal_image_check(const uint8_t *image, size_t image_len);
@@ -63,14 +107,38 @@ uint8_t tpal_image_check(const uint8_t *image, size_t image_len);
  * holds the image's bytes again. Answers 0; or 1 to 9; or 15 when out_len is not image_len. */
 uint8_t tpal_image_rewrite(const uint8_t *image, size_t image_len, uint8_t *out, size_t out_len);
 
-/* Length of a program buffer: 5,890 cells of 64 bits, little-endian.
- *   0             B
- *   1             I
- *   2 + 6 b ..    block b, 0 to 127: first instruction, annotation, policy, label, number of pairs,
- *                 the four pair bytes as one number, the first in its low eight bits
- *   770 + 5 i ..  instruction i, 0 to 1,023: opcode, r, s, operand kind, operand
- * Cells of blocks from B on and of instructions from I on are unused: no question looks at them. */
+/* A program buffer: 5,890 cells of 64 bits, little-endian. Cells of blocks from B on and of
+ * instructions from I on are unused: no question looks at them. */
 #define TPAL_PROGRAM_BYTES 47120
+#define TPAL_PROGRAM_CELLS 5890
+#define TPAL_PROGRAM_BLOCK_COUNT 0       /* B */
+#define TPAL_PROGRAM_INSTRUCTION_COUNT 1 /* I */
+#define TPAL_PROGRAM_BLOCK(b) (2 + TPAL_BLOCK_CELLS * (b))               /* block b, 0 to 127 */
+#define TPAL_PROGRAM_INSTRUCTION(i) (770 + TPAL_INSTRUCTION_CELLS * (i)) /* i, 0 to 1,023 */
+/* The cells of a block, counted from its first. */
+#define TPAL_BLOCK_CELLS 6
+#define TPAL_BLOCK_FIRST 0      /* first instruction */
+#define TPAL_BLOCK_ANNOTATION 1
+#define TPAL_BLOCK_POLICY 2
+#define TPAL_BLOCK_LABEL 3      /* handler block or combining block */
+#define TPAL_BLOCK_PAIR_COUNT 4
+#define TPAL_BLOCK_PAIRS 5      /* four pair bytes as one number, the first in its low eight bits */
+#define TPAL_ANNOTATION_NONE 0
+#define TPAL_ANNOTATION_PROMOTION_READY 1
+#define TPAL_ANNOTATION_JOIN_TARGET 2
+#define TPAL_POLICY_ASSOC 0
+#define TPAL_POLICY_ASSOC_COMM 1
+/* The cells of an instruction. */
+#define TPAL_INSTRUCTION_CELLS 5
+#define TPAL_INSTRUCTION_OPCODE 0
+#define TPAL_INSTRUCTION_R 1
+#define TPAL_INSTRUCTION_S 2
+#define TPAL_INSTRUCTION_KIND 3 /* of the operand */
+#define TPAL_INSTRUCTION_OPERAND 4
+#define TPAL_OPERAND_ABSENT 0
+#define TPAL_OPERAND_REGISTER 1
+#define TPAL_OPERAND_LABEL 2
+#define TPAL_OPERAND_INTEGER 3
 
 /* Reads an image of any length into `program`, unused cells 0. Answers 0; or 1 to 9; or 15 when
  * program_len is not TPAL_PROGRAM_BYTES. */
@@ -83,50 +151,63 @@ uint8_t tpal_program_read(const uint8_t *image, size_t image_len, uint8_t *progr
 uint8_t tpal_program_write(const uint8_t *program, size_t program_len, uint8_t *image,
                            size_t image_len);
 
+/* ---- Jobs */
+
 /* A job's bytes, little-endian: image length (16 bits), image, P (8 bits), interval (16 bits), 16
- * registers (64 bits), word count (16 bits), words (64 bits).
- * The longest that passes question 10, with an image of 65,535 bytes and 65,535 words; no such job
- * is accepted. A caller that reads a job from elsewhere and has more bytes need not read on: the
- * answer is 10. */
-#define TPAL_JOB_MAX 589950
-/* The longest that is accepted: the largest image and 4,096 words. */
-#define TPAL_JOB_ACCEPTED_MAX 46479
+ * registers (64 bits), word count (16 bits), words (64 bits). Where each part begins, in bytes, and
+ * the length of all; tpal_job_make below puts them together. */
+#define TPAL_JOB_IMAGE_AT 2
+#define TPAL_JOB_PLACES_AT(image_len) (2 + (image_len))
+#define TPAL_JOB_INTERVAL_AT(image_len) (3 + (image_len))
+#define TPAL_JOB_REGISTERS_AT(image_len) (5 + (image_len))
+#define TPAL_JOB_WORD_COUNT_AT(image_len) (133 + (image_len))
+#define TPAL_JOB_WORDS_AT(image_len) (135 + (image_len))
+#define TPAL_JOB_BYTES(image_len, word_count) (135 + (image_len) + 8 * (word_count))
 
-/* Faults inside a task, in the order in which their questions are put to an instruction. */
-#define TPAL_FAULT_INTEGERS 31    /* both operands of opcodes 2 to 8, index, if-jump register integers? */
-#define TPAL_FAULT_DIVISOR 32     /* divisor not 0? */
-#define TPAL_FAULT_INDEX 33       /* index inside the call record? */
-#define TPAL_FAULT_RECORD 36      /* fork or join operand a record that fits? */
-#define TPAL_FAULT_TARGET 34      /* jump or fork target a label? (if-jump looks only when it jumps) */
-#define TPAL_FAULT_JOIN_TARGET 35 /* jralloc operand a label of a join target? */
-#define TPAL_FAULT_PLACES 37      /* two places to fork? */
-#define TPAL_FAULT_OPEN_FORK 38   /* no open fork at halt? */
-
-/* What a register holds, in a state and in a report: three numbers, of which the second is the
- * integer, the label or the record's continuation, and the third the record's depth, else 0. */
+/* The three numbers of a register, in a state and in a report, counted from its first. */
+#define TPAL_REGISTER_NUMBERS 3
+#define TPAL_REGISTER_KIND 0
+#define TPAL_REGISTER_VALUE 1 /* the integer, the label, or the record's continuation */
+#define TPAL_REGISTER_DEPTH 2 /* the record's depth, else 0 */
 #define TPAL_KIND_INTEGER 0
 #define TPAL_KIND_LABEL 1
 #define TPAL_KIND_RECORD 2
 
-/* Length of a state: 4,291 numbers of 64 bits, little-endian.
- * 0: P. 1: interval. 2: work. Then 67 numbers for each slot 0 to 63, by their place in the slot:
- *   0         status: 0 vacant, 1 running, 2 waiting, 3 halted, 4 faulted
- *   1         fault number, 0 where not faulted
- *   2         places
- *   3 and 4   program counter and counter, 0 where not running
- *   5 and 6   span and depth
- *   7 to 18   six open forks, the outermost first: continuation, depth; unused ones are 0
- *   19 to 66  16 registers of three numbers: kind, then as above
- * A vacant slot is all 0, and so are a faulted task's registers. The job has ended when slot 0 is
- * halted, or faulted at depth 0.
- * Bytes stand for a state when each number fits its field; no number is cut to size.
+/* A state: 4,291 numbers of 64 bits, little-endian. */
+#define TPAL_STATE_BYTES 34328
+#define TPAL_STATE_NUMBERS 4291
+#define TPAL_STATE_PLACES 0 /* P */
+#define TPAL_STATE_INTERVAL 1
+#define TPAL_STATE_WORK 2
+#define TPAL_STATE_SLOT(k) (3 + TPAL_SLOT_NUMBERS * (k)) /* slot k, 0 to 63 */
+/* The numbers of a slot, counted from its first. */
+#define TPAL_SLOT_NUMBERS 67
+#define TPAL_SLOT_STATUS 0
+#define TPAL_SLOT_FAULT 1               /* fault number, 0 where not faulted */
+#define TPAL_SLOT_PLACES 2
+#define TPAL_SLOT_PC 3                  /* program counter, 0 where not running */
+#define TPAL_SLOT_COUNTER 4             /* 0 where not running */
+#define TPAL_SLOT_SPAN 5
+#define TPAL_SLOT_DEPTH 6               /* number of open forks */
+#define TPAL_SLOT_FORK(i) (7 + 2 * (i)) /* open fork i, 0 to 5, the outermost first; unused ones 0 */
+#define TPAL_SLOT_REGISTER(i) (19 + TPAL_REGISTER_NUMBERS * (i)) /* register i, 0 to 15 */
+/* The two numbers of an open fork. */
+#define TPAL_FORK_CONTINUATION 0
+#define TPAL_FORK_DEPTH 1
+/* A vacant slot is all 0, and so are a faulted task's registers. The job has ended when slot 0 is
+ * halted, or faulted at depth 0. */
+#define TPAL_STATUS_VACANT 0
+#define TPAL_STATUS_RUNNING 1
+#define TPAL_STATUS_WAITING 2
+#define TPAL_STATUS_HALTED 3
+#define TPAL_STATUS_FAULTED 4
+/* Bytes stand for a state when each number fits its field; no number is cut to size.
  *   any number  P, places, an integer
  *   32 bits     work, counter, span, depth, an open fork's two numbers, a label, a record's two
  *   16 bits     interval, program counter
  *   8 bits      fault number, of a faulted task; of any other it is 0
  *   0 to 4      status
  *   0 to 2      kind; the third number of an integer or a label is 0 */
-#define TPAL_STATE_BYTES 34328
 
 /* Starts a job and carries out one pick for each byte of `order`, a slot's number; a pick that is
  * refused is passed over. Then writes the whole state to `state`. Answers 0; or 10; or 1 to 9; or
@@ -139,7 +220,6 @@ uint8_t tpal_replay(const uint8_t *job, size_t job_len, const uint8_t *order, si
  * little-endian, in two's complement. A buffer whose length is no multiple of 8 has the cells,
  * registers or words that are whole, and gets 15 in 15's place. */
 #define TPAL_REGISTERS_BYTES 128
-#define TPAL_WORDS_MAX 4096
 
 /* Starts a job: writes the state in which slot 0 has a task with these registers and all P places,
  * and nothing is carried out. `places` is P. Answers 0; or 4 or 6 to 9; or 11 or 12; or 13 when
@@ -157,18 +237,22 @@ uint8_t tpal_start(const uint8_t *program, size_t program_len, uint64_t places, 
 uint8_t tpal_pick(const uint8_t *program, size_t program_len, const uint8_t *words,
                   size_t words_len, uint64_t slot, uint8_t *state, size_t state_len);
 
-/* Length of a report: 53 numbers of 64 bits, little-endian.
- *   0        end, see below
- *   1        fault number, 0 where the job has not ended with a fault
- *   2        picks that this call has carried out
- *   3 and 4  work and span
- *   5 to 52  16 registers of three numbers: kind, then as above
- * Of a job that is spent, the span and the registers' numbers are 0. After a fault the registers are
- * integers 0. */
+/* A report: 53 numbers of 64 bits, little-endian. Of a job that is spent, the span and the registers'
+ * numbers are 0. After a fault the registers are integers 0. */
 #define TPAL_REPORT_BYTES 424
-#define TPAL_END_SPENT 0 /* the budget's picks are carried out, or the work stands at 4,294,967,295 */
+#define TPAL_REPORT_NUMBERS 53
+#define TPAL_REPORT_END 0
+#define TPAL_REPORT_FAULT 1 /* fault number, 0 where the job has not ended with a fault */
+#define TPAL_REPORT_PICKS 2 /* that this call has carried out */
+#define TPAL_REPORT_WORK 3
+#define TPAL_REPORT_SPAN 4
+#define TPAL_REPORT_REGISTER(i) (5 + TPAL_REGISTER_NUMBERS * (i)) /* register i, 0 to 15 */
+#define TPAL_END_SPENT 0 /* the budget's picks are carried out, or the work stands at its limit */
 #define TPAL_END_HALT 1
 #define TPAL_END_FAULT 2
+
+/* The budget of the run program. */
+#define TPAL_RUN_BUDGET 1000000
 
 /* Starts a job and runs it: passes over the slots again and again and picks each that has a running
  * task when reached, until the job has ended or `budget` picks are carried out. A job that ends on
@@ -195,6 +279,178 @@ uint8_t tpal_run(const uint8_t *program, size_t program_len, const uint8_t *word
  * text_len is not TPAL_TEXT_BYTES it answers 0 and leaves `text` as it was. */
 uint64_t tpal_job_text(const uint8_t *job, size_t job_len, uint64_t budget, uint8_t *text,
                        size_t text_len);
+
+/* ---- Helpers. Plain C in this header: neither proved nor in the library. */
+
+/* The number at this place of a state, a report or a program. An integer's two's complement is cast
+ * to int64_t:
+ *   tpal_number(report, TPAL_REPORT_WORK)
+ *   (int64_t)tpal_number(report, TPAL_REPORT_REGISTER(2) + TPAL_REGISTER_VALUE) */
+static inline uint64_t tpal_number(const uint8_t *bytes, size_t place)
+{
+    uint64_t number = 0;
+    size_t byte;
+
+    for (byte = 8; byte-- > 0;)
+        number = number << 8 | bytes[8 * place + byte];
+    return number;
+}
+
+/* Puts a number there; also into `registers` and `words`. */
+static inline void tpal_put_number(uint8_t *bytes, size_t place, uint64_t number)
+{
+    size_t byte;
+
+    for (byte = 0; byte < 8; byte++, number >>= 8)
+        bytes[8 * place + byte] = number & 0xff;
+}
+
+/* A number of a slot of a state: tpal_slot_number(state, 0, TPAL_SLOT_STATUS). */
+static inline uint64_t tpal_slot_number(const uint8_t *state, size_t slot, size_t place)
+{
+    return tpal_number(state, TPAL_STATE_SLOT(slot) + place);
+}
+
+/* Whether the job has ended: 1, or 0. */
+static inline int tpal_state_ended(const uint8_t *state)
+{
+    uint64_t status = tpal_slot_number(state, 0, TPAL_SLOT_STATUS);
+
+    return status == TPAL_STATUS_HALTED
+        || (status == TPAL_STATUS_FAULTED && tpal_slot_number(state, 0, TPAL_SLOT_DEPTH) == 0);
+}
+
+/* What a job is put together from. Registers from register_count on are 0. A pointer whose count is
+ * 0 may be null. */
+struct tpal_job_parts {
+    const uint8_t *image;
+    size_t image_len;
+    uint64_t places;
+    uint64_t interval;
+    const int64_t *registers;
+    size_t register_count;
+    const int64_t *words;
+    size_t word_count;
+};
+
+/* Writes the job to the start of `job`, which has room for `room` bytes, and its length,
+ * TPAL_JOB_BYTES(image_len, word_count), to `*job_len`; TPAL_MAX_JOB_BYTES are always enough. Answers
+ * 0; or, with nothing written, 5 when the image is longer than any that is accepted; 11 or 12 when
+ * places or interval are above their limits; 13 with more than 16 registers; 14 with more than 4,096
+ * words; 15 when the room is too small. All else about a job the engine asks itself. */
+static inline uint8_t tpal_job_make(const struct tpal_job_parts *parts, uint8_t *job, size_t room,
+                                    size_t *job_len)
+{
+    uint8_t *at = job;
+    size_t i;
+
+    if (parts->image_len > TPAL_MAX_IMAGE_BYTES)
+        return TPAL_REFUSED_LENGTH;
+    if (parts->places > TPAL_MAX_PLACES)
+        return TPAL_REFUSED_PLACES;
+    if (parts->interval > TPAL_MAX_INTERVAL)
+        return TPAL_REFUSED_INTERVAL;
+    if (parts->register_count > TPAL_REGISTER_COUNT)
+        return TPAL_REFUSED_REGISTERS;
+    if (parts->word_count > TPAL_MAX_WORDS)
+        return TPAL_REFUSED_WORDS;
+    if (room < TPAL_JOB_BYTES(parts->image_len, parts->word_count))
+        return TPAL_REFUSED_BUFFER;
+
+    *at++ = parts->image_len & 0xff;
+    *at++ = parts->image_len >> 8 & 0xff;
+    for (i = 0; i < parts->image_len; i++)
+        *at++ = parts->image[i];
+    *at++ = parts->places & 0xff;
+    *at++ = parts->interval & 0xff;
+    *at++ = parts->interval >> 8 & 0xff;
+    for (i = 0; i < TPAL_REGISTER_COUNT; i++)
+        tpal_put_number(at, i, i < parts->register_count ? (uint64_t)parts->registers[i] : 0);
+    at += TPAL_REGISTERS_BYTES;
+    *at++ = parts->word_count & 0xff;
+    *at++ = parts->word_count >> 8 & 0xff;
+    for (i = 0; i < parts->word_count; i++)
+        tpal_put_number(at, i, (uint64_t)parts->words[i]);
+    *job_len = TPAL_JOB_BYTES(parts->image_len, parts->word_count);
+    return TPAL_ACCEPTED;
+}
+
+/* A refusal in words. */
+static inline const char *tpal_refusal_message(unsigned number)
+{
+    switch (number) {
+    case TPAL_ACCEPTED:
+        return "accepted";
+    case TPAL_REFUSED_HEADER:
+        return "the image has fewer than 8 bytes";
+    case TPAL_REFUSED_MARK:
+        return "the image does not begin with the letters TPB";
+    case TPAL_REFUSED_VERSION:
+        return "the image's version is not 1";
+    case TPAL_REFUSED_COUNTS:
+        return "there are not 1 to 128 blocks and 1 to 1024 instructions";
+    case TPAL_REFUSED_LENGTH:
+        return "the image's length does not fit its blocks and instructions";
+    case TPAL_REFUSED_BLOCK_START:
+        return "block 0 does not start at instruction 0, or a later block not after the one before "
+               "it, or one starts beyond the last instruction";
+    case TPAL_REFUSED_ANNOTATION:
+        return "a block's annotation is not as laid out";
+    case TPAL_REFUSED_FIELDS:
+        return "an instruction's opcode, registers, label or zeros are not as laid out";
+    case TPAL_REFUSED_LAST_IN_BLOCK:
+        return "a jump, halt or join is not the last of its block, or a block ends with none";
+    case TPAL_REFUSED_INPUT:
+        return "the job does not end exactly after its last word";
+    case TPAL_REFUSED_PLACES:
+        return "the places are not 1, 2, 4, 8, 16, 32 or 64";
+    case TPAL_REFUSED_INTERVAL:
+        return "the interval is neither 0 nor 8 to 65535";
+    case TPAL_REFUSED_REGISTERS:
+        return "there are not sixteen registers";
+    case TPAL_REFUSED_WORDS:
+        return "there are more than 4096 words";
+    case TPAL_REFUSED_BUFFER:
+        return "a buffer is not of the right length";
+    case TPAL_REFUSED_SHAPE:
+        return "the bytes are no state that fits the program";
+    case TPAL_REFUSED_SLOT:
+        return "the slot is not below the number of places";
+    case TPAL_REFUSED_ENDED:
+        return "the job has ended";
+    case TPAL_REFUSED_NOT_RUNNING:
+        return "the slot has no running task";
+    case TPAL_REFUSED_WORK:
+        return "the work stands at its limit, 4294967295";
+    default:
+        return "no refusal has this number";
+    }
+}
+
+/* A fault in words. */
+static inline const char *tpal_fault_message(unsigned number)
+{
+    switch (number) {
+    case TPAL_FAULT_INTEGERS:
+        return "an operand, an index or the register of if-jump is not an integer";
+    case TPAL_FAULT_DIVISOR:
+        return "the divisor is 0";
+    case TPAL_FAULT_INDEX:
+        return "the index is outside the call record";
+    case TPAL_FAULT_RECORD:
+        return "the operand of fork or join is no join record that fits";
+    case TPAL_FAULT_TARGET:
+        return "the target of a jump or fork is not a label";
+    case TPAL_FAULT_JOIN_TARGET:
+        return "the operand of jralloc is not the label of a join target";
+    case TPAL_FAULT_PLACES:
+        return "the task has not two places to fork";
+    case TPAL_FAULT_OPEN_FORK:
+        return "a fork is open at halt";
+    default:
+        return "no fault has this number";
+    }
+}
 
 #ifdef __cplusplus
 }

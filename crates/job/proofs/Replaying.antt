@@ -5,9 +5,8 @@ use mathlib.Core.List.{List}
 use Prim.Native.Nat.{ℕ, _+_, _≤_}
 use native.Mathlib.Omega.{arith}
 use lib.Dec.{eqb, leb}
-use lib.IntN.{ℤ, pos}
-use lib.ListN.{length, take, replicate, length-replicate}
-use lib.Seq.{length-take-le}
+use lib.IntN.{ℤ}
+use lib.ListN.{length}
 use borrow.Author.Tests.{leb-true, eq-eqb}
 use Rattle.image.specs.Layout.{cellsIn}
 use Rattle.image.specs.Questions.{ask, orElse}
@@ -61,7 +60,3 @@ module _ (bytes : List ℕ) (accepted : jobNo bytes ≡ 0) where
   -- demand 3 of the order
   pub whatever-the-order : (order : List ℕ) → WhateverTheOrder (jobIn bytes) (startOn (jobIn bytes) (empty 0 0)) order
   whatever-the-order order = demand-3 (jobIn bytes) start-agrees (empty 0 0) order
-
--- a part of the buffer for words, cleared
-pub prefix-length : (room n : ℕ) → n ≤ room → length (take n (replicate room (pos 0))) ≡ n
-prefix-length room n h = length-take-le n (replicate room (pos 0)) (omega (arith, length-replicate {A = ℤ} room (pos 0)))

@@ -46,7 +46,7 @@ fn write_registers(out: &mut [u8], at: usize, registers: [Register; 16])
     }
 }
 
-// The whole report. `job` calls it with a buffer of its length, after question 15.
+// The whole report. `job` and `steps` call it with a buffer of its length, after question 15.
 pub fn write_report(r: Report, out: &mut [u8])
     requires { ⌜ length (now out) ≡ reportLength ⌝ }
     ensures { λ _. ⌜ now (out .exit) ≡ reportBytes r ⌝ }

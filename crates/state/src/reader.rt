@@ -11,7 +11,8 @@ ghost use Prim.Native.Nat.{_+_, _*_, _≤_, _<_};
 ghost use lib.ListN.{length};
 ghost use Rattle.task.specs.Formed.{every};
 ghost use Rattle.state.specs.State.{stateLength};
-ghost use Rattle.state.specs.Reading.{table, numberAt, in16, in32, isValue, standsValue, registerIn, isStatus, statusOf, standsFork, forkIn, standsTask, taskIn, slotPlace, registerPlace, standsState, stateIn};
+ghost use Rattle.state.specs.Reading.{table, numberAt, in16, in32, isValue, standsValue, registerIn, isStatus, statusOf};
+ghost use Rattle.state.specs.Reading.{standsFork, forkIn, standsTask, taskIn, slotPlace, registerPlace, standsState, stateIn};
 
 // ---- Whether the bytes stand for a state
 
@@ -188,7 +189,7 @@ pub fn stands_state(bytes: &[u8]) -> bool
     stands_bank(bytes)
 }
 
-// ---- The state that they stand for. `read_state` alone calls the rest, on bytes that stand for a state
+// ---- The state that they stand for. `read_state` ensures what the others ask: the bytes stand for a state
 
 fn read_register(bytes: &[u8], at: usize) -> Register
     requires { ⌜ (at + 24 ≤ length (now bytes)) × (standsValue (now bytes) at ≡ true) ⌝ }

@@ -1,4 +1,4 @@
-// The state's bytes.
+// The state's bytes, written.
 use crate::numbers::write_register;
 use crate::numbers::write_three;
 use crate::numbers::write_two;
@@ -83,7 +83,7 @@ fn write_slots(m: Machine, out: &mut [u8])
     }
 }
 
-// The whole state. `job` calls it with a buffer of its length, after question 15.
+// The whole state. `job` and `steps` call it with a buffer of its length, after question 15.
 pub fn write_state(m: Machine, out: &mut [u8])
     requires { ⌜ length (now out) ≡ stateLength ⌝ }
     ensures { λ _. ⌜ now (out .exit) ≡ stateBytes m ⌝ }

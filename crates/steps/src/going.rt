@@ -72,7 +72,8 @@ fn refuse(program: &[u8], words: usize, fit: bool) -> u8
 // The pick itself, whose words go to the lent slice. `pick` alone calls it, where all is ready.
 fn pick_on(program: &[u8], words: &[u8], held: &mut [i64], slot: u64, lent: &[u8]) -> Answered
     requires { ⌜ (length (now program) ≡ programBytes) × (length (now words) ≡ 8 * length (now held)) × (standsState (now lent) ≡ true) ⌝ }
-    ensures { λ r. ⌜ (r .no ≡ pickNo (cellsOf (now (program .entry))) (integersOf (now (words .entry))) (stateIn (now (lent .entry))) slot) × (r .machine ≡ picked (cellsOf (now (program .entry))) (integersOf (now (words .entry))) (stateIn (now (lent .entry))) slot) ⌝ }
+    ensures { λ r. ⌜ (r .no ≡ pickNo (cellsOf (now (program .entry))) (integersOf (now (words .entry))) (stateIn (now (lent .entry))) slot)
+        × (r .machine ≡ picked (cellsOf (now (program .entry))) (integersOf (now (words .entry))) (stateIn (now (lent .entry))) slot) ⌝ }
 {
     let mut cells = [0u64; 5890];
     buffers::read_cells(program, &mut cells);

@@ -1,12 +1,17 @@
 //! The jobs that are run.
 
 use checks::assemble::{
-    fork, halt, if_jump, join, jralloc, jump, op, word, Annotation, Assembly, JobInput, Operand,
+    fork, halt, if_jump, join, jralloc, jump, mov, op, word, Annotation, Assembly, JobInput,
+    Operand,
 };
-use checks::hand::figure_2;
+use checks::hand::{f, figure_2};
 use checks::layout::pair;
 use model::opcode::{ADD, MULTIPLY, SUBTRACT};
 use Operand::{Int, Lab, Reg};
+
+/// Registers of the jobs that fork: the rounds that are left, and the join record.
+const ROUNDS: u8 = 0;
+const RECORD: u8 = 1;
 
 /// One task that counts r0 down: five instructions a round.
 pub fn serial(picks: u64) -> Vec<u8> {
@@ -35,8 +40,6 @@ pub fn figure2(picks: u64, places: u8) -> Vec<u8> {
 /// Every task forks at once, as often as 64 places allow, and then only joins: 63 forks and joins a
 /// round. There is a block for each depth, from which parent and child both go on to the next.
 pub fn forks(picks: u64) -> Vec<u8> {
-    const ROUNDS: u8 = 0;
-    const RECORD: u8 = 1;
     const DEEPEST: u8 = 6;
     const LEAF: u8 = 1 + DEEPEST;
     const OVER: u8 = LEAF + 1;
@@ -65,6 +68,80 @@ pub fn forks(picks: u64) -> Vec<u8> {
     JobInput::new(forks.image(), 64, 0)
         .with_register(ROUNDS.into(), (picks / PICKS_A_ROUND + 2) as i64)
         .bytes()
+}
+
+/// One uneven fork at 64 places: the parent joins at once and waits, the child loops. After each pick
+/// the run passes over the waiting task's 32 places.
+pub fn waits(picks: u64) -> Vec<u8> {
+    const LOOP: u8 = 1;
+    const JOIN: u8 = 2;
+    const DONE: u8 = 3;
+    let mut waits = Assembly::default();
+    waits.block(
+        Annotation::None,
+        &[
+            jralloc(RECORD, Lab(DONE)),
+            fork(RECORD, Lab(LOOP)),
+            join(Reg(RECORD)),
+        ],
+    );
+    count_down_and_join(&mut waits, LOOP, JOIN, DONE);
+    JobInput::new(waits.image(), 64, 0)
+        .with_register(ROUNDS.into(), (picks / COUNT_DOWN_PICKS) as i64)
+        .bytes()
+}
+
+/// Forks until 64 tasks have one place each. The one in slot 0, which was always the parent, loops;
+/// the other 63 join at once and wait.
+pub fn rest(picks: u64) -> Vec<u8> {
+    const DEEPEST: u8 = 6;
+    const CHILD: u8 = 1;
+    const LOOP: u8 = 2 * DEEPEST;
+    const JOIN: u8 = LOOP + 1;
+    const DONE: u8 = LOOP + 2;
+    let mut rest = Assembly::default();
+    for depth in 0..DEEPEST {
+        // Two blocks for each depth: from both it goes on to the next, and then to the loop.
+        let (this, next) = (2 * depth, Lab(2 * depth + 2));
+        let mut code = vec![fork(RECORD, Lab(this + CHILD)), jump(next)];
+        if depth == 0 {
+            code.insert(0, jralloc(RECORD, Lab(DONE)));
+        }
+        rest.block(Annotation::None, &code);
+        rest.block(Annotation::None, &[mov(ROUNDS, Int(0)), jump(next)]);
+    }
+    count_down_and_join(&mut rest, LOOP, JOIN, DONE);
+    JobInput::new(rest.image(), 64, 0)
+        .with_register(ROUNDS.into(), (picks / COUNT_DOWN_PICKS) as i64)
+        .bytes()
+}
+
+/// Of a round of the loop.
+const COUNT_DOWN_PICKS: u64 = 3;
+
+/// The loop, the join that ends a side and also combines two, and the halt after the last join.
+fn count_down_and_join(program: &mut Assembly, looping: u8, joining: u8, done: u8) {
+    let round = [
+        if_jump(ROUNDS, Lab(joining)),
+        op(SUBTRACT, ROUNDS, ROUNDS, Int(1)),
+        jump(Lab(looping)),
+    ];
+    let target = Annotation::JoinTarget {
+        policy: 1,
+        combining: joining,
+        pairs: Vec::new(),
+    };
+    assert_eq!(program.block(Annotation::None, &round), looping);
+    assert_eq!(
+        program.block(Annotation::None, &[join(Reg(RECORD))]),
+        joining
+    );
+    assert_eq!(program.block(target, &[halt()]), done);
+}
+
+/// Program F with r0 4 and two places: nine picks.
+pub fn small() -> Vec<u8> {
+    f(2).bytes()
 }
 
 /// 32 blocks of 8 instructions, one after the other, and 256 words: most of a call's time is for

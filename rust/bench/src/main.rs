@@ -1,12 +1,19 @@
 //! The engine's speed beside the model's.
 //!
 //! Prints `ratio NAME VALUE`, the model's time divided by the engine's: above 1.0 the engine is
-//! faster. Both get the same bytes and run in turns in the same process, the model built for
-//! release. What the two come to is compared.
+//! faster. Both get the same bytes, do the same work on them and run in turns in the same process,
+//! the model built for release. What the two come to is compared.
 //!
-//! A pick is timed from its buffers' bytes to the new state's, a run from the job's bytes to the
-//! report. Then comes the engine's run on a state's bytes beside its run of the same job's, and last
-//! how the time of a pick inside a run grows, with the number of picks and with P.
+//! | line | what is timed |
+//! | --- | --- |
+//! | `read` | the image check of the largest program: questions 1 to 9, on either side without making a program |
+//! | `write` | the rewrite of the same image: the check, the program, and its image in a lent buffer |
+//! | `pick` | one pick from the bytes of program, call record and state to the new state's, with all its questions |
+//! | `run-serial`, `run-figure2`, `run-forks`, `run-waits`, `run-rest` | a million picks and what is around them, from the job's bytes to the report: questions 10, 1 to 9 and start's own once, the run, and the report's bytes (on the model's side the report as a struct) |
+//! | `job`, `job-small` | a whole call from the job's bytes to the text in a lent buffer, which is not cleared: `job` with 256 instructions, words and picks, `job-small` with program F, nine picks |
+//!
+//! Then comes the engine's run on a state's bytes beside its run of the same job's, and last how the
+//! time of a pick inside a run grows, with the number of picks and with P.
 
 mod jobs;
 mod timing;
@@ -23,10 +30,11 @@ fn compare_images() {
     const ROUNDS: usize = 401;
     const CALLS: u32 = 40;
     let image = checks::generate::valid_image(1, 128, 1024);
+    // Neither makes a program.
     let check = calls_in_turns(
         ROUNDS,
         CALLS,
-        || assert!(black_box(model::read(black_box(&image))).is_ok()),
+        || assert!(black_box(model::check(black_box(&image))).is_ok()),
         || assert!(black_box(engine::image_check(black_box(&image))).is_ok()),
     );
     print("read", "the image check, largest program", &check);
@@ -136,21 +144,27 @@ fn compare_runs(name: &str, what: &str, job: &[u8]) {
     );
 }
 
-fn compare_jobs() {
+/// Times whole calls from a job's bytes to its text, in a buffer that is lent on either side and not
+/// cleared between calls. Both put question 10, the reader's and start's own once.
+fn compare_jobs(name: &str, what: &str, job: &[u8]) {
     const ROUNDS: usize = 201;
     const CALLS: u32 = 20;
-    let job = jobs::middling();
-    let mut text = [0; engine::TEXT_BYTES];
+    let mut models = String::with_capacity(engine::TEXT_BYTES);
+    let mut engines = [0; engine::TEXT_BYTES];
     let mut length = 0;
     let times = calls_in_turns(
         ROUNDS,
         CALLS,
-        || assert!(black_box(model::job::text(black_box(&job), BUDGET)).starts_with("end halt")),
-        || length = engine::job_text(black_box(&job), BUDGET, black_box(&mut text)),
+        || {
+            models.clear();
+            let outcome = model::job::run(black_box(job), BUDGET);
+            model::text::write(&outcome, black_box(&mut models));
+        },
+        || length = engine::job_text(black_box(job), BUDGET, black_box(&mut engines)),
     );
-    let what = format!("a job of {} bytes to its text, 256 picks", job.len());
-    print("job", &what, &times);
-    assert!(text[..length as usize] == *model::job::text(&job, BUDGET).as_bytes());
+    print(name, what, &times);
+    assert!(models.starts_with("end halt"));
+    assert!(engines[..length as usize] == *models.as_bytes());
 }
 
 /// The engine's run on a state's bytes beside its run of the same job from the job's bytes.
@@ -229,7 +243,22 @@ fn main() {
         "forks at every chance, P 64",
         &jobs::forks(picks),
     );
-    compare_jobs();
+    compare_runs(
+        "run-waits",
+        "one uneven fork, P 64: one side waits, the other loops",
+        &jobs::waits(picks),
+    );
+    compare_runs(
+        "run-rest",
+        "64 tasks, P 64: one loops, the others wait",
+        &jobs::rest(picks),
+    );
+    compare_jobs(
+        "job",
+        "256 instructions, words and picks to the text",
+        &jobs::middling(),
+    );
+    compare_jobs("job-small", "F to the text, 9 picks", &jobs::small());
     print_run_beside_job_run("one task's loop, P 1", &jobs::serial(2 * picks));
     print_run_beside_job_run("Figure 2, P 64", &jobs::figure2(2 * picks, 64));
     print_run_beside_job_run("forks, P 64", &jobs::forks(2 * picks));

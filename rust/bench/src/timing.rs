@@ -1,5 +1,5 @@
-//! Two functions timed in turns in one process, in processor time: what else runs on the machine
-//! then counts little.
+//! Two functions timed in turns in one process, in processor time. Time that other processes get is
+//! not counted; what they take of the caches and of a core's other thread is, and moves the ratios.
 
 use std::time::Duration;
 use std::{mem, ptr};

@@ -20,6 +20,14 @@ fn number<T>(answer: &Result<T, u8>) -> u8 {
 /// The error says in words how the two differ.
 pub fn compare(image: &[u8], out_len: usize, salt: u64) -> Result<Answers, String> {
     let read = model::read(image);
+    let model_check = model::check(image);
+    if number(&model_check) != number(&read) {
+        return Err(format!(
+            "the model's check answers {}, its reader {}",
+            number(&model_check),
+            number(&read)
+        ));
+    }
     if let Ok(program) = &read {
         if model::write(program).as_deref() != Ok(image) {
             return Err("the model does not write back what it read".to_string());

@@ -119,6 +119,7 @@ impl Instruction {
         matches!(self.opcode, 13..=15)
     }
 
+    #[inline(always)]
     fn decode(record: &[u8]) -> Self {
         Instruction {
             opcode: record[0],
@@ -174,6 +175,7 @@ impl Block {
         used.windows(2).all(|w| w[0] & 15 < w[1] & 15) && unused.iter().all(|&pair| pair == 0)
     }
 
+    #[inline(always)]
     fn decode(record: &[u8]) -> Self {
         Block {
             first: u16::from_le_bytes([record[0], record[1]]),
@@ -279,32 +281,96 @@ pub(crate) fn check_counts(block_count: usize, instruction_count: usize) -> Resu
     }
 }
 
-/// The program of an image, or the number of the first question that is answered with no.
-pub fn read(image: &[u8]) -> Result<Program, u8> {
-    if image.len() < HEADER_BYTES {
-        return Err(question::HEADER);
+/// An image's records, as many as its header says.
+struct Records<'a> {
+    blocks: &'a [u8],
+    instructions: &'a [u8],
+}
+
+impl<'a> Records<'a> {
+    /// Questions 1 to 5. Inlined, like the decoding of a record: else the compiler doesn't see how
+    /// long the records are, and the benchmark's peer is not at its best.
+    #[inline(always)]
+    fn of(image: &'a [u8]) -> Result<Self, u8> {
+        if image.len() < HEADER_BYTES {
+            return Err(question::HEADER);
+        }
+        let (header, records) = image.split_at(HEADER_BYTES);
+        if header[..3] != MARK {
+            return Err(question::MARK);
+        }
+        if u16::from_le_bytes([header[3], header[4]]) != VERSION {
+            return Err(question::VERSION);
+        }
+        let block_count = usize::from(header[5]);
+        let instruction_count = usize::from(u16::from_le_bytes([header[6], header[7]]));
+        check_counts(block_count, instruction_count)?;
+        if image.len() != image_len(block_count, instruction_count) {
+            return Err(question::LENGTH);
+        }
+        let (blocks, instructions) = records.split_at(BLOCK_BYTES * block_count);
+        Ok(Records {
+            blocks,
+            instructions,
+        })
     }
-    let (header, records) = image.split_at(HEADER_BYTES);
-    if header[..3] != MARK {
-        return Err(question::MARK);
-    }
-    if u16::from_le_bytes([header[3], header[4]]) != VERSION {
-        return Err(question::VERSION);
-    }
-    let block_count = usize::from(header[5]);
-    let instruction_count = usize::from(u16::from_le_bytes([header[6], header[7]]));
-    check_counts(block_count, instruction_count)?;
-    if image.len() != image_len(block_count, instruction_count) {
-        return Err(question::LENGTH);
+}
+
+/// The image check: the number of the first question that is answered with no. It goes through the
+/// records as `Program`'s checks do through a program, and makes none.
+pub fn check(image: &[u8]) -> Result<(), u8> {
+    let Records {
+        blocks,
+        instructions,
+    } = Records::of(image)?;
+    let block_count = blocks.len() / BLOCK_BYTES;
+    let instruction_count = instructions.len() / INSTRUCTION_BYTES;
+    let mut expected = 0..=0;
+    for record in blocks.chunks_exact(BLOCK_BYTES) {
+        let block = Block::decode(record);
+        let first = usize::from(block.first);
+        if !expected.contains(&first) || first >= instruction_count {
+            return Err(question::BLOCK_START);
+        }
+        if !block.is_annotated_as_laid_out(block_count) {
+            return Err(question::ANNOTATION);
+        }
+        expected = first + 1..=usize::MAX;
     }
 
-    let (blocks, instructions) = records.split_at(BLOCK_BYTES * block_count);
+    let largest = largest_operands(block_count);
+    let mut starts = blocks
+        .chunks_exact(BLOCK_BYTES)
+        .skip(1)
+        .map(|record| usize::from(u16::from_le_bytes([record[0], record[1]])));
+    let mut end = starts.next().unwrap_or(instruction_count);
+    for (i, record) in instructions.chunks_exact(INSTRUCTION_BYTES).enumerate() {
+        let instruction = Instruction::decode(record);
+        if !instruction.is_as_laid_out(&largest) {
+            return Err(question::FIELDS);
+        }
+        let is_last = i + 1 == end;
+        if instruction.ends_block() != is_last {
+            return Err(question::LAST_IN_BLOCK);
+        }
+        if is_last {
+            end = starts.next().unwrap_or(instruction_count);
+        }
+    }
+    Ok(())
+}
+
+/// The program of an image, or the number of the first question that is answered with no.
+pub fn read(image: &[u8]) -> Result<Program, u8> {
+    let records = Records::of(image)?;
     let program = Program {
-        blocks: blocks
+        blocks: records
+            .blocks
             .chunks_exact(BLOCK_BYTES)
             .map(Block::decode)
             .collect(),
-        instructions: instructions
+        instructions: records
+            .instructions
             .chunks_exact(INSTRUCTION_BYTES)
             .map(Instruction::decode)
             .collect(),

@@ -1,9 +1,8 @@
 //! The run program: a job's bytes, what a run of it comes to, and the text that it prints.
 
-use crate::machine::{Answer, End, Machine};
-use crate::task::{Record, Registers, Value, REGISTERS, ZEROS};
-use crate::{image, question, Program};
-use std::fmt;
+use crate::machine::{Answer, Call, End, Machine};
+use crate::task::{Registers, REGISTERS, ZEROS};
+use crate::{image, question, text, Program};
 
 /// The run program's budget.
 pub const BUDGET: u64 = 1_000_000;
@@ -120,7 +119,7 @@ pub struct Report {
 
 impl Report {
     /// Of a run that has left the machine so.
-    pub(crate) fn of(machine: &Machine, answer: Answer, picks: u64) -> Self {
+    pub fn of(machine: &Machine, answer: Answer, picks: u64) -> Self {
         let (span, registers) = match answer {
             Answer::Ended => (machine.last_task().span, machine.last_task().registers),
             Answer::Spent => (0, ZEROS),
@@ -135,11 +134,18 @@ impl Report {
     }
 }
 
-/// Runs a job from a fresh start. The numbers of the questions put to it: 10; the reader's; start's.
+/// Runs a job from a fresh start. The numbers of the questions put to it: 10; the reader's; start's
+/// own. Each is put once: the reader has put the program's, and a fresh state meets the shape test.
 pub fn run(input: &[u8], budget: u64) -> Result<Report, u8> {
     let job = Job::parse(input)?;
-    let mut machine = job.start()?;
-    let (answer, picks) = machine.run(&job.program, &job.words, budget)?;
+    let mut machine = Machine::fresh(
+        job.places.into(),
+        job.interval.into(),
+        &job.registers,
+        &job.words,
+    )?;
+    let call = Call::of_checked(&job.program, &job.words)?;
+    let (answer, picks) = machine.run_in(call, budget);
     Ok(Report::of(&machine, answer, picks))
 }
 
@@ -155,42 +161,9 @@ pub fn text(input: &[u8], budget: u64) -> String {
 
 /// What the run program prints where a run comes to this.
 pub fn text_of(outcome: &Result<Report, u8>) -> String {
-    match outcome {
-        Err(refusal) => format!("refused {}\n", refusal),
-        Ok(report) => report.to_string(),
-    }
-}
-
-impl fmt::Display for Report {
-    fn fmt(&self, f: &mut fmt::Formatter) -> fmt::Result {
-        match self.end {
-            None => {
-                writeln!(f, "end spent")?;
-                return writeln!(f, "work {}", self.work);
-            }
-            Some(End::Halt) => writeln!(f, "end halt")?,
-            Some(End::Fault(number)) => writeln!(f, "end fault {}", number)?,
-        }
-        writeln!(f, "work {}", self.work)?;
-        writeln!(f, "span {}", self.span)?;
-        for (number, value) in self.registers.iter().enumerate() {
-            writeln!(f, "r{} {}", number, value)?;
-        }
-        Ok(())
-    }
-}
-
-impl fmt::Display for Value {
-    fn fmt(&self, f: &mut fmt::Formatter) -> fmt::Result {
-        match self {
-            Value::Int(integer) => write!(f, "int {}", integer),
-            Value::Label(label) => write!(f, "lab {}", label),
-            Value::Record(Record {
-                continuation,
-                depth,
-            }) => write!(f, "rec {} {}", continuation, depth),
-        }
-    }
+    let mut text = String::new();
+    text::write(outcome, &mut text);
+    text
 }
 
 #[cfg(test)]

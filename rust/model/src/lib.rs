@@ -20,10 +20,11 @@ mod shape;
 pub mod state;
 pub mod steps;
 pub mod task;
+pub mod text;
 
 pub use image::{
-    read, rewrite, write, write_into, Block, Instruction, Program, BLOCK_BYTES, HEADER_BYTES,
-    INSTRUCTION_BYTES, MARK, MAX_BLOCKS, MAX_INSTRUCTIONS, MAX_PAIRS, VERSION,
+    check, read, rewrite, write, write_into, Block, Instruction, Program, BLOCK_BYTES,
+    HEADER_BYTES, INSTRUCTION_BYTES, MARK, MAX_BLOCKS, MAX_INSTRUCTIONS, MAX_PAIRS, VERSION,
 };
 pub use job::Job;
 pub use machine::{Answer, Call, End, Machine, Slot, Status, MAX_PLACES, MAX_WORDS, WORK_LIMIT};

@@ -1,17 +1,20 @@
 //! A block's annotation: `[.]`, `[prppt HANDLER]` or `[jtppt POLICY; PAIRS; COMBINING]`.
 
-use crate::cursor::Parser;
-use crate::error::Error;
+use crate::cursor::{Parser, UNCLEAR};
+use crate::describe::Fitting;
+use crate::message::Message;
 use crate::notation::{
     JOIN_TARGET, JOIN_TARGET_NUMBER, POLICIES, PROMOTION_READY, PROMOTION_READY_NUMBER,
 };
+use crate::text::quoted;
+use crate::token::Token;
 use model::{Block, MAX_PAIRS};
 
 const PLAIN: Block = Block::PLAIN;
 
 impl Parser<'_> {
     /// The block record, but for the first instruction. No annotation is the empty one.
-    pub fn annotation(&mut self) -> Result<Block, Error> {
+    pub fn annotation(&mut self) -> Result<Block, Message> {
         if !self.accept("[") {
             return Ok(PLAIN);
         }
@@ -20,7 +23,7 @@ impl Parser<'_> {
         Ok(block)
     }
 
-    fn annotation_inside(&mut self) -> Result<Block, Error> {
+    fn annotation_inside(&mut self) -> Result<Block, Message> {
         if self.accept(".") {
             return Ok(PLAIN);
         }
@@ -33,23 +36,23 @@ impl Parser<'_> {
                 self.next();
                 self.join_target()
             }
-            _ => Err(self.unexpected("'prppt', 'jtppt' or '.'")),
+            _ => Err(self.unexpected_among("'prppt', 'jtppt' or '.'", Fitting::ANNOTATIONS)),
         }
     }
 
-    fn promotion_ready(&mut self) -> Result<Block, Error> {
+    fn promotion_ready(&mut self) -> Result<Block, Message> {
         Ok(Block {
             annotation: PROMOTION_READY_NUMBER,
-            label: self.label("the label of a handler block")? as u8,
+            label: self.label("the label of a handler block", Fitting::LABELS)? as u8,
             ..PLAIN
         })
     }
 
-    fn join_target(&mut self) -> Result<Block, Error> {
+    fn join_target(&mut self) -> Result<Block, Message> {
         let policy = self.policy()?;
         self.expect(";", "';'")?;
         let pairs = self.pairs()?;
-        let label = self.label("the label of a combining block")?;
+        let label = self.label("the label of a combining block", Fitting::LABELS)?;
         let mut block = Block {
             annotation: JOIN_TARGET_NUMBER,
             policy,
@@ -58,15 +61,15 @@ impl Parser<'_> {
             ..PLAIN
         };
         for (byte, pair) in block.pairs.iter_mut().zip(pairs) {
-            *byte = pair.child << 4 | pair.target;
+            *byte = (pair.child << 4) | pair.target;
         }
         Ok(block)
     }
 
-    fn policy(&mut self) -> Result<u8, Error> {
+    fn policy(&mut self) -> Result<u8, Message> {
         let text = self.peek().text;
         match POLICIES.iter().position(|policy| *policy == text) {
-            None => Err(self.unexpected("'assoc' or 'assoc-comm'")),
+            None => Err(self.unexpected_among("'assoc' or 'assoc-comm'", Fitting::POLICIES)),
             Some(number) => {
                 self.next();
                 Ok(number as u8)
@@ -75,7 +78,7 @@ impl Parser<'_> {
     }
 
     /// `CHILD -> TARGET, ..;` in rising order of target, which is how an image has them.
-    fn pairs(&mut self) -> Result<Vec<Pair>, Error> {
+    fn pairs(&mut self) -> Result<Vec<Pair>, Message> {
         let mut pairs: Vec<Pair> = Vec::new();
         if self.accept(";") {
             return Ok(pairs);
@@ -86,14 +89,7 @@ impl Parser<'_> {
             self.expect("->", "'->'")?;
             let token = self.peek();
             let target = self.register("a target register")?;
-            if pairs.iter().any(|pair| pair.target == target) {
-                let found = format!("r{} again, as '{}'", target, token.text);
-                return Err(Error::new(token.position, "each target once", found));
-            }
-            if pairs.len() == MAX_PAIRS {
-                let expected = format!("at most {} pairs", MAX_PAIRS);
-                return Err(Error::new(first.position, expected, "one more"));
-            }
+            self.check_pair(&pairs, first, token, target);
             pairs.push(Pair { child, target });
             if !self.accept(",") {
                 self.expect(";", "',' or ';'")?;
@@ -102,8 +98,21 @@ impl Parser<'_> {
             }
         }
     }
+
+    /// A pair whose first token is `first` comes after these: a target of its own, and not too many.
+    fn check_pair(&mut self, pairs: &[Pair], first: Token, token: Token, target: u8) {
+        let is_again = pairs.iter().any(|pair| pair.target == target);
+        if is_again && target != UNCLEAR {
+            let found = format!("r{} again, as {}", target, quoted(token.text));
+            self.report(Message::expected(token, "each target once", found));
+        } else if pairs.len() == MAX_PAIRS {
+            let expected = format!("at most {} pairs", MAX_PAIRS);
+            self.report(Message::expected(first, expected, "one more"));
+        }
+    }
 }
 
+#[derive(Clone, Copy)]
 struct Pair {
     child: u8,
     target: u8,

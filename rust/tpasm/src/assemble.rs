@@ -1,9 +1,10 @@
 //! From a source to its image, the names that it declared and its settings.
 
 use crate::cursor::Parser;
-use crate::error::{Error, Position};
+use crate::message::{Message, Position, Span};
 use crate::names::Registers;
 use crate::settings::Settings;
+use crate::text::without_mark;
 use crate::token::tokens;
 use std::str;
 
@@ -12,39 +13,40 @@ pub struct Assembly {
     pub image: Vec<u8>,
     pub registers: Registers,
     pub settings: Settings,
+    /// In order of place.
+    pub warnings: Vec<Message>,
 }
 
-/// Assembles a source in UTF-8, or says what is wrong at its first error.
-pub fn assemble(source: &[u8]) -> Result<Assembly, Error> {
-    let mut parser = Parser::new(tokens(text(source)?));
-    let settings = parser.settings()?;
-    let program = parser.program()?;
+/// Assembles a source in UTF-8, or says what is wrong with it: its errors in order of place. Of more
+/// than are shown, some are left out.
+pub fn assemble(source: &[u8]) -> Result<Assembly, Vec<Message>> {
+    let text = text(source).map_err(|error| vec![error])?;
+    let mut parser = Parser::new(tokens(text));
+    let (settings, has_strays) = parser.settings();
+    let program = parser.program(has_strays);
+    if !parser.errors.is_empty() {
+        let mut errors = parser.errors;
+        errors.sort_by_key(|error| error.span.position);
+        return Err(errors);
+    }
     let image = model::write(&program).expect("the parser has put the writer's questions");
     Ok(Assembly {
         image,
+        warnings: parser.notes.warnings(&program, &parser.labels),
         registers: parser.registers,
         settings,
     })
 }
 
-/// The source without the byte order mark that some editors put before it.
-fn text(source: &[u8]) -> Result<&str, Error> {
-    let source = source.strip_prefix(b"\xef\xbb\xbf").unwrap_or(source);
+fn text(source: &[u8]) -> Result<&str, Message> {
+    let source = without_mark(source);
     str::from_utf8(source).map_err(|error| {
         let before = str::from_utf8(&source[..error.valid_up_to()]).unwrap_or_default();
         let found = format!("the byte 0x{:02x}", source[error.valid_up_to()]);
-        Error::new(position_after(before), "text in UTF-8", found)
+        let span = Span {
+            position: Position::START.after(before),
+            width: 1,
+        };
+        Message::expected(span, "text in UTF-8", found)
     })
-}
-
-fn position_after(text: &str) -> Position {
-    let (lines, last) = match text.rsplit_once('\n') {
-        None => (0, text),
-        Some((lines, last)) => (lines.matches('\n').count() + 1, last),
-    };
-    let line = Position {
-        line: 1 + lines,
-        column: 1,
-    };
-    line.after(last)
 }

@@ -1,97 +1,147 @@
 //! Blocks: label, annotation, instructions, of which the last and no other ends the block.
 
 use crate::cursor::Parser;
-use crate::error::Error;
+use crate::describe::Fitting;
+use crate::message::Message;
 use crate::notation;
+use crate::text::quoted;
 use crate::token::{Kind, Token};
-use model::{Block, Program, MAX_BLOCKS, MAX_INSTRUCTIONS};
+use model::{opcode, Block, Instruction, Program, MAX_BLOCKS, MAX_INSTRUCTIONS};
 
 const NEW_LABEL: &str = "a new name for a block";
 
-impl Parser<'_> {
-    /// All blocks, up to the file's end.
-    pub fn program(&mut self) -> Result<Program, Error> {
+/// Stands for an instruction with an error.
+const NONE: Instruction = Instruction {
+    opcode: opcode::HALT,
+    r: 0,
+    s: 0,
+    kind: notation::ABSENT,
+    operand: 0,
+};
+
+/// What the instructions of a block have come to.
+#[derive(Clone, Copy)]
+enum Last<'a> {
+    /// There is none yet.
+    Missing,
+    /// One that does not end the block.
+    Open,
+    /// One that ends it, by its first token.
+    Ended(Token<'a>),
+    /// One with an error, which may have been meant to end it.
+    Unclear,
+}
+
+impl<'a> Parser<'a> {
+    /// All blocks, up to the file's end. `has_strays`: instructions stand before the first label.
+    pub fn program(&mut self, has_strays: bool) -> Program {
         let mut program = Program {
             blocks: Vec::new(),
             instructions: Vec::new(),
         };
-        if !self.at_label() {
-            return Err(self.unexpected("a block, which begins with a label"));
+        if !self.at_label() && !has_strays {
+            let error = self.unexpected("a block, which begins with a label");
+            self.report(error);
         }
-        while self.at_label() {
-            self.block(&mut program)?;
+        while self.at_label() && !self.is_full() {
+            self.block(&mut program);
         }
-        Ok(program)
+        program
     }
 
-    fn block(&mut self, program: &mut Program) -> Result<(), Error> {
-        let name = self.peek();
-        self.check_label(name, program.blocks.len())?;
+    fn block(&mut self, program: &mut Program) {
+        let name = self.next();
+        self.check_label(name, program.blocks.len());
         self.next();
-        self.expect(":", "':'")?;
+        self.notes.begin_block(program.blocks.len());
+        let annotation = self.annotation().unwrap_or_else(|error| {
+            self.report(error);
+            self.skip_annotation();
+            Block::PLAIN
+        });
         let first = program.instructions.len() as u16;
-        let annotation = self.annotation()?;
         program.blocks.push(Block {
             first,
             ..annotation
         });
-        self.instructions(name, program)
+        self.instructions(name, program);
     }
 
     /// A label's name means nothing else, and stands before one block.
-    fn check_label(&self, name: Token, block_count: usize) -> Result<(), Error> {
-        if self.is_taken(name.text) {
-            return Err(self.misused(name, NEW_LABEL));
-        }
+    fn check_label(&mut self, name: Token<'a>, block_count: usize) {
         let first = self.labels.find(name.text);
-        if let Some(label) = first.filter(|label| label.position != name.position) {
-            let found = format!("'{}' again, as in line {}", name.text, label.position.line);
-            return Err(Error::new(name.position, NEW_LABEL, found));
-        }
-        if block_count == MAX_BLOCKS {
+        let line = first.map(|number| self.labels.all()[number].position);
+        if self.is_taken(name.text) {
+            self.report(self.misused(name, NEW_LABEL, Fitting::NOTHING));
+        } else if let Some(earlier) = line.filter(|position| *position != name.position) {
+            let found = format!("{} again, as in line {}", name, earlier.line);
+            self.report(Message::expected(name, NEW_LABEL, found));
+        } else if block_count == MAX_BLOCKS {
             let expected = format!("at most {} blocks", MAX_BLOCKS);
-            return Err(Error::new(name.position, expected, "one more"));
+            self.report(Message::expected(name, expected, "one more"));
         }
-        Ok(())
     }
 
-    fn instructions(&mut self, name: Token, program: &mut Program) -> Result<(), Error> {
-        let mut last: Option<Token> = None;
+    fn instructions(&mut self, name: Token<'a>, program: &mut Program) {
+        let mut last = Last::Missing;
         loop {
             self.skip_separators();
-            let first = self.peek();
-            let ended = last.filter(|token| is_ending(token));
-            if self.at_label() || first.kind == Kind::FileEnd {
-                return match ended {
-                    Some(_) => Ok(()),
-                    None => Err(self.not_ended(name, last)),
-                };
+            if self.is_full() {
+                return;
             }
-            if let Some(ending) = ended {
-                let expected = format!("a label, since '{}' ends the block", ending.text);
-                return Err(self.misplaced(expected));
+            if self.at_label() || self.peek().kind == Kind::FileEnd {
+                return self.check_end(name, last);
             }
             if program.instructions.len() == MAX_INSTRUCTIONS {
                 let expected = format!("at most {} instructions", MAX_INSTRUCTIONS);
-                return Err(Error::new(first.position, expected, "one more"));
+                self.report(Message::expected(self.peek(), expected, "one more"));
             }
-            program.instructions.push(self.instruction()?);
-            last = Some(first);
+            let (instruction, now) = self.next_instruction(last);
+            program.instructions.push(instruction);
+            last = now;
         }
     }
 
-    /// The block's last instruction is missing, or all of them.
-    fn not_ended(&self, name: Token, last: Option<Token>) -> Error {
+    /// An instruction or, after an error, what stands for it.
+    fn next_instruction(&mut self, last: Last<'a>) -> (Instruction, Last<'a>) {
+        let first = self.peek();
+        let is_assignment = self.at_instruction();
+        let error = if let Last::Ended(ending) = last {
+            self.misplaced(format!("a label, since '{}' ends the block", ending.text))
+        } else {
+            match self.instruction() {
+                Ok(instruction) if is_ending(&first) => return (instruction, Last::Ended(first)),
+                Ok(instruction) => return (instruction, Last::Open),
+                Err(error) => error,
+            }
+        };
+        self.report(error);
+        self.skip_statement();
+        let now = match last {
+            Last::Ended(_) => Last::Unclear,
+            _ if is_ending(&first) => Last::Ended(first),
+            _ if is_assignment => Last::Open,
+            _ => Last::Unclear,
+        };
+        (NONE, now)
+    }
+
+    /// The block's last instruction is there.
+    fn check_end(&mut self, name: Token<'a>, last: Last<'a>) {
         let expected = match last {
-            None => format!("an instruction in block '{}'", name.text),
-            Some(_) => format!("'jump', 'halt' or 'join' to end block '{}'", name.text),
+            Last::Missing => format!("an instruction in block {}", quoted(name.text)),
+            Last::Open => format!(
+                "'jump', 'halt' or 'join' to end block {}",
+                quoted(name.text)
+            ),
+            Last::Ended(_) | Last::Unclear => return,
         };
         let token = self.peek();
         let found = match token.kind {
             Kind::Name => format!("the label {}", token),
             _ => token.to_string(),
         };
-        Error::new(token.position, expected, found)
+        self.report(Message::expected(token, expected, found));
     }
 }
 

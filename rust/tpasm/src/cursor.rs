@@ -1,15 +1,28 @@
 //! The parser's place in the tokens, and the questions that all of its parts put.
 
-use crate::error::Error;
-use crate::names::{described, looks_numbered, Labels, Registers};
+use crate::describe::Fitting;
+use crate::message::{Message, Span};
+use crate::names::{looks_numbered, Labels, Registers};
 use crate::notation;
+use crate::show::MAX_MESSAGES;
+use crate::text::quoted;
 use crate::token::{Kind, Token};
+use crate::warnings::Notes;
+use std::collections::HashSet;
+
+/// Stands for the register of a name whose declaration has an error.
+pub const UNCLEAR: u8 = u8::MAX;
 
 pub struct Parser<'a> {
     tokens: Vec<Token<'a>>,
     at: usize,
     pub registers: Registers,
+    /// Names whose declaration has an error. To use them is none.
+    pub doubtful: HashSet<&'a str>,
     pub labels: Labels<'a>,
+    pub notes: Notes<'a>,
+    /// Each error belongs to the statement being parsed or to one before it.
+    pub errors: Vec<Message>,
 }
 
 impl<'a> Parser<'a> {
@@ -19,6 +32,9 @@ impl<'a> Parser<'a> {
             tokens,
             at: 0,
             registers: Registers::default(),
+            doubtful: HashSet::new(),
+            notes: Notes::default(),
+            errors: Vec::new(),
         }
     }
 
@@ -31,11 +47,31 @@ impl<'a> Parser<'a> {
         self.tokens[(self.at + 1).min(self.tokens.len() - 1)]
     }
 
+    /// The token before the next.
+    pub fn last(&self) -> Option<Token<'a>> {
+        self.at.checked_sub(1).map(|at| self.tokens[at])
+    }
+
+    /// The tokens from the next one on.
+    pub fn rest(&self) -> &[Token<'a>] {
+        &self.tokens[self.at..]
+    }
+
     /// Stays at the file's end.
     pub fn next(&mut self) -> Token<'a> {
         let token = self.peek();
         self.at = (self.at + 1).min(self.tokens.len() - 1);
         token
+    }
+
+    /// Notes an error, after which parsing goes on.
+    pub fn report(&mut self, error: Message) {
+        self.errors.push(error);
+    }
+
+    /// There are more errors than are shown.
+    pub fn is_full(&self) -> bool {
+        self.errors.len() > MAX_MESSAGES
     }
 
     pub fn accept(&mut self, mark: &str) -> bool {
@@ -47,31 +83,11 @@ impl<'a> Parser<'a> {
     }
 
     /// Takes a mark; `expected` says what else could stand there.
-    pub fn expect(&mut self, mark: &str, expected: &str) -> Result<(), Error> {
+    pub fn expect(&mut self, mark: &str, expected: &str) -> Result<(), Message> {
         if self.accept(mark) {
             Ok(())
         } else {
             Err(self.unexpected(expected))
-        }
-    }
-
-    /// The next token is not what was expected.
-    pub fn unexpected(&self, expected: impl Into<String>) -> Error {
-        let token = self.peek();
-        Error::new(token.position, expected, token.to_string())
-    }
-
-    /// A name that is not what was expected: the error says what it is.
-    pub fn misused(&self, name: Token, expected: impl Into<String>) -> Error {
-        let found = described(name.text, &self.registers, &self.labels);
-        Error::new(name.position, expected, found)
-    }
-
-    /// As `unexpected` or, for a name, `misused`.
-    pub fn wrong(&self, expected: impl Into<String>) -> Error {
-        match self.peek().kind {
-            Kind::Name => self.misused(self.peek(), expected),
-            _ => self.unexpected(expected),
         }
     }
 
@@ -82,7 +98,7 @@ impl<'a> Parser<'a> {
     }
 
     /// The end of a setting or instruction; `or` says what could have continued it.
-    pub fn expect_end(&mut self, or: &str) -> Result<(), Error> {
+    pub fn expect_end(&mut self, or: &str) -> Result<(), Message> {
         if !self.peek().ends_statement() {
             return Err(self.unexpected(format!("{}';' or the end of the line", or)));
         }
@@ -94,35 +110,42 @@ impl<'a> Parser<'a> {
         self.peek().kind == Kind::Name && self.peek_second().is(":")
     }
 
+    /// The register of a name.
+    pub fn find_register(&self, name: &str) -> Option<u8> {
+        let doubtful = || self.doubtful.contains(name).then_some(UNCLEAR);
+        self.registers.number(name).or_else(doubtful)
+    }
+
     /// A register's name, one of that look, or an instruction's word.
     pub fn is_taken(&self, name: &str) -> bool {
-        self.registers.number(name).is_some()
+        self.find_register(name).is_some()
             || looks_numbered(name)
             || notation::of_text(name).is_some()
     }
 
     /// A declared name or `r0` to `r15`.
-    pub fn register(&mut self, expected: &str) -> Result<u8, Error> {
+    pub fn register(&mut self, expected: &str) -> Result<u8, Message> {
         let token = self.peek();
         let number = match token.kind {
-            Kind::Name => self.registers.number(token.text),
+            Kind::Name => self.find_register(token.text),
             _ => None,
         };
-        let number = number.ok_or_else(|| self.wrong(expected))?;
+        let number = number.ok_or_else(|| self.wrong(expected, Fitting::REGISTERS))?;
         self.next();
         Ok(number)
     }
 
     /// A block's name.
-    pub fn label(&mut self, expected: &str) -> Result<usize, Error> {
+    pub fn label(&mut self, expected: &str, fitting: Fitting) -> Result<usize, Message> {
         let token = self.peek();
         let label = match token.kind {
             Kind::Name => self.labels.find(token.text),
             _ => None,
         };
-        let label = label.ok_or_else(|| self.wrong(expected))?;
+        let label = label.ok_or_else(|| self.wrong(expected, fitting))?;
         self.next();
-        Ok(label.number)
+        self.notes.name_block(label);
+        Ok(label)
     }
 
     pub fn at_integer(&self) -> bool {
@@ -130,17 +153,19 @@ impl<'a> Parser<'a> {
     }
 
     /// Digits, with a `-` before them or not, of 64 bits.
-    pub fn integer(&mut self, expected: &str) -> Result<i64, Error> {
-        let position = self.peek().position;
+    pub fn integer(&mut self, expected: &str) -> Result<i64, Message> {
+        let first = Span::from(self.peek());
         let sign = if self.accept("-") { "-" } else { "" };
-        if self.peek().kind != Kind::Number {
+        let digits = self.peek();
+        if digits.kind != Kind::Number {
             let expected = if sign.is_empty() { expected } else { "digits" };
             return Err(self.unexpected(expected));
         }
-        let written = format!("{}{}", sign, self.next().text);
+        self.next();
+        let written = format!("{}{}", sign, digits.text);
         written.parse().map_err(|_| {
             let range = format!("an integer from {} to {}", i64::MIN, i64::MAX);
-            Error::new(position, range, format!("'{}'", written))
+            Message::expected(first.up_to(digits.into()), range, quoted(&written))
         })
     }
 }

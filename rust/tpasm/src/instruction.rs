@@ -1,7 +1,8 @@
 //! One instruction.
 
 use crate::cursor::Parser;
-use crate::error::Error;
+use crate::describe::Fitting;
+use crate::message::Message;
 use crate::notation::{self, Form, Row, ABSENT, INTEGER, LABEL, REGISTER};
 use crate::settings::SETTING_WORDS;
 use crate::token::{Kind, Token};
@@ -9,6 +10,7 @@ use model::{opcode, Instruction};
 
 const INSTRUCTION: &str = "an instruction, or a label and ':'";
 const OPERAND: &str = "a register, a label or an integer";
+const MOVED: &str = "a register, a label, an integer, 'word' or 'jralloc'";
 
 /// An operand v.
 #[derive(Clone, Copy)]
@@ -35,16 +37,16 @@ fn record(opcode: u8, r: u8, s: u8, v: Option<Operand>) -> Instruction {
     }
 }
 
-impl Parser<'_> {
+impl<'a> Parser<'a> {
     /// An instruction and the end of its line, or a `;`.
-    pub fn instruction(&mut self) -> Result<Instruction, Error> {
+    pub fn instruction(&mut self) -> Result<Instruction, Message> {
         let instruction = self.instruction_alone()?;
         let may_go_on = instruction.opcode == opcode::MOVE && instruction.kind == REGISTER;
         self.expect_end(if may_go_on { "an operator, " } else { "" })?;
         Ok(instruction)
     }
 
-    fn instruction_alone(&mut self) -> Result<Instruction, Error> {
+    fn instruction_alone(&mut self) -> Result<Instruction, Message> {
         let first = self.peek();
         if first.kind != Kind::Name {
             return Err(self.misplaced(INSTRUCTION));
@@ -52,30 +54,24 @@ impl Parser<'_> {
         if let Some(row) = notation::of_text(first.text) {
             return self.worded(row);
         }
-        if self.registers.number(first.text).is_some() {
+        if self.find_register(first.text).is_some() {
             return self.assignment();
         }
-        if self.peek_second().is(":=") {
-            return Err(self.misused(first, "a register"));
+        if self.peek_second().is(":=") || self.peek_second().is("=") {
+            return Err(self.misused(first, "a register", Fitting::REGISTERS));
         }
-        Err(self.misplaced(INSTRUCTION))
-    }
-
-    /// What stands where an instruction or a label should, and where it would belong.
-    pub fn misplaced(&self, expected: impl Into<String>) -> Error {
-        let token = self.peek();
-        let belongs = if SETTING_WORDS.contains(&token.text) {
-            "settings stand before the first block"
-        } else if token.is("[") {
-            "an annotation stands on the line of its label"
+        let has_meaning = SETTING_WORDS.contains(&first.text)
+            || self.is_taken(first.text)
+            || self.labels.find(first.text).is_some();
+        Err(if has_meaning {
+            self.misplaced(INSTRUCTION)
         } else {
-            return self.wrong(expected);
-        };
-        Error::new(token.position, expected, format!("{}; {}", token, belongs))
+            self.no_instruction()
+        })
     }
 
     /// An instruction that begins with its word.
-    fn worded(&mut self, row: &Row) -> Result<Instruction, Error> {
+    fn worded(&mut self, row: &Row) -> Result<Instruction, Message> {
         if row.form == Form::Result {
             return Err(self.unexpected(format!("'REGISTER :=' before '{}'", row.text)));
         }
@@ -84,30 +80,34 @@ impl Parser<'_> {
             Form::Two => {
                 let s = self.register("a register")?;
                 self.expect(",", "','")?;
-                (s, Some(self.operand(OPERAND)?))
+                (s, Some(self.operand()?))
             }
-            Form::One => (0, Some(self.operand(OPERAND)?)),
+            Form::One => (0, Some(self.operand()?)),
             _ => (0, None),
         };
         Ok(record(row.opcode, 0, s, v))
     }
 
     /// `r := ..`
-    fn assignment(&mut self) -> Result<Instruction, Error> {
+    fn assignment(&mut self) -> Result<Instruction, Message> {
         let r = self.register("a register")?;
+        if self.peek().is("=") {
+            let hint = "a value is assigned with ':='; '=' compares".to_string();
+            return Err(self.unexpected("':='").with_hint(hint));
+        }
         self.expect(":=", "':='")?;
         if let Some(row) = self.result_word() {
             self.next();
-            return Ok(record(row.opcode, r, 0, Some(self.operand(OPERAND)?)));
+            return self.result(row, r);
         }
         let left = self.peek();
-        let v = self.operand("a register, a label, an integer, 'word' or 'jralloc'")?;
+        let v = self.operand_among(MOVED, Fitting::MOVED)?;
         match self.operator() {
             None => Ok(record(opcode::MOVE, r, 0, Some(v))),
             Some(row) => {
                 let s = self.left_register(left, v, row)?;
                 self.next();
-                Ok(record(row.opcode, r, s, Some(self.operand(OPERAND)?)))
+                self.operation(row, r, s)
             }
         }
     }
@@ -120,26 +120,55 @@ impl Parser<'_> {
         notation::of_text(self.peek().text).filter(|row| row.form == Form::Operation)
     }
 
+    /// `r := WORD v`, from v on.
+    fn result(&mut self, row: &Row, r: u8) -> Result<Instruction, Message> {
+        let first = self.peek();
+        let v = self.operand()?;
+        if row.opcode == opcode::JRALLOC {
+            match v {
+                Operand::Register(_) => {}
+                Operand::Label(number) => self.notes.jralloc(first, Some(number)),
+                Operand::Integer(_) => self.notes.jralloc(first, None),
+            }
+        }
+        Ok(record(row.opcode, r, 0, Some(v)))
+    }
+
+    /// `r := s OPERATOR v`, from v on.
+    fn operation(&mut self, row: &Row, r: u8, s: u8) -> Result<Instruction, Message> {
+        let first = self.peek();
+        let v = self.operand()?;
+        let divides = matches!(row.opcode, opcode::DIVIDE | opcode::REMAINDER);
+        if divides && matches!(v, Operand::Integer(0)) {
+            self.notes.zero_divisor(first);
+        }
+        Ok(record(row.opcode, r, s, Some(v)))
+    }
+
     /// The left side of an operation is a register.
-    fn left_register(&self, token: Token, v: Operand, row: &Row) -> Result<u8, Error> {
+    fn left_register(&self, token: Token<'a>, v: Operand, row: &Row) -> Result<u8, Message> {
         let expected = format!("a register to the left of '{}'", row.text);
         match v {
             Operand::Register(number) => Ok(number),
-            Operand::Label(_) => Err(self.misused(token, expected)),
+            Operand::Label(_) => Err(self.misused(token, expected, Fitting::NOTHING)),
             Operand::Integer(integer) => {
                 let found = format!("'{}'", integer);
-                Err(Error::new(token.position, expected, found))
+                Err(Message::expected(token, expected, found))
             }
         }
     }
 
-    fn operand(&mut self, expected: &str) -> Result<Operand, Error> {
+    fn operand(&mut self) -> Result<Operand, Message> {
+        self.operand_among(OPERAND, Fitting::OPERANDS)
+    }
+
+    fn operand_among(&mut self, expected: &str, fitting: Fitting) -> Result<Operand, Message> {
         if self.at_integer() {
             return self.integer(expected).map(Operand::Integer);
         }
-        if self.registers.number(self.peek().text).is_some() {
+        if self.find_register(self.peek().text).is_some() {
             return self.register(expected).map(Operand::Register);
         }
-        self.label(expected).map(Operand::Label)
+        self.label(expected, fitting).map(Operand::Label)
     }
 }

@@ -1,111 +1,69 @@
-//! From an image back to a source: blocks `b0`, `b1`, .., registers `r0` to `r15`.
+//! From an image or a job back to a source: blocks `b0`, `b1`, .., registers `r0` to `r15`.
 
-use crate::notation::{self, Form, INTEGER, LABEL, POLICIES, REGISTER};
-use model::{question, Block, Instruction, Program};
-use std::fmt::{self, Write};
+mod line;
+mod program;
+mod settings;
 
-/// The number of the reader's first question that was answered with no.
-#[derive(Clone, Copy, Debug, PartialEq, Eq)]
-pub struct Refusal(pub u8);
+use crate::refusal::Refusal;
+use line::{text, Line};
+use model::{Job, MARK};
 
-impl fmt::Display for Refusal {
-    fn fmt(&self, f: &mut fmt::Formatter) -> fmt::Result {
-        let words = match self.0 {
-            question::HEADER => "the image has fewer than 8 bytes",
-            question::MARK => "the image does not begin with the letters TPB",
-            question::VERSION => "the image's version is not 1",
-            question::COUNTS => "there are not 1 to 128 blocks and 1 to 1024 instructions",
-            question::LENGTH => "the image's length does not fit its blocks and instructions",
-            question::BLOCK_START => {
-                "block 0 does not start at instruction 0, or a later block not after the one \
-                 before it, or one starts beyond the last instruction"
-            }
-            question::ANNOTATION => "a block's annotation is not as laid out",
-            question::FIELDS => {
-                "an instruction's opcode, registers, label or zeros are not as laid out"
-            }
-            question::LAST_IN_BLOCK => {
-                "a jump, halt or join is not the last of its block, or a block ends with none"
-            }
-            _ => "a question without words",
-        };
-        write!(f, "refused {}: {}", self.0, words)
-    }
-}
-
-impl std::error::Error for Refusal {}
+/// Bytes of a job before its image.
+const IMAGE_AT: usize = 2;
 
 /// The source of an image's program. Assembled again, it gives the same image.
 pub fn list(image: &[u8]) -> Result<String, Refusal> {
     let program = model::read(image).map_err(Refusal)?;
-    let mut text = String::new();
-    write_program(&mut text, &program).expect("a string takes all that is written");
-    Ok(text)
+    Ok(text(&program::lines(&program, image, 0), false))
 }
 
-fn write_program(text: &mut String, program: &Program) -> fmt::Result {
-    for (number, block) in program.blocks.iter().enumerate() {
-        write!(text, "b{}:", number)?;
-        write_annotation(text, block)?;
-        writeln!(text)?;
-        let end = match program.blocks.get(number + 1) {
-            Some(next) => next.first.into(),
-            None => program.instructions.len(),
-        };
-        for instruction in &program.instructions[block.first.into()..end] {
-            write!(text, "  ")?;
-            write_instruction(text, instruction)?;
-            writeln!(text)?;
-        }
+/// The source of an image or of a job, with a comment that says which of them it is. Assembled again,
+/// it gives the same image, or the same job. `offsets`: comments have the number of each block and
+/// instruction, where in the file it stands, and its bytes.
+pub fn list_file(bytes: &[u8], offsets: bool) -> Result<String, Refusal> {
+    let mut lines = if is_job(bytes) {
+        job_lines(bytes)?
+    } else {
+        image_lines(bytes)?
+    };
+    if offsets {
+        let columns = "// beside each line: block or instruction, offset in the file, bytes";
+        lines.insert(1, Line::alone(columns.to_string()));
     }
-    Ok(())
+    Ok(text(&lines, offsets))
 }
 
-fn write_annotation(text: &mut String, block: &Block) -> fmt::Result {
-    if block.is_promotion_ready() {
-        write!(text, " [{} b{}]", notation::PROMOTION_READY, block.label)?;
-    }
-    if block.is_join_target() {
-        let policy = POLICIES[usize::from(block.policy)];
-        let pairs: Vec<String> = block
-            .register_pairs()
-            .map(|(child, target)| format!("r{} -> r{}", child, target))
-            .collect();
-        write!(
-            text,
-            " [{} {}; {}; b{}]",
-            notation::JOIN_TARGET,
-            policy,
-            pairs.join(", "),
-            block.label
-        )?;
-    }
-    Ok(())
+/// The image's mark stands behind the image's length. An image has it at its start, so it is no job.
+fn is_job(bytes: &[u8]) -> bool {
+    let at = |offset: usize| bytes.get(offset..).unwrap_or_default();
+    !at(0).starts_with(&MARK) && at(IMAGE_AT).starts_with(&MARK)
 }
 
-fn write_instruction(text: &mut String, instruction: &Instruction) -> fmt::Result {
-    let row = notation::of_opcode(instruction.opcode).expect("the reader has asked question 8");
-    let (r, s, v) = (instruction.r, instruction.s, Operand(instruction));
-    match row.form {
-        Form::Move => write!(text, "r{} := {}", r, v),
-        Form::Operation => write!(text, "r{} := r{} {} {}", r, s, row.text, v),
-        Form::Result => write!(text, "r{} := {} {}", r, row.text, v),
-        Form::Two => write!(text, "{} r{}, {}", row.text, s, v),
-        Form::One => write!(text, "{} {}", row.text, v),
-        Form::Alone => write!(text, "{}", row.text),
-    }
+fn image_lines(image: &[u8]) -> Result<Vec<Line>, Refusal> {
+    let program = model::read(image).map_err(Refusal)?;
+    let first = format!(
+        "// image of {} bytes, {}",
+        image.len(),
+        program::counts(&program)
+    );
+    let mut lines = vec![Line::alone(first)];
+    lines.extend(program::lines(&program, image, 0));
+    Ok(lines)
 }
 
-/// An instruction's operand as it is written.
-struct Operand<'a>(&'a Instruction);
-
-impl fmt::Display for Operand<'_> {
-    fn fmt(&self, f: &mut fmt::Formatter) -> fmt::Result {
-        match self.0.kind {
-            REGISTER => write!(f, "r{}", self.0.operand),
-            LABEL => write!(f, "b{}", self.0.operand),
-            INTEGER => write!(f, "{}", self.0.operand as i64),
-            _ => Ok(()),
-        }
-    }
+fn job_lines(bytes: &[u8]) -> Result<Vec<Line>, Refusal> {
+    let job = Job::parse(bytes).map_err(Refusal)?;
+    settings::check(&job).map_err(Refusal)?;
+    let image = &bytes[IMAGE_AT..IMAGE_AT + job.program.image_len()];
+    let first = format!(
+        "// job of {} bytes; its image has {}, {}",
+        bytes.len(),
+        image.len(),
+        program::counts(&job.program)
+    );
+    let mut lines = vec![Line::alone(first)];
+    lines.extend(settings::lines(&job, IMAGE_AT + image.len()));
+    lines.push(Line::alone(String::new()));
+    lines.extend(program::lines(&job.program, image, IMAGE_AT));
+    Ok(lines)
 }

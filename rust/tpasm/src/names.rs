@@ -1,8 +1,6 @@
 //! Names of registers and of blocks. They share one set of names with the instructions' words, so
 //! that a name means one thing in the whole source.
 
-use crate::error::Position;
-use crate::notation;
 use crate::token::{Kind, Token};
 use model::REGISTERS;
 use std::collections::HashMap;
@@ -42,63 +40,44 @@ impl Registers {
         self.names[usize::from(number)].as_deref()
     }
 
+    /// The declared names with their registers, in the order of these.
+    pub fn named(&self) -> impl Iterator<Item = (u8, &str)> {
+        let names = (0..).zip(&self.names);
+        names.filter_map(|(number, name)| Some((number, name.as_deref()?)))
+    }
+
     pub(crate) fn declare(&mut self, name: &str, number: u8) {
         self.names[usize::from(number)] = Some(name.to_string());
     }
 }
 
-#[derive(Clone, Copy, Debug)]
-pub struct Label {
-    pub number: usize,
-    pub position: Position,
-}
-
-/// The blocks' names, collected ahead since a block may be named before it stands there.
+/// The blocks' labels, collected ahead since a block may be named before it stands there.
 pub struct Labels<'a> {
-    blocks: HashMap<&'a str, Label>,
+    order: Vec<Token<'a>>,
+    numbers: HashMap<&'a str, usize>,
 }
 
 impl<'a> Labels<'a> {
     /// A name before a `:` begins a block, and nothing else does. Of equal names the first counts;
     /// the parser refuses the second where it stands.
     pub fn collect(tokens: &[Token<'a>]) -> Self {
-        let mut blocks = HashMap::new();
-        let labels = tokens
-            .windows(2)
-            .filter(|pair| pair[0].kind == Kind::Name && pair[1].is(":"));
-        for (number, pair) in labels.enumerate() {
-            let position = pair[0].position;
-            blocks
-                .entry(pair[0].text)
-                .or_insert(Label { number, position });
+        let is_label = |pair: &&[Token]| pair[0].kind == Kind::Name && pair[1].is(":");
+        let labels = tokens.windows(2).filter(is_label).map(|pair| pair[0]);
+        let order: Vec<Token> = labels.collect();
+        let mut numbers = HashMap::new();
+        for (number, label) in order.iter().enumerate() {
+            numbers.entry(label.text).or_insert(number);
         }
-        Labels { blocks }
+        Labels { order, numbers }
     }
 
-    pub fn find(&self, name: &str) -> Option<Label> {
-        self.blocks.get(name).copied()
+    /// A block's number.
+    pub fn find(&self, name: &str) -> Option<usize> {
+        self.numbers.get(name).copied()
     }
-}
 
-/// What a name is, for the end of an error's line.
-pub fn described(name: &str, registers: &Registers, labels: &Labels) -> String {
-    if notation::of_text(name).is_some() {
-        return format!("the instruction '{}'", name);
-    }
-    if registers.number(name).is_some() {
-        return format!("the register '{}'", name);
-    }
-    if looks_numbered(name) {
-        return format!("'{}' (the registers are r0 to r15)", name);
-    }
-    if labels.find(name).is_some() {
-        return format!("the label '{}'", name);
-    }
-    match name.split_once('-') {
-        Some((left, right)) if registers.number(left).is_some() => format!(
-            "'{}' (for a difference write spaces: {} - {})",
-            name, left, right
-        ),
-        _ => format!("'{}', which names no register and no block", name),
+    /// In the order of the source.
+    pub fn all(&self) -> &[Token<'a>] {
+        &self.order
     }
 }

@@ -48,11 +48,15 @@ const ROWS: [Row; 15] = [
     row(opcode::JOIN, "join", Form::One),
 ];
 
+/// The instructions' words.
+pub const WORDS: [&str; 7] = ["word", "if-jump", "jralloc", "fork", "jump", "halt", "join"];
+
 /// The policies, each at its number.
 pub const POLICIES: [&str; 2] = ["assoc", "assoc-comm"];
 
 pub const PROMOTION_READY: &str = "prppt";
 pub const JOIN_TARGET: &str = "jtppt";
+pub const ANNOTATIONS: [&str; 2] = [PROMOTION_READY, JOIN_TARGET];
 
 /// Annotation numbers of a block record.
 pub const PROMOTION_READY_NUMBER: u8 = 1;

@@ -1,16 +1,16 @@
 //! The lines before the first block: names of registers, and the job's settings.
 
 use crate::cursor::Parser;
-use crate::error::Error;
+use crate::describe::Fitting;
+use crate::message::{Message, Span};
 use crate::names::numbered;
+use crate::text::quoted;
 use crate::token::{Kind, Token};
 use model::{MAX_PLACES, MAX_WORDS, REGISTERS};
 
 /// What start accepts, in words.
 pub const PLACES: &str = "1, 2, 4, 8, 16, 32 or 64";
 pub const INTERVALS: &str = "0 or 8 to 65535";
-
-const SETTING: &str = "a setting (reg, places, interval, set or words) or a label and ':'";
 
 /// The words that begin a setting. They mean nothing in a block, so a label may be called so.
 pub const SETTING_WORDS: [&str; 5] = ["reg", "places", "interval", "set", "words"];
@@ -40,34 +40,59 @@ impl Settings {
 }
 
 impl<'a> Parser<'a> {
-    /// The lines up to the first label.
-    pub fn settings(&mut self) -> Result<Settings, Error> {
+    /// The lines up to the first label; and whether instructions stood among them.
+    pub fn settings(&mut self) -> (Settings, bool) {
         let mut settings = Settings::default();
+        let mut has_strays = false;
         loop {
             self.skip_separators();
-            if self.at_label() || self.peek().kind == Kind::FileEnd {
-                return Ok(settings);
+            if self.at_label() || self.peek().kind == Kind::FileEnd || self.is_full() {
+                return (settings, has_strays);
             }
-            let word = self.next();
-            match word.text {
-                "reg" => self.reg_line()?,
-                "places" => {
-                    let allowed = Settings::allowed_places;
-                    self.number_line(word, PLACES, allowed, &mut settings.places)?;
-                }
-                "interval" => {
-                    let allowed = Settings::allowed_interval;
-                    self.number_line(word, INTERVALS, allowed, &mut settings.interval)?;
-                }
-                "set" => self.set_line(&mut settings.registers)?,
-                "words" => self.words_line(&mut settings.words)?,
-                _ => return Err(Error::new(word.position, SETTING, word.to_string())),
+            let is_stray = self.at_instruction();
+            has_strays |= is_stray;
+            self.setting_or_error(&mut settings);
+            if is_stray {
+                self.skip_instructions();
             }
         }
     }
 
+    /// A setting or, after an error, what stands there up to its end.
+    fn setting_or_error(&mut self, settings: &mut Settings) {
+        let first = self.peek();
+        let ends = |token: &&Token| !token.ends_statement();
+        let statement: Vec<Token> = self.rest().iter().take_while(ends).copied().collect();
+        if let Err(error) = self.setting(settings) {
+            self.report(error);
+            self.doubt_names(first.text, &statement);
+            self.skip_statement();
+        }
+    }
+
+    fn setting(&mut self, settings: &mut Settings) -> Result<(), Message> {
+        let word = self.peek();
+        if !SETTING_WORDS.contains(&word.text) {
+            return Err(self.no_setting());
+        }
+        self.next();
+        match word.text {
+            "reg" => self.reg_line(),
+            "places" => {
+                let allowed = Settings::allowed_places;
+                self.number_line(word, PLACES, allowed, &mut settings.places)
+            }
+            "interval" => {
+                let allowed = Settings::allowed_interval;
+                self.number_line(word, INTERVALS, allowed, &mut settings.interval)
+            }
+            "set" => self.set_line(&mut settings.registers),
+            _ => self.words_line(&mut settings.words),
+        }
+    }
+
     /// `reg NAME = rN, ..`
-    fn reg_line(&mut self) -> Result<(), Error> {
+    fn reg_line(&mut self) -> Result<(), Message> {
         loop {
             let name = self.new_name()?;
             self.expect("=", "'='")?;
@@ -80,24 +105,22 @@ impl<'a> Parser<'a> {
     }
 
     /// A name that means nothing yet.
-    fn new_name(&mut self) -> Result<&'a str, Error> {
+    fn new_name(&mut self) -> Result<&'a str, Message> {
         let token = self.peek();
         if token.kind != Kind::Name || self.is_taken(token.text) {
-            return Err(self.wrong("a new name for a register"));
+            return Err(self.wrong("a new name for a register", Fitting::NOTHING));
         }
         Ok(self.next().text)
     }
 
-    fn unnamed_register(&mut self) -> Result<u8, Error> {
+    fn unnamed_register(&mut self) -> Result<u8, Message> {
         let token = self.peek();
-        let number = numbered(token.text).ok_or_else(|| self.wrong("r0 to r15"))?;
+        let wrong = || self.wrong("r0 to r15", Fitting::REGISTERS);
+        let number = numbered(token.text).ok_or_else(wrong)?;
         if let Some(name) = self.registers.name(number) {
-            let found = format!("'{}', which '{}' names", token.text, name);
-            return Err(Error::new(
-                token.position,
-                "a register without a name",
-                found,
-            ));
+            let found = format!("{}, which {} names", token, quoted(name));
+            let expected = "a register without a name";
+            return Err(Message::expected(token, expected, found));
         }
         self.next();
         Ok(number)
@@ -110,28 +133,31 @@ impl<'a> Parser<'a> {
         expected: &str,
         allowed: impl Fn(i64) -> Option<T>,
         setting: &mut Option<T>,
-    ) -> Result<(), Error> {
-        let position = self.peek().position;
+    ) -> Result<(), Message> {
+        let first = Span::from(self.peek());
         let number = self.integer(expected)?;
+        let written = self.last().map_or(first, |last| first.up_to(last.into()));
         let value = allowed(number)
-            .ok_or_else(|| Error::new(position, expected, format!("'{}'", number)))?;
+            .ok_or_else(|| Message::expected(written, expected, format!("'{}'", number)))?;
         if setting.replace(value).is_some() {
             let expected = format!("one '{}' line", word.text);
-            return Err(Error::new(word.position, expected, "a second"));
+            self.report(Message::expected(word, expected, "a second"));
         }
         self.expect_end("")
     }
 
     /// `set REGISTER = INTEGER, ..`
-    fn set_line(&mut self, registers: &mut [Option<i64>]) -> Result<(), Error> {
+    fn set_line(&mut self, registers: &mut [Option<i64>]) -> Result<(), Message> {
         loop {
             let token = self.peek();
             let register = self.register("a register")?;
             self.expect("=", "'='")?;
             let integer = self.integer("an integer")?;
-            if registers[usize::from(register)].replace(integer).is_some() {
-                let found = format!("r{} again, as '{}'", register, token.text);
-                return Err(Error::new(token.position, "each register set once", found));
+            // A register whose declaration has an error is none of these.
+            let set = registers.get_mut(usize::from(register));
+            if set.and_then(|set| set.replace(integer)).is_some() {
+                let found = format!("r{} again, as {}", register, token);
+                self.report(Message::expected(token, "each register set once", found));
             }
             if !self.accept(",") {
                 return self.expect_end("',', ");
@@ -140,13 +166,13 @@ impl<'a> Parser<'a> {
     }
 
     /// `words INTEGER ..`; several such lines make one call record.
-    fn words_line(&mut self, words: &mut Vec<i64>) -> Result<(), Error> {
+    fn words_line(&mut self, words: &mut Vec<i64>) -> Result<(), Message> {
         loop {
-            let position = self.peek().position;
+            let token = self.peek();
             let word = self.integer("an integer")?;
             if words.len() == MAX_WORDS {
                 let expected = format!("at most {} words", MAX_WORDS);
-                return Err(Error::new(position, expected, "one more"));
+                self.report(Message::expected(token, expected, "one more"));
             }
             words.push(word);
             if !self.accept(",") && !self.at_integer() {

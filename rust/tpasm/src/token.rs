@@ -1,7 +1,8 @@
 //! A source cut into tokens. Nothing is refused here: what fits nowhere is a token of its own, so
 //! that the parser can say what it expected in its place.
 
-use crate::error::Position;
+use crate::message::{Position, Span};
+use crate::text::{line_end, quoted};
 use std::fmt;
 
 #[derive(Clone, Copy, Debug, PartialEq, Eq)]
@@ -30,7 +31,29 @@ const MARKS: [&str; 15] = [
     ":=", "->", ":", ";", ",", "[", "]", ".", "+", "-", "*", "/", "%", "<", "=",
 ];
 
+/// Marks of other notations, each one token, so that a message can speak of it. The text after `#` and
+/// `/*` is passed over as the comment that it was meant to be.
+const FOREIGN: [&str; 15] = [
+    "==", "!=", ">=", "<=", "&&", "||", "<<", ">>", "+=", "-=", "*=", "/=", "%=", "*/", BLOCK_COMMENT,
+];
+
 const COMMENT: &str = "//";
+const LINE_COMMENT: &str = "#";
+const BLOCK_COMMENT: &str = "/*";
+const BLOCK_COMMENT_END: &str = "*/";
+
+impl From<Token<'_>> for Span {
+    fn from(token: Token) -> Span {
+        let characters = match token.kind {
+            Kind::LineEnd => 0,
+            _ => token.text.chars().count(),
+        };
+        Span {
+            position: token.position,
+            width: characters,
+        }
+    }
+}
 
 impl Token<'_> {
     pub fn is(&self, mark: &str) -> bool {
@@ -48,7 +71,7 @@ impl fmt::Display for Token<'_> {
         match self.kind {
             Kind::LineEnd => f.write_str("the end of the line"),
             Kind::FileEnd => f.write_str("the end of the file"),
-            _ => write!(f, "'{}'", self.text.escape_debug()),
+            _ => f.write_str(&quoted(self.text)),
         }
     }
 }
@@ -80,8 +103,10 @@ impl<'a> Lexer<'a> {
         let position = self.position;
         let (kind, len) = first_token(self.rest);
         let text = self.take(len);
-        if kind == Kind::LineEnd {
-            self.position = position.next_line();
+        match text {
+            LINE_COMMENT => self.skip_line(),
+            BLOCK_COMMENT => self.skip_block_comment(),
+            _ => {}
         }
         Token {
             kind,
@@ -91,10 +116,22 @@ impl<'a> Lexer<'a> {
     }
 
     fn skip_blanks(&mut self) {
-        let blank = |c| matches!(c, ' ' | '\t' | '\r');
+        let blank = |c| matches!(c, ' ' | '\t');
         self.take(length_while(self.rest, blank));
         if self.rest.starts_with(COMMENT) {
-            self.take(length_while(self.rest, |c| c != '\n'));
+            self.skip_line();
+        }
+    }
+
+    fn skip_line(&mut self) {
+        self.take(length_while(self.rest, |c| !matches!(c, '\n' | '\r')));
+    }
+
+    /// Without an end it is one line.
+    fn skip_block_comment(&mut self) {
+        match self.rest.find(BLOCK_COMMENT_END) {
+            None => self.skip_line(),
+            Some(length) => drop(self.take(length + BLOCK_COMMENT_END.len())),
         }
     }
 
@@ -112,8 +149,8 @@ fn first_token(text: &str) -> (Kind, usize) {
         None => return (Kind::FileEnd, 0),
         Some(first) => first,
     };
-    if first == '\n' {
-        return (Kind::LineEnd, 1);
+    if line_end(text) > 0 {
+        return (Kind::LineEnd, line_end(text));
     }
     if first.is_ascii_digit() {
         let len = length_while(text, in_name);
@@ -128,10 +165,24 @@ fn first_token(text: &str) -> (Kind, usize) {
     if in_name(first) {
         return (Kind::Name, name_length(text));
     }
-    match MARKS.iter().find(|mark| text.starts_with(**mark)) {
-        Some(mark) => (Kind::Mark, mark.len()),
-        None => (Kind::Unknown, first.len_utf8()),
+    let starts = |mark: &&&str| text.starts_with(**mark);
+    if let Some(mark) = FOREIGN.iter().find(starts) {
+        return (Kind::Unknown, mark.len());
     }
+    match MARKS.iter().find(starts) {
+        Some(mark) => (Kind::Mark, mark.len()),
+        None => (Kind::Unknown, unknown_length(text, first)),
+    }
+}
+
+/// One character; `#` with the number right behind it.
+fn unknown_length(text: &str, first: char) -> usize {
+    let behind = &text[first.len_utf8()..];
+    let digits = match first {
+        '#' => length_while(behind, |c| c.is_ascii_digit()),
+        _ => 0,
+    };
+    first.len_utf8() + digits
 }
 
 fn in_name(c: char) -> bool {

@@ -1,12 +1,14 @@
 -- `tpal_replay` meets its contract.
 use mathlib.Core.Path.{refl, sym, ap, _∙_}
+use lib.IntN.{pos}
 use borrow.Author.Tests.{eq-eqb, ne-eqb}
 use Rattle.image.specs.Doors.{unlessRefused}
 use Rattle.image.proofs.Asked.{or-else-no, or-else-yes}
 use Rattle.state.specs.State.{stateBytes}
 use Rattle.job.specs.Job.{jobNo}
 use Rattle.job.specs.Replay.{replayNo}
-use Rattle.job.proofs.Replaying.{accepted-ends, few-words, whatever-the-order, prefix-length}
+use Rattle.steps.proofs.Cells.{front-length}
+use Rattle.job.proofs.Replaying.{accepted-ends, few-words, whatever-the-order}
 use borrow.Author.Needs.{needs}
 use native.Mathlib.Omega.{arith}
 use Rattle.job.proofs.tpal_replay.Statement.{statement}
@@ -36,10 +38,10 @@ array-borrow-prefix-words : tie.Need-array-borrow-prefix-words
 array-borrow-prefix-words c = omega (arith, (c .before .word-count .ensures .0), few-words (c .before .before .before .before .before .before .before .before .before .before .args .job .now) (sym (c .before .before .before .before .before .ask-job .ensures .0) ∙ c .before .before .before .if1 .left))
 
 slice-aggregate-carry-out-2 : tie.Need-slice-aggregate-carry-out-2
-slice-aggregate-carry-out-2 c = sym (prefix-length 4096 (c .before .before .word-count .result) (omega (arith, (c .before .before .word-count .ensures .0), few-words (c .before .before .before .before .before .before .before .before .before .before .before .args .job .now) (sym (c .before .before .before .before .before .before .ask-job .ensures .0) ∙ c .before .before .before .before .if1 .left))))
+slice-aggregate-carry-out-2 c = sym (front-length 4096 (c .before .before .word-count .result) (pos 0) (omega (arith, (c .before .before .word-count .ensures .0), few-words (c .before .before .before .before .before .before .before .before .before .before .before .args .job .now) (sym (c .before .before .before .before .before .before .ask-job .ensures .0) ∙ c .before .before .before .before .if1 .left))))
 
 carry-out-requires : tie.Need-carry-out-requires
-carry-out-requires c κs = ((sym (c .before .before .before .before .before .before .ask-job .ensures .0) ∙ c .before .before .before .before .if1 .left), c .before .before .before .before .before .before .ask-job .ensures .1 (c .before .before .before .before .if1 .left), prefix-length 4096 (c .before .before .word-count .result) (omega (arith, (c .before .before .word-count .ensures .0), few-words (c .before .before .before .before .before .before .before .before .before .before .before .args .job .now) (sym (c .before .before .before .before .before .before .ask-job .ensures .0) ∙ c .before .before .before .before .if1 .left))) ∙ (c .before .before .word-count .ensures .0))
+carry-out-requires c κs = ((sym (c .before .before .before .before .before .before .ask-job .ensures .0) ∙ c .before .before .before .before .if1 .left), c .before .before .before .before .before .before .ask-job .ensures .1 (c .before .before .before .before .if1 .left), front-length 4096 (c .before .before .word-count .result) (pos 0) (omega (arith, (c .before .before .word-count .ensures .0), few-words (c .before .before .before .before .before .before .before .before .before .before .before .args .job .now) (sym (c .before .before .before .before .before .before .ask-job .ensures .0) ∙ c .before .before .before .before .if1 .left))) ∙ (c .before .before .word-count .ensures .0))
 
 write-state-requires : tie.Need-write-state-requires
 write-state-requires c κs = search needs

@@ -33,17 +33,28 @@ fn program(sizes: &[usize]) -> Program {
     program
 }
 
+/// What the questions about a program say, once the image check and the reader have said the same of
+/// its image.
+fn answer_to(program: &Program) -> Result<(), u8> {
+    let mut image = vec![0; program.image_len()];
+    program.encode(&mut image);
+    let answer = program.check();
+    assert_eq!(check(&image), answer);
+    assert_eq!(read(&image), answer.map(|()| program.clone()));
+    answer
+}
+
 fn with_block(block: Block) -> Result<(), u8> {
     let mut program = program(&[1, 1, 1]);
     program.blocks[1] = Block { first: 1, ..block };
-    program.check()
+    answer_to(&program)
 }
 
 fn with_instruction(instruction: Instruction) -> Result<(), u8> {
     let mut program = program(&[2, 1, 1]);
     let at = usize::from(instruction.ends_block());
     program.instructions[at] = instruction;
-    program.check()
+    answer_to(&program)
 }
 
 #[test]
@@ -83,8 +94,8 @@ fn records_are_little_endian_and_in_this_order() {
 
 #[test]
 fn counts() {
-    let blocks = |n: usize| program(&vec![1; n]).check();
-    let instructions = |n: usize| program(&[n]).check();
+    let blocks = |n: usize| answer_to(&program(&vec![1; n]));
+    let instructions = |n: usize| answer_to(&program(&[n]));
     assert_eq!(blocks(0), Err(4));
     assert_eq!(blocks(128), Ok(()));
     assert_eq!(blocks(129), Err(4));
@@ -104,7 +115,7 @@ fn block_starts() {
         for (block, &first) in program.blocks.iter_mut().zip(starts) {
             block.first = first;
         }
-        program.check()
+        answer_to(&program)
     };
     assert_eq!(starts(&[0, 1, 2]), Ok(()));
     assert_eq!(starts(&[1, 2, 3]), Err(6));
@@ -245,13 +256,13 @@ fn each_opcode_has_its_fields_and_no_other() {
 fn last_in_block() {
     let mut early = program(&[3]);
     early.instructions[1] = HALT;
-    assert_eq!(early.check(), Err(9));
+    assert_eq!(answer_to(&early), Err(9));
     let mut open = program(&[3, 2]);
     open.instructions[2] = MOVE;
-    assert_eq!(open.check(), Err(9));
+    assert_eq!(answer_to(&open), Err(9));
     let mut open_at_end = program(&[3, 2]);
     open_at_end.instructions[4] = MOVE;
-    assert_eq!(open_at_end.check(), Err(9));
+    assert_eq!(answer_to(&open_at_end), Err(9));
 }
 
 #[test]

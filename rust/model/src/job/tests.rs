@@ -2,7 +2,7 @@
 
 use super::*;
 use crate::sample::{countdown, f, instruction, program, Operand, HALT, PLAIN};
-use crate::{opcode, write};
+use crate::{opcode, write, Value};
 
 fn bytes(image: &[u8], places: u8, interval: u16, words: &[i64]) -> Vec<u8> {
     let mut bytes = (image.len() as u16).to_le_bytes().to_vec();
@@ -129,7 +129,7 @@ fn a_report_is_what_the_run_comes_to() {
         assert_eq!((report.work, report.span), (11, 11));
         assert_eq!(report.registers[0], Value::Int(0));
         assert_eq!(report.registers[15], Value::Int(-15));
-        assert_eq!(text(&input, budget), report.to_string());
+        assert_eq!(text(&input, budget), text_of(&Ok(report)));
     }
     input.pop();
     assert_eq!(run(&input, 0), Err(10));

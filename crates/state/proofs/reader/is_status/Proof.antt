@@ -6,15 +6,15 @@ use Rattle.state.proofs.reader.is_status.Tie as tie
 
 returns : tie.Need-returns
 unfolding isStatus
-returns c = rw (eq-eqb _ _ (c .if1 .taken))
+returns c = rw (eq-eqb _ 4 (c .if1 .taken))
 
 returns-2 : tie.Need-returns-2
 unfolding isStatus
-returns-2 c = rw (ne-eqb _ _ (c .before .if1 .left), lt-ltb _ _ (c .if2 .taken))
+returns-2 c = rw (ne-eqb _ 4 (c .before .if1 .left), lt-ltb _ 4 (c .if2 .taken))
 
 returns-3 : tie.Need-returns-3
 unfolding isStatus
-returns-3 c = rw (ne-eqb _ _ (c .before .if1 .left), le-ltb _ _ (c .if2 .left))
+returns-3 c = rw (ne-eqb _ 4 (c .before .if1 .left), le-ltb _ 4 (c .if2 .left))
 
 pub is-status-spec : {M : Type 1} → statement M
 is-status-spec = tie.close (tie.spec returns returns-2 returns-3)

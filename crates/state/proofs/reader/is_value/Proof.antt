@@ -23,7 +23,7 @@ returns-3 c = rw (ne-eqb _ _ (c .before .before .before .if1 .left), eq-eqb _ _ 
 
 returns-4 : tie.Need-returns-4
 unfolding isValue
-returns-4 c = rw (ne-eqb _ _ (c .before .before .if1 .left), ne-eqb _ _ (c .before .if2 .left), ne-eqb _ _ (c .if4 .taken))
+returns-4 c = rw (ne-eqb _ _ (c .before .before .if1 .left), ne-eqb _ _ (c .before .if2 .left), ne-eqb _ 2 (c .if4 .taken))
 
 has-32-bits-requires-2 : tie.Need-has-32-bits-requires-2
 has-32-bits-requires-2 c κs = search needs
@@ -33,11 +33,11 @@ has-32-bits-requires-3 c κs = search needs
 
 returns-5 : tie.Need-returns-5
 unfolding isValue
-returns-5 c = rw (ne-eqb _ _ (c .before .before .before .before .before .if1 .left), ne-eqb _ _ (c .before .before .before .before .if2 .left), eq-eqb _ _ (c .before .before .before .if4 .left), sym (c .before .before .has-32-bits2 .ensures) ∙ c .before .if5 .taken) (c .has-32-bits3 .ensures)
+returns-5 c = rw (ne-eqb _ _ (c .before .before .before .before .before .if1 .left), ne-eqb _ _ (c .before .before .before .before .if2 .left), eq-eqb _ 2 (c .before .before .before .if4 .left), sym (c .before .before .has-32-bits2 .ensures) ∙ c .before .if5 .taken) (c .has-32-bits3 .ensures)
 
 returns-6 : tie.Need-returns-6
 unfolding isValue
-returns-6 c = rw (ne-eqb _ _ (c .before .before .before .before .if1 .left), ne-eqb _ _ (c .before .before .before .if2 .left), eq-eqb _ _ (c .before .before .if4 .left), sym (c .before .has-32-bits2 .ensures) ∙ c .if5 .left)
+returns-6 c = rw (ne-eqb _ _ (c .before .before .before .before .if1 .left), ne-eqb _ _ (c .before .before .before .if2 .left), eq-eqb _ 2 (c .before .before .if4 .left), sym (c .before .has-32-bits2 .ensures) ∙ c .if5 .left)
 
 pub is-value-spec : {M : Type 1} → statement M
 is-value-spec =

@@ -1,9 +1,8 @@
 -- `pick` meets its contract.
-use mathlib.Core.Path.{_≡_, refl, sym, ap, _∙_}
+use mathlib.Core.Path.{refl, sym, ap, _∙_}
 use Prim.Native.Nat.{ℕ, _*_}
 use borrow.Author.Needs.{needs}
 use borrow.Author.Tests.{not-true, not-false, eqb-true}
-use native.Mathlib.Omega.{arith}
 use lib.Dec.{eqb}
 use lib.IntN.{ℤ, pos}
 use lib.ListN.{length}
@@ -28,49 +27,67 @@ same-length c = search needs
 
 returns : tie.Need-returns
 returns c =
-    let a = c .before .before .before .before .before .before .before .before .args in
+    let y = c .before in
+    let a = y .before .before .before .before .before .before .before .args in
+    let fit = y .before .before .before .lengths-fit .ensures in
     let no =
-    when-not (a .program .now) (a .words .now) (a .lent .now) (eqb (length (a .lent .now)) stateLength) _ _ (c .before .before .before .before .lengths-fit .ensures) (c .before .before .is-ready .ensures) _ (not-true _ (c .before .if1 .taken))
-    (c .refuse .ensures) in
+    when-not (a .program .now) (a .words .now) (a .lent .now) (eqb (length (a .lent .now)) stateLength) _ _ fit (y .before .is-ready .ensures) _
+    (not-true _ (y .if1 .taken)) (c .refuse .ensures) in
     call-refused _ _ _ _ _ (pick-not-ready (a .program .now) (a .words .now) (a .lent .now) (a .slot) _ no) (no .1) refl
 
 array-borrow-prefix-held : tie.Need-array-borrow-prefix-held
 array-borrow-prefix-held c =
-    let a = c .before .before .before .before .before .before .before .args in
+    let y = c in
+    let a = y .before .before .before .before .before .before .before .args in
+    let fit = y .before .before .before .lengths-fit .ensures in
     let r : Ready (a .program .now) (a .words .now) (a .lent .now) (eqb (length (a .lent .now)) stateLength) =
-    when-ready (a .program .now) (a .words .now) (a .lent .now) (eqb (length (a .lent .now)) stateLength) _ _ (c .before .before .before .lengths-fit .ensures) (c .before .is-ready .ensures) (not-false _ (c .if1 .left)) in
+    when-ready (a .program .now) (a .words .now) (a .lent .now) (eqb (length (a .lent .now)) stateLength) _ _ fit
+    (y .before .is-ready .ensures) (not-false _ (y .if1 .left)) in
     r .words-few
 
 slice-aggregate-pick-on : tie.Need-slice-aggregate-pick-on
 slice-aggregate-pick-on c =
-    let a = c .before .before .before .before .before .before .before .before .args in
+    let y = c .before in
+    let a = y .before .before .before .before .before .before .before .args in
+    let fit = y .before .before .before .lengths-fit .ensures in
     let r : Ready (a .program .now) (a .words .now) (a .lent .now) (eqb (length (a .lent .now)) stateLength) =
-    when-ready (a .program .now) (a .words .now) (a .lent .now) (eqb (length (a .lent .now)) stateLength) _ _ (c .before .before .before .before .lengths-fit .ensures) (c .before .before .is-ready .ensures) (not-false _ (c .before .if1 .left)) in
+    when-ready (a .program .now) (a .words .now) (a .lent .now) (eqb (length (a .lent .now)) stateLength) _ _ fit
+    (y .before .is-ready .ensures) (not-false _ (y .if1 .left)) in
     sym (front-length {A = ℤ} 4096 _ (pos 0) (r .words-few))
 
 pick-on-requires : tie.Need-pick-on-requires
 pick-on-requires c κs =
-    let a = c .before .before .before .before .before .before .before .before .before .args in
+    let y = c .before .before in
+    let a = y .before .before .before .before .before .before .before .args in
+    let fit = y .before .before .before .lengths-fit .ensures in
     let r : Ready (a .program .now) (a .words .now) (a .lent .now) (eqb (length (a .lent .now)) stateLength) =
-    when-ready (a .program .now) (a .words .now) (a .lent .now) (eqb (length (a .lent .now)) stateLength) _ _ (c .before .before .before .before .before .lengths-fit .ensures) (c .before .before .before .is-ready .ensures) (not-false _ (c .before .before .if1 .left)) in
-    (r .program-length, r .words-whole ∙ ap (λ (n : ℕ). 8 * n) (sym (front-length {A = ℤ} 4096 _ (pos 0) (r .words-few))), r .stands)
+    when-ready (a .program .now) (a .words .now) (a .lent .now) (eqb (length (a .lent .now)) stateLength) _ _ fit
+    (y .before .is-ready .ensures) (not-false _ (y .if1 .left)) in
+    let count = front-length {A = ℤ} 4096 _ (pos 0) (r .words-few) in
+    (r .program-length, r .words-whole ∙ ap (λ (n : ℕ). 8 * n) (sym count), r .stands)
 
 same-length-2 : tie.Need-same-length-2
 same-length-2 c = search needs
 
 returns-2 : tie.Need-returns-2
 returns-2 c =
-    let a = c .before .before .before .before .before .before .before .before .before .before .before .before .args in
+    let y = c .before .before .before .before .before in
+    let a = y .before .before .before .before .before .before .before .args in
+    let fit = y .before .before .before .lengths-fit .ensures in
     let r : Ready (a .program .now) (a .words .now) (a .lent .now) (eqb (length (a .lent .now)) stateLength) =
-    when-ready (a .program .now) (a .words .now) (a .lent .now) (eqb (length (a .lent .now)) stateLength) _ _ (c .before .before .before .before .before .before .before .before .lengths-fit .ensures) (c .before .before .before .before .before .before .is-ready .ensures) (not-false _ (c .before .before .before .before .before .if1 .left)) in
+    when-ready (a .program .now) (a .words .now) (a .lent .now) (eqb (length (a .lent .now)) stateLength) _ _ fit
+    (y .before .is-ready .ensures) (not-false _ (y .if1 .left)) in
     let answer = c .before .before .pick-on .ensures .0 ∙ sym (pick-ready (a .program .now) (a .words .now) (a .lent .now) (a .slot) r) in
     call-refused _ _ _ _ _ answer (c .if2 .taken) refl
 
 write-state-requires : tie.Need-write-state-requires
 write-state-requires c κs =
-    let a = c .before .before .before .before .before .before .before .before .before .before .before .before .before .before .args in
+    let y = c .before .before .before .before .before .before .before in
+    let a = y .before .before .before .before .before .before .before .args in
+    let fit = y .before .before .before .lengths-fit .ensures in
     let r : Ready (a .program .now) (a .words .now) (a .lent .now) (eqb (length (a .lent .now)) stateLength) =
-    when-ready (a .program .now) (a .words .now) (a .lent .now) (eqb (length (a .lent .now)) stateLength) _ _ (c .before .before .before .before .before .before .before .before .before .before .lengths-fit .ensures) (c .before .before .before .before .before .before .before .before .is-ready .ensures) (not-false _ (c .before .before .before .before .before .before .before .if1 .left)) in
+    when-ready (a .program .now) (a .words .now) (a .lent .now) (eqb (length (a .lent .now)) stateLength) _ _ fit
+    (y .before .is-ready .ensures) (not-false _ (y .if1 .left)) in
     eqb-true _ stateLength (r .others-fit)
 
 same-length-3 : tie.Need-same-length-3
@@ -78,9 +95,12 @@ same-length-3 c = search needs
 
 returns-3 : tie.Need-returns-3
 returns-3 c =
-    let a = c .before .before .before .before .before .before .before .before .before .before .before .before .before .before .before .before .before .args in
+    let y = c .before .before .before .before .before .before .before .before .before .before in
+    let a = y .before .before .before .before .before .before .before .args in
+    let fit = y .before .before .before .lengths-fit .ensures in
     let r : Ready (a .program .now) (a .words .now) (a .lent .now) (eqb (length (a .lent .now)) stateLength) =
-    when-ready (a .program .now) (a .words .now) (a .lent .now) (eqb (length (a .lent .now)) stateLength) _ _ (c .before .before .before .before .before .before .before .before .before .before .before .before .before .lengths-fit .ensures) (c .before .before .before .before .before .before .before .before .before .before .before .is-ready .ensures) (not-false _ (c .before .before .before .before .before .before .before .before .before .before .if1 .left)) in
+    when-ready (a .program .now) (a .words .now) (a .lent .now) (eqb (length (a .lent .now)) stateLength) _ _ fit
+    (y .before .is-ready .ensures) (not-false _ (y .if1 .left)) in
     let p = c .before .before .before .before .before .before .before .pick-on .ensures in
     let answer = pick-ready (a .program .now) (a .words .now) (a .lent .now) (a .slot) r ∙ sym (p .0) ∙ c .before .before .before .before .before .if2 .left in
     call-accepted _ _ _ _ answer (c .before .before .write-state .ensures ∙ ap stateBytes (p .1))

@@ -1,10 +1,9 @@
 -- `run` meets its contract.
-use mathlib.Core.Path.{_≡_, refl, sym, ap, _∙_}
+use mathlib.Core.Path.{refl, sym, ap, _∙_}
 use mathlib.Core.Bool.{Bool, _&&_}
 use Prim.Native.Nat.{ℕ, _*_}
 use borrow.Author.Needs.{needs}
 use borrow.Author.Tests.{not-true, not-false, eqb-true}
-use native.Mathlib.Omega.{arith}
 use lib.Dec.{eqb}
 use lib.IntN.{ℤ, pos}
 use lib.ListN.{length}
@@ -36,51 +35,75 @@ same-length c = search needs
 
 returns : tie.Need-returns
 returns c =
-    let a = c .before .before .before .before .before .before .before .before .before .before .args in
+    let y = c .before in
+    let a = y .before .before .before .before .before .before .before .before .before .args in
+    let found = ap (λ (t : Bool). eqb (length (a .program .now)) programBytes && (isWhole (a .words .now) && t)) (y .before .before .before .before .both-fit .ensures) in
+    let fit = y .before .before .before .lengths-fit .ensures ∙ found in
     let no =
-    when-not (a .program .now) (a .words .now) (a .lent .now) (eqb (length (a .lent .now)) stateLength && eqb (length (a .out .now)) reportLength) _ _ (c .before .before .before .before .lengths-fit .ensures ∙ ap (λ (t : Bool). eqb (length (a .program .now)) programBytes && (isWhole (a .words .now) && t)) (c .before .before .before .before .before .both-fit .ensures)) (c .before .before .is-ready .ensures) _ (not-true _ (c .before .if1 .taken))
-    (c .refuse .ensures) in
+    when-not (a .program .now) (a .words .now) (a .lent .now) (eqb (length (a .lent .now)) stateLength && eqb (length (a .out .now)) reportLength) _ _ fit (y .before .is-ready .ensures) _
+    (not-true _ (y .if1 .taken)) (c .refuse .ensures) in
     let answer = run-not-ready (a .program .now) (a .words .now) (a .lent .now) _ _ no in
     (answer, (call-refused _ _ _ _ _ answer (no .1) refl .1, call-refused _ _ _ _ _ answer (no .1) refl .1))
 
 array-borrow-prefix-held : tie.Need-array-borrow-prefix-held
 array-borrow-prefix-held c =
-    let a = c .before .before .before .before .before .before .before .before .before .args in
+    let y = c in
+    let a = y .before .before .before .before .before .before .before .before .before .args in
+    let found = ap (λ (t : Bool). eqb (length (a .program .now)) programBytes && (isWhole (a .words .now) && t)) (y .before .before .before .before .both-fit .ensures) in
+    let fit = y .before .before .before .lengths-fit .ensures ∙ found in
     let r : Ready (a .program .now) (a .words .now) (a .lent .now) (eqb (length (a .lent .now)) stateLength && eqb (length (a .out .now)) reportLength) =
-    when-ready (a .program .now) (a .words .now) (a .lent .now) (eqb (length (a .lent .now)) stateLength && eqb (length (a .out .now)) reportLength) _ _ ((c .before .before .before .lengths-fit .ensures ∙ ap (λ (t : Bool). eqb (length (a .program .now)) programBytes && (isWhole (a .words .now) && t)) (c .before .before .before .before .both-fit .ensures))) (c .before .is-ready .ensures) (not-false _ (c .if1 .left)) in
+    when-ready (a .program .now) (a .words .now) (a .lent .now) (eqb (length (a .lent .now)) stateLength && eqb (length (a .out .now)) reportLength) _ _ fit
+    (y .before .is-ready .ensures) (not-false _ (y .if1 .left)) in
     r .words-few
 
 slice-aggregate-run-on : tie.Need-slice-aggregate-run-on
 slice-aggregate-run-on c =
-    let a = c .before .before .before .before .before .before .before .before .before .before .args in
+    let y = c .before in
+    let a = y .before .before .before .before .before .before .before .before .before .args in
+    let found = ap (λ (t : Bool). eqb (length (a .program .now)) programBytes && (isWhole (a .words .now) && t)) (y .before .before .before .before .both-fit .ensures) in
+    let fit = y .before .before .before .lengths-fit .ensures ∙ found in
     let r : Ready (a .program .now) (a .words .now) (a .lent .now) (eqb (length (a .lent .now)) stateLength && eqb (length (a .out .now)) reportLength) =
-    when-ready (a .program .now) (a .words .now) (a .lent .now) (eqb (length (a .lent .now)) stateLength && eqb (length (a .out .now)) reportLength) _ _ ((c .before .before .before .before .lengths-fit .ensures ∙ ap (λ (t : Bool). eqb (length (a .program .now)) programBytes && (isWhole (a .words .now) && t)) (c .before .before .before .before .before .both-fit .ensures))) (c .before .before .is-ready .ensures) (not-false _ (c .before .if1 .left)) in
+    when-ready (a .program .now) (a .words .now) (a .lent .now) (eqb (length (a .lent .now)) stateLength && eqb (length (a .out .now)) reportLength) _ _ fit
+    (y .before .is-ready .ensures) (not-false _ (y .if1 .left)) in
     sym (front-length {A = ℤ} 4096 _ (pos 0) (r .words-few))
 
 run-on-requires : tie.Need-run-on-requires
 run-on-requires c κs =
-    let a = c .before .before .before .before .before .before .before .before .before .before .before .args in
+    let y = c .before .before in
+    let a = y .before .before .before .before .before .before .before .before .before .args in
+    let found = ap (λ (t : Bool). eqb (length (a .program .now)) programBytes && (isWhole (a .words .now) && t)) (y .before .before .before .before .both-fit .ensures) in
+    let fit = y .before .before .before .lengths-fit .ensures ∙ found in
     let r : Ready (a .program .now) (a .words .now) (a .lent .now) (eqb (length (a .lent .now)) stateLength && eqb (length (a .out .now)) reportLength) =
-    when-ready (a .program .now) (a .words .now) (a .lent .now) (eqb (length (a .lent .now)) stateLength && eqb (length (a .out .now)) reportLength) _ _ ((c .before .before .before .before .before .lengths-fit .ensures ∙ ap (λ (t : Bool). eqb (length (a .program .now)) programBytes && (isWhole (a .words .now) && t)) (c .before .before .before .before .before .before .both-fit .ensures))) (c .before .before .before .is-ready .ensures) (not-false _ (c .before .before .if1 .left)) in
-    (r .program-length, r .words-whole ∙ ap (λ (n : ℕ). 8 * n) (sym (front-length {A = ℤ} 4096 _ (pos 0) (r .words-few))), r .stands)
+    when-ready (a .program .now) (a .words .now) (a .lent .now) (eqb (length (a .lent .now)) stateLength && eqb (length (a .out .now)) reportLength) _ _ fit
+    (y .before .is-ready .ensures) (not-false _ (y .if1 .left)) in
+    let count = front-length {A = ℤ} 4096 _ (pos 0) (r .words-few) in
+    (r .program-length, r .words-whole ∙ ap (λ (n : ℕ). 8 * n) (sym count), r .stands)
 
 same-length-2 : tie.Need-same-length-2
 same-length-2 c = search needs
 
 returns-2 : tie.Need-returns-2
 returns-2 c =
-    let a = c .before .before .before .before .before .before .before .before .before .before .before .before .before .before .args in
+    let y = c .before .before .before .before .before in
+    let a = y .before .before .before .before .before .before .before .before .before .args in
+    let found = ap (λ (t : Bool). eqb (length (a .program .now)) programBytes && (isWhole (a .words .now) && t)) (y .before .before .before .before .both-fit .ensures) in
+    let fit = y .before .before .before .lengths-fit .ensures ∙ found in
     let r : Ready (a .program .now) (a .words .now) (a .lent .now) (eqb (length (a .lent .now)) stateLength && eqb (length (a .out .now)) reportLength) =
-    when-ready (a .program .now) (a .words .now) (a .lent .now) (eqb (length (a .lent .now)) stateLength && eqb (length (a .out .now)) reportLength) _ _ ((c .before .before .before .before .before .before .before .before .lengths-fit .ensures ∙ ap (λ (t : Bool). eqb (length (a .program .now)) programBytes && (isWhole (a .words .now) && t)) (c .before .before .before .before .before .before .before .before .before .both-fit .ensures))) (c .before .before .before .before .before .before .is-ready .ensures) (not-false _ (c .before .before .before .before .before .if1 .left)) in
+    when-ready (a .program .now) (a .words .now) (a .lent .now) (eqb (length (a .lent .now)) stateLength && eqb (length (a .out .now)) reportLength) _ _ fit
+    (y .before .is-ready .ensures) (not-false _ (y .if1 .left)) in
     let no = ap (λ (o : Outcome). o .no) (c .before .before .run-on .ensures) in
     let answer = ran-refused (a .program .now) (a .words .now) (a .lent .now) _ (a .budget) r _ no (c .if2 .taken) in
     (answer, (call-refused _ _ _ _ _ answer (c .if2 .taken) refl .1, call-refused _ _ _ _ _ answer (c .if2 .taken) refl .1))
 
 write-state-requires : tie.Need-write-state-requires
 write-state-requires c κs =
-    let a = c .before .before .before .before .before .before .before .before .before .before .before .before .before .before .before .before .args in
+    let y = c .before .before .before .before .before .before .before in
+    let a = y .before .before .before .before .before .before .before .before .before .args in
+    let found = ap (λ (t : Bool). eqb (length (a .program .now)) programBytes && (isWhole (a .words .now) && t)) (y .before .before .before .before .both-fit .ensures) in
+    let fit = y .before .before .before .lengths-fit .ensures ∙ found in
     let r : Ready (a .program .now) (a .words .now) (a .lent .now) (eqb (length (a .lent .now)) stateLength && eqb (length (a .out .now)) reportLength) =
-    when-ready (a .program .now) (a .words .now) (a .lent .now) (eqb (length (a .lent .now)) stateLength && eqb (length (a .out .now)) reportLength) _ _ ((c .before .before .before .before .before .before .before .before .before .before .lengths-fit .ensures ∙ ap (λ (t : Bool). eqb (length (a .program .now)) programBytes && (isWhole (a .words .now) && t)) (c .before .before .before .before .before .before .before .before .before .before .before .both-fit .ensures))) (c .before .before .before .before .before .before .before .before .is-ready .ensures) (not-false _ (c .before .before .before .before .before .before .before .if1 .left)) in
+    when-ready (a .program .now) (a .words .now) (a .lent .now) (eqb (length (a .lent .now)) stateLength && eqb (length (a .out .now)) reportLength) _ _ fit
+    (y .before .is-ready .ensures) (not-false _ (y .if1 .left)) in
     eqb-true _ stateLength (both-true (eqb (length (a .lent .now)) stateLength) (eqb (length (a .out .now)) reportLength) (r .others-fit) .0)
 
 report-of-requires : tie.Need-report-of-requires
@@ -88,9 +111,13 @@ report-of-requires c κs = search needs
 
 write-report-requires : tie.Need-write-report-requires
 write-report-requires c κs =
-    let a = c .before .before .before .before .before .before .before .before .before .before .before .before .before .before .before .before .before .before .before .before .before .args in
+    let y = c .before .before .before .before .before .before .before .before .before .before .before .before in
+    let a = y .before .before .before .before .before .before .before .before .before .args in
+    let found = ap (λ (t : Bool). eqb (length (a .program .now)) programBytes && (isWhole (a .words .now) && t)) (y .before .before .before .before .both-fit .ensures) in
+    let fit = y .before .before .before .lengths-fit .ensures ∙ found in
     let r : Ready (a .program .now) (a .words .now) (a .lent .now) (eqb (length (a .lent .now)) stateLength && eqb (length (a .out .now)) reportLength) =
-    when-ready (a .program .now) (a .words .now) (a .lent .now) (eqb (length (a .lent .now)) stateLength && eqb (length (a .out .now)) reportLength) _ _ ((c .before .before .before .before .before .before .before .before .before .before .before .before .before .before .before .lengths-fit .ensures ∙ ap (λ (t : Bool). eqb (length (a .program .now)) programBytes && (isWhole (a .words .now) && t)) (c .before .before .before .before .before .before .before .before .before .before .before .before .before .before .before .before .both-fit .ensures))) (c .before .before .before .before .before .before .before .before .before .before .before .before .before .is-ready .ensures) (not-false _ (c .before .before .before .before .before .before .before .before .before .before .before .before .if1 .left)) in
+    when-ready (a .program .now) (a .words .now) (a .lent .now) (eqb (length (a .lent .now)) stateLength && eqb (length (a .out .now)) reportLength) _ _ fit
+    (y .before .is-ready .ensures) (not-false _ (y .if1 .left)) in
     eqb-true (length (a .out .now)) reportLength (both-true (eqb (length (a .lent .now)) stateLength) (eqb (length (a .out .now)) reportLength) (r .others-fit) .1)
 
 same-length-3 : tie.Need-same-length-3
@@ -101,14 +128,18 @@ same-length-4 c = search needs
 
 returns-3 : tie.Need-returns-3
 returns-3 c =
-    let a = c .before .before .before .before .before .before .before .before .before .before .before .before .before .before .before .before .before .before .before .before .before .before .before .before .args in
+    let y = c .before .before .before .before .before .before .before .before .before .before .before .before .before .before .before in
+    let a = y .before .before .before .before .before .before .before .before .before .args in
+    let found = ap (λ (t : Bool). eqb (length (a .program .now)) programBytes && (isWhole (a .words .now) && t)) (y .before .before .before .before .both-fit .ensures) in
+    let fit = y .before .before .before .lengths-fit .ensures ∙ found in
     let r : Ready (a .program .now) (a .words .now) (a .lent .now) (eqb (length (a .lent .now)) stateLength && eqb (length (a .out .now)) reportLength) =
-    when-ready (a .program .now) (a .words .now) (a .lent .now) (eqb (length (a .lent .now)) stateLength && eqb (length (a .out .now)) reportLength) _ _ ((c .before .before .before .before .before .before .before .before .before .before .before .before .before .before .before .before .before .before .lengths-fit .ensures ∙ ap (λ (t : Bool). eqb (length (a .program .now)) programBytes && (isWhole (a .words .now) && t)) (c .before .before .before .before .before .before .before .before .before .before .before .before .before .before .before .before .before .before .before .both-fit .ensures))) (c .before .before .before .before .before .before .before .before .before .before .before .before .before .before .before .before .is-ready .ensures) (not-false _ (c .before .before .before .before .before .before .before .before .before .before .before .before .before .before .before .if1 .left)) in
-    let o = c .before .before .before .before .before .before .before .before .before .before .before .before .run-on in
-    let no = ap (λ (o : Outcome). o .no) (o .ensures) in
-    let answer = ran-accepted (a .program .now) (a .words .now) (a .lent .now) _ (a .budget) r _ no (c .before .before .before .before .before .before .before .before .before .before .if2 .left) in
-    let state = c .before .before .before .before .before .before .before .write-state .ensures ∙ ap (λ (o : Outcome). stateBytes (o .machine)) (o .ensures) in
-    let report = c .before .before .write-report .ensures ∙ ap reportBytes (c .before .before .before .before .report-of .ensures) ∙ ap (λ (o : Outcome). reportBytes (reportOf (o .machine) (o .picks))) (o .ensures) in
+    when-ready (a .program .now) (a .words .now) (a .lent .now) (eqb (length (a .lent .now)) stateLength && eqb (length (a .out .now)) reportLength) _ _ fit
+    (y .before .is-ready .ensures) (not-false _ (y .if1 .left)) in
+    let ran = c .before .before .before .before .before .before .before .before .before .before .before .before .run-on .ensures in
+    let answer = ran-accepted (a .program .now) (a .words .now) (a .lent .now) _ (a .budget) r _ (ap (λ (o : Outcome). o .no) ran) (c .before .before .before .before .before .before .before .before .before .before .if2 .left) in
+    let state = c .before .before .before .before .before .before .before .write-state .ensures ∙ ap (λ (o : Outcome). stateBytes (o .machine)) ran in
+    let made = c .before .before .before .before .report-of .ensures ∙ ap (λ (o : Outcome). reportOf (o .machine) (o .picks)) ran in
+    let report = c .before .before .write-report .ensures ∙ ap reportBytes made in
     (sym answer, (call-accepted _ _ _ _ answer state .1, call-accepted _ _ _ _ answer report .1))
 
 pub run-spec : {M : Type 1} → statement M

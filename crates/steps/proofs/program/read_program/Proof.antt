@@ -38,7 +38,8 @@ returns-3 : tie.Need-returns-3
 returns-3 c =
     let a = c .before .before .before .before .before .before .before .before .before .before .before .before .args in
     let r = c .before .before .before .before .before .before .before .before .read in
-    let accepted = read-accepted (a .image .now) _ (r .result) (r .ensures .0) (c .before .before .before .before .before .before .if1 .left) (c .before .before .before .before .before .if2 .left) in
+    let answered = r .ensures .0 in
+    let accepted = read-accepted (a .image .now) _ (r .result) answered (c .before .before .before .before .before .before .if1 .left) (c .before .before .before .before .before .if2 .left) in
     call-accepted _ _ _ _ accepted
     (c .before .before .write-cells .ensures ∙ ap inBytes (left-accepted (r .result) _ _ _ (c .before .before .before .before .before .before .if1 .left) (r .ensures .1)))
 
