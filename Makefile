@@ -95,11 +95,11 @@ help:
 
 $(program): $(sources)
 	@sh scripts/prove.sh tpal_run
-	@touch $@
+	@touch -c $@
 
 $(archive): $(program)
 	@sh scripts/prove.sh --archive job
-	@touch $@
+	@touch -c $@
 
 # ---- Built of that
 
@@ -107,7 +107,8 @@ $(static): $(archive)
 	@mkdir -p $(@D)
 	cp $< $@
 
-# Position-independent as it is. Bound at once: no call needs the loader's stack.
+# The archive is position-independent. The library's own calls are bound when it is loaded, so that
+# none of them takes stack for the loader.
 $(shared): $(archive) c/libtpal.map
 	@mkdir -p $(@D)
 	$(CC) -shared -Wl,-soname,$(soname) -Wl,--version-script=c/libtpal.map -Wl,--no-undefined \

@@ -128,8 +128,8 @@ static void try_damaged(const char *name, size_t at, uint8_t byte, unsigned numb
 
 static void try_refusals(void)
 {
-    static uint8_t longest[TPAL_MAX_INPUT_BYTES + 1];
     enum { MANY = TPAL_MAX_WORDS + 1, LONGEST = 65535 };
+    static uint8_t longest[TPAL_MAX_INPUT_BYTES + 1];
     static uint8_t many_words[TPAL_JOB_BYTES(F_LEN, MANY)];
     uint8_t short_image[TPAL_JOB_BYTES(7, 0)] = {7};
     uint8_t job[JOB_LEN + 1] = {0};

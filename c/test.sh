@@ -1,13 +1,17 @@
 #!/bin/sh
-# Compiles the C test and the dispatcher against the engine's archive, once plainly and once with the
-# sanitizers around the calls, and runs them: the dispatcher on every job of examples/, whose output
-# stands beside it, and on jobs that are refused or spent. The last line is the total,
-# 'N passed, M failed'.
+# Compiles the C test and the dispatcher against libtpal.a, once plainly and once with the sanitizers
+# around the calls, and runs them: the dispatcher on every job of examples/, whose output stands beside
+# it, and on jobs that are refused or spent. Then header against exports, the installation, and
+# `make run`. The last line is the total, 'N passed, M failed'.
+#
+# Uses target/staticlib/libjob.a and target/bin/tpal_run as they are, and proves nothing.
 set -eu
 cd "$(dirname "$0")/.."
 mkdir -p target/c
+unset MAKEFLAGS MFLAGS MAKELEVEL
 
 assembler=rust/target/release/tpasm
+library=target/lib/libtpal.a
 seeds='1 2 3 4 5 6 7 18446744073709551615'
 passed=0
 failed=0
@@ -16,22 +20,28 @@ failed=0
 build() {
     program=target/c/$1
     shift
-    gcc -std=c11 -Wall -Wextra -Werror "$@" target/staticlib/libjob.a -o "$program"
+    gcc -std=c11 -Wall -Wextra -Wconversion -Werror "$@" "$library" -o "$program"
 }
 
-# run NAME FLAGS..: a program that ends without a total, or badly after a good one, has failed.
-run() {
-    name=$1
+# counted NAME COMMAND..: a part whose last line is its total. One that ends without a total, or badly
+# after a good one, has failed.
+counted() {
+    log=target/c/$1.log
     shift
-    build "$name" c/caller.c c/f.c c/images.c c/programs.c c/replays.c c/runs.c c/steps.c "$@"
     status=0
-    "$program" >"$program.log" 2>&1 || status=$?
-    cat "$program.log"
-    total=$(sed -n '$s/^\([0-9]*\) passed, \([0-9]*\) failed$/\1 \2/p' "$program.log")
+    "$@" >"$log" 2>&1 || status=$?
+    cat "$log"
+    total=$(sed -n '$s/^\([0-9]*\) passed, \([0-9]*\) failed$/\1 \2/p' "$log")
     set -- ${total:-0 1}
     passed=$((passed + $1))
     failed=$((failed + $2))
     if [ "$status" -ne 0 ] && [ "$2" -eq 0 ]; then failed=$((failed + 1)); fi
+}
+
+# run NAME FLAGS..
+run() {
+    build "$@" c/caller.c c/f.c c/helpers.c c/images.c c/programs.c c/replays.c c/runs.c c/steps.c
+    counted "$1" "$program"
 }
 
 # dispatched NAME JOB EXPECTED ARGUMENT..: what $program prints for a job is the file's text.
@@ -122,15 +132,22 @@ dispatch() {
     try_budgets
 }
 
-if [ ! -x "$assembler" ]; then
-    cargo build --release --offline --manifest-path rust/Cargo.toml -p tpasm
+if [ ! -f target/staticlib/libjob.a ]; then
+    echo 'target/staticlib/libjob.a is missing: run make, or rt staticlib job'
+    echo '0 passed, 1 failed'
+    exit 1
 fi
+sh scripts/tools.sh gcc make
+make -s -o target/bin/tpal_run -o target/staticlib/libjob.a lib "$assembler"
 
 sanitized='-O1 -g -fsanitize=address,undefined -fno-sanitize-recover=all'
 run caller -O2
 run caller_sanitized $sanitized
 dispatch dispatcher -O2
 dispatch dispatcher_sanitized $sanitized
+counted exports sh c/exports.sh
+counted install sh c/install.sh
+counted scripts sh scripts/test.sh
 
 echo "$passed passed, $failed failed"
 [ "$failed" -eq 0 ]

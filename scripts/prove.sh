@@ -66,6 +66,9 @@ if [ "$1" = --archive ]; then
     exit 0
 fi
 
+# A program that was removed has to be made again, though nothing has changed.
+if [ -f "crates/$1/src/main.rt" ] && [ ! -f "target/bin/$1" ]; then rm -f "target/stamp/$1"; fi
+
 crates=$(needed "$1")
 # shellcheck disable=SC2086
 set -- $crates

@@ -21,6 +21,12 @@ if [ $# -eq 0 ]; then
 fi
 text=$1
 shift
+case $budget in
+*[!0-9]*)
+    echo "the budget is a number of picks, found '$budget'" >&2
+    exit 4
+    ;;
+esac
 
 room=$(mktemp -d) || exit 4
 trap 'rm -rf "$room"' EXIT

@@ -5,6 +5,7 @@
 #
 # Status 0 when all of them are there in the end.
 set -u
+PATH=$PATH:${HOME:-/root}/.cargo/bin
 
 missing=''
 for command; do

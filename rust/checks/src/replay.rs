@@ -3,7 +3,7 @@
 use crate::assemble::JobInput;
 use crate::jobs::{difference, job, refused};
 use crate::lent::{salt_of, Lent};
-use crate::orders::{any_number, MANNERS};
+use crate::orders::{any_number, Manner, MANNERS};
 use crate::random::Random;
 use crate::replay_coverage::ReplayCoverage;
 use crate::{numbers, shares, state};
@@ -75,9 +75,7 @@ fn order(job: &[u8], random: &mut Random) -> Vec<u8> {
     let mut order = Vec::with_capacity(length);
     let mut last = 0;
     while order.len() < length {
-        let running: Vec<usize> = (0..machine.places())
-            .filter(|&slot| machine.slots()[slot].status == Status::Running)
-            .collect();
+        let running = running(&machine);
         if running.is_empty() {
             if after_end == 0 {
                 break;
@@ -96,6 +94,36 @@ fn order(job: &[u8], random: &mut Random) -> Vec<u8> {
         let _ = machine.pick_in(call, slot);
     }
     order
+}
+
+/// An order of a job that ends, in each manner and to the end, with the manner's name.
+pub fn orders_to_the_end(job: &[u8], seed: u64) -> Vec<(String, Vec<u8>)> {
+    let job = Job::parse(job).expect("the job is as laid out");
+    let call = Call::new(&job.program, &job.words).expect("start puts the same questions");
+    let to_the_end = |manner: Manner| {
+        let random = &mut Random::new(seed, manner as u64);
+        let mut machine = job.start().expect("start accepts the job");
+        let mut order = Vec::new();
+        let mut last = 0;
+        while machine.end().is_none() {
+            last = manner
+                .next(random, &running(&machine), last, machine.places())
+                .min(255);
+            order.push(last as u8);
+            let _ = machine.pick_in(call, last);
+        }
+        order
+    };
+    let named = |&manner: &Manner| (format!("{:?}", manner), to_the_end(manner));
+    MANNERS.iter().map(named).collect()
+}
+
+/// Slots with a running task.
+fn running(machine: &Machine) -> Vec<usize> {
+    let slots = 0..machine.places();
+    slots
+        .filter(|&slot| machine.slots()[slot].status == Status::Running)
+        .collect()
 }
 
 /// What the model says to a case.

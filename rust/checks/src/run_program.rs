@@ -34,15 +34,20 @@ pub fn at_the_root(path: &str) -> PathBuf {
         .join(path)
 }
 
-/// What the run program, `target/bin/tpal_run`, prints for this input.
+/// The run program, which `make` builds.
+pub fn program() -> PathBuf {
+    at_the_root("target/bin/tpal_run")
+}
+
+/// What the run program prints for this input.
 pub fn printed(input: &[u8]) -> String {
     printed_for(vec![input.to_vec()])
 }
 
-/// What it prints for an input that comes in these parts, with a while between them. It has status 0
-/// and says nothing else.
+/// What it prints for an input that comes in these parts, with a while between them. It prints
+/// something, says nothing on standard error, and has status 0.
 pub fn printed_for(parts: Vec<Vec<u8>>) -> String {
-    let program = at_the_root("target/bin/tpal_run");
+    let program = program();
     let mut child = Command::new(&program)
         .stdin(Stdio::piped())
         .stdout(Stdio::piped())
@@ -66,6 +71,7 @@ pub fn printed_for(parts: Vec<Vec<u8>>) -> String {
     writer.join().expect("the input is written");
     assert!(output.status.success(), "{}", output.status);
     assert_eq!(output.stderr, b"");
+    assert_ne!(output.stdout, b"");
     String::from_utf8(output.stdout).expect("text")
 }
 

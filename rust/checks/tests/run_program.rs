@@ -1,9 +1,13 @@
 //! The run program, `target/bin/tpal_run`, on inputs with stored outputs, with the engine's job text
 //! and the model beside it.
 
+use checks::assemble::{halt, if_jump, jump, mov, op, Annotation, Assembly, JobInput, Operand};
 use checks::hand::{by_zero, endless, f, f_with, figure_2, long, outside, refused};
-use checks::run_program::{at_the_root, printed, printed_for, report};
-use std::fs;
+use checks::run_program::{at_the_root, printed, printed_for, program, report};
+use model::opcode::SUBTRACT;
+use std::fs::{self, File, OpenOptions};
+use std::process::{Command, Stdio};
+use Operand::{Int, Lab};
 
 fn stored(name: &str) -> String {
     let path = at_the_root("rust/checks/tests/data").join(name);
@@ -25,6 +29,65 @@ fn jobs_with_stored_outputs() {
     for (name, input) in jobs {
         assert_eq!(report(&input.bytes()), stored(name), "{}", name);
     }
+}
+
+/// A job that ends by halt after exactly so many picks, 5 or more.
+fn of_picks(picks: u64) -> JobInput {
+    const ROUND: u64 = 3;
+    // The last look at r0, and the halt.
+    const END: u64 = 2;
+    let mut count_down = Assembly::default();
+    let round = [if_jump(0, Lab(1)), op(SUBTRACT, 0, 0, Int(1)), jump(Lab(0))];
+    count_down.block(Annotation::None, &round);
+    let rest = (picks - END) % ROUND;
+    let mut end = vec![mov(1, Int(0)); rest as usize];
+    end.push(halt());
+    count_down.block(Annotation::None, &end);
+    let rounds = (picks - END) / ROUND;
+    JobInput::new(count_down.image(), 1, 0).with_register(0, rounds as i64)
+}
+
+/// Document 01's number. A job that ends on the last of these picks has ended; one that needs a pick
+/// more is spent.
+#[test]
+fn the_budget_is_1_000_000_picks() {
+    for picks in [5, 6, 7, 999_999, 1_000_000] {
+        let text = report(&of_picks(picks).bytes());
+        let front = format!("end halt\nwork {}\nspan {}\nr0 int 0\n", picks, picks);
+        assert!(text.starts_with(&front), "{} picks: {}", picks, text);
+    }
+    for picks in [1_000_001, 1_000_002, 1_000_003, 2_000_000] {
+        let text = report(&of_picks(picks).bytes());
+        assert_eq!(text, "end spent\nwork 1000000\n", "{} picks", picks);
+    }
+}
+
+/// Where nothing is printed on standard output, standard error says why.
+#[test]
+fn an_input_that_cannot_be_read() {
+    let folder = File::open(at_the_root("examples")).expect("the folder opens");
+    let output = Command::new(program())
+        .stdin(Stdio::from(folder))
+        .output()
+        .expect("the program starts");
+    assert_eq!(output.stdout, b"");
+    let complaint = "tpal_run: standard input could not be read\n";
+    assert_eq!(String::from_utf8_lossy(&output.stderr), complaint);
+}
+
+#[test]
+fn an_output_that_cannot_be_written() {
+    // No job: it reads nothing, and would print a refusal.
+    let full = OpenOptions::new().write(true).open("/dev/full");
+    let output = Command::new(program())
+        .stdin(Stdio::null())
+        .stdout(Stdio::from(full.expect("the device opens")))
+        .stderr(Stdio::piped())
+        .spawn()
+        .and_then(|child| child.wait_with_output())
+        .expect("the program starts");
+    let complaint = "tpal_run: standard output could not be written\n";
+    assert_eq!(String::from_utf8_lossy(&output.stderr), complaint);
 }
 
 #[test]

@@ -20,7 +20,7 @@ pub struct Parser<'a> {
     /// Names whose declaration has an error. To use them is none.
     pub doubtful: HashSet<&'a str>,
     pub labels: Labels<'a>,
-    pub notes: Notes<'a>,
+    pub notes: Notes,
     /// Each error belongs to the statement being parsed or to one before it.
     pub errors: Vec<Message>,
 }
@@ -148,13 +148,19 @@ impl<'a> Parser<'a> {
         Ok(label)
     }
 
+    /// From a token, which was taken, to the last one taken.
+    pub fn since(&self, first: Token) -> Span {
+        let first = Span::from(first);
+        self.last().map_or(first, |last| first.up_to(last.into()))
+    }
+
     pub fn at_integer(&self) -> bool {
         self.peek().kind == Kind::Number || self.peek().is("-")
     }
 
     /// Digits, with a `-` before them or not, of 64 bits.
     pub fn integer(&mut self, expected: &str) -> Result<i64, Message> {
-        let first = Span::from(self.peek());
+        let first = self.peek();
         let sign = if self.accept("-") { "-" } else { "" };
         let digits = self.peek();
         if digits.kind != Kind::Number {
@@ -165,7 +171,7 @@ impl<'a> Parser<'a> {
         let written = format!("{}{}", sign, digits.text);
         written.parse().map_err(|_| {
             let range = format!("an integer from {} to {}", i64::MIN, i64::MAX);
-            Message::expected(first.up_to(digits.into()), range, quoted(&written))
+            Message::expected(self.since(first), range, quoted(&written))
         })
     }
 }

@@ -99,7 +99,8 @@ impl<'a> Parser<'a> {
     pub fn no_setting(&self) -> Message {
         let message = self.unexpected_among(SETTING, Fitting::SETTINGS);
         if self.at_instruction() {
-            return message.with_hint("an instruction stands in a block: begin one with 'main:'".to_string());
+            return message
+                .with_hint("an instruction stands in a block: begin one with 'main:'".to_string());
         }
         let hint = message.hint.clone();
         message.with_hint(hint.or_else(|| self.statement_hint()))

@@ -13,7 +13,7 @@ pub fn of_mark(mark: &str) -> Option<String> {
         }
         "+=" | "-=" | "*=" | "/=" | "%=" => {
             let operator = &mark[..1];
-            return Some(format!("write it out: 'r := r {} v'", operator));
+            return Some(format!("write it out, as in 'r0 := r0 {} 1'", operator));
         }
         "&" | "&&" | "|" | "||" | "^" | "!" | "~" | "<<" | ">>" => {
             "the operators are + - * / % < ="
@@ -32,18 +32,18 @@ pub fn of_mark(mark: &str) -> Option<String> {
 /// For a word where an instruction is meant.
 pub fn of_instruction(word: &str) -> Option<&'static str> {
     Some(match word.to_ascii_lowercase().as_str() {
-        "mov" | "move" | "let" | "load" | "ld" | "li" => "a move is written 'r := v'",
+        "mov" | "move" | "let" | "load" | "ld" | "li" => "a move is written 'r0 := 1'",
         "add" | "sub" | "mul" | "div" | "mod" | "rem" | "inc" | "dec" | "cmp" => {
-            "an operation is written 'r := s + v'"
+            "an operation is written 'r0 := r1 + 2'"
         }
         "if" | "ifjump" | "if_jump" | "jz" | "je" | "beq" | "branch" => {
-            "write 'if-jump s, v': it jumps to v when s is 0"
+            "write 'if-jump r0, LABEL', which jumps when r0 is 0"
         }
-        "goto" | "go" | "jmp" | "br" => "write 'jump v'",
-        "spawn" | "async" => "write 'fork s, v', s being a join record",
-        "sync" | "wait" | "await" => "write 'join v', v being a join record",
+        "goto" | "go" | "jmp" | "br" => "write 'jump LABEL'",
+        "spawn" | "async" => "write 'fork r0, LABEL', where r0 holds a join record",
+        "sync" | "wait" | "await" => "write 'join r0', where r0 holds a join record",
         "ret" | "return" | "stop" | "end" | "exit" => {
-            "write 'halt' to end the job, 'join v' to end a side of a fork"
+            "write 'halt' to end the job, 'join r0' to end a side of a fork"
         }
         _ => return None,
     })

@@ -125,10 +125,11 @@ impl<'a> Parser<'a> {
         let first = self.peek();
         let v = self.operand()?;
         if row.opcode == opcode::JRALLOC {
+            let span = self.since(first);
             match v {
                 Operand::Register(_) => {}
-                Operand::Label(number) => self.notes.jralloc(first, Some(number)),
-                Operand::Integer(_) => self.notes.jralloc(first, None),
+                Operand::Label(number) => self.notes.jralloc(span, Some(number)),
+                Operand::Integer(_) => self.notes.jralloc(span, None),
             }
         }
         Ok(record(row.opcode, r, 0, Some(v)))
@@ -140,7 +141,7 @@ impl<'a> Parser<'a> {
         let v = self.operand()?;
         let divides = matches!(row.opcode, opcode::DIVIDE | opcode::REMAINDER);
         if divides && matches!(v, Operand::Integer(0)) {
-            self.notes.zero_divisor(first);
+            self.notes.zero_divisor(self.since(first));
         }
         Ok(record(row.opcode, r, s, Some(v)))
     }
@@ -153,7 +154,7 @@ impl<'a> Parser<'a> {
             Operand::Label(_) => Err(self.misused(token, expected, Fitting::NOTHING)),
             Operand::Integer(integer) => {
                 let found = format!("'{}'", integer);
-                Err(Message::expected(token, expected, found))
+                Err(Message::expected(self.since(token), expected, found))
             }
         }
     }

@@ -17,20 +17,19 @@ impl<'a> Parser<'a> {
         }
     }
 
-    /// Behind the `]`. Where the line has none, to its end, unless the annotation goes on in the next
-    /// one.
+    /// Behind the `]`, in this line or, where the annotation goes on there, a later one; without it, to
+    /// the line's end.
     pub fn skip_annotation(&mut self) {
-        let ends = |token: &Token| token.is("]") || token.kind == Kind::FileEnd;
-        let belongs = |token: &&Token| !ends(token) && !token.is(":=") && !token.is(":");
         let rest = self.rest();
-        let length = rest.iter().take_while(belongs).count();
-        let is_closed = rest[length].is("]");
-        let in_line = |token: &&Token| token.kind != Kind::LineEnd && !ends(token);
-        let count = if is_closed {
-            length + 1
-        } else {
-            rest.iter().take_while(in_line).count()
+        let ends_line = |token: &Token| matches!(token.kind, Kind::LineEnd | Kind::FileEnd);
+        let closes = |token: &Token| token.is("]");
+        let ends = |token: &Token| {
+            closes(token) || token.is(":=") || token.is(":") || token.kind == Kind::FileEnd
         };
+        let line = rest.iter().position(ends_line).unwrap_or_default();
+        let in_line = rest[..line].iter().position(closes);
+        let later = rest.iter().position(ends).filter(|at| closes(&rest[*at]));
+        let count = in_line.or(later).map_or(line, |at| at + 1);
         for _ in 0..count {
             self.next();
         }

@@ -2,7 +2,7 @@
 
 use crate::cursor::Parser;
 use crate::describe::Fitting;
-use crate::message::{Message, Span};
+use crate::message::Message;
 use crate::names::numbered;
 use crate::text::quoted;
 use crate::token::{Kind, Token};
@@ -134,11 +134,10 @@ impl<'a> Parser<'a> {
         allowed: impl Fn(i64) -> Option<T>,
         setting: &mut Option<T>,
     ) -> Result<(), Message> {
-        let first = Span::from(self.peek());
+        let first = self.peek();
         let number = self.integer(expected)?;
-        let written = self.last().map_or(first, |last| first.up_to(last.into()));
-        let value = allowed(number)
-            .ok_or_else(|| Message::expected(written, expected, format!("'{}'", number)))?;
+        let wrong = || Message::expected(self.since(first), expected, format!("'{}'", number));
+        let value = allowed(number).ok_or_else(wrong)?;
         if setting.replace(value).is_some() {
             let expected = format!("one '{}' line", word.text);
             self.report(Message::expected(word, expected, "a second"));

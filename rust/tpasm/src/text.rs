@@ -42,7 +42,7 @@ pub fn quoted(text: &str) -> String {
     format!("'{}'", cut(text).escape_debug())
 }
 
-fn cut(text: &str) -> Cow<str> {
+fn cut(text: &str) -> Cow<'_, str> {
     match text.char_indices().nth(MAX_SHOWN) {
         None => text.into(),
         Some(_) => {

@@ -34,7 +34,21 @@ const MARKS: [&str; 15] = [
 /// Marks of other notations, each one token, so that a message can speak of it. The text after `#` and
 /// `/*` is passed over as the comment that it was meant to be.
 const FOREIGN: [&str; 15] = [
-    "==", "!=", ">=", "<=", "&&", "||", "<<", ">>", "+=", "-=", "*=", "/=", "%=", "*/", BLOCK_COMMENT,
+    "==",
+    "!=",
+    ">=",
+    "<=",
+    "&&",
+    "||",
+    "<<",
+    ">>",
+    "+=",
+    "-=",
+    "*=",
+    "/=",
+    "%=",
+    "*/",
+    BLOCK_COMMENT,
 ];
 
 const COMMENT: &str = "//";

@@ -1,6 +1,6 @@
 //! What a program says that cannot be meant: blocks that never run, instructions that always fault.
 
-use crate::message::Message;
+use crate::message::{Message, Span};
 use crate::names::Labels;
 use crate::text::quoted;
 use crate::token::Token;
@@ -9,17 +9,17 @@ use std::collections::HashSet;
 
 /// What the parser notes for the warnings, some of which need the whole program.
 #[derive(Default)]
-pub struct Notes<'a> {
+pub struct Notes {
     /// The block being parsed.
     block: usize,
     /// The blocks that another block names.
     named: HashSet<usize>,
     /// Operands of `jralloc`: a label's block, or an integer.
-    jrallocs: Vec<(Token<'a>, Option<usize>)>,
-    zero_divisors: Vec<Token<'a>>,
+    jrallocs: Vec<(Span, Option<usize>)>,
+    zero_divisors: Vec<Span>,
 }
 
-impl<'a> Notes<'a> {
+impl Notes {
     pub fn begin_block(&mut self, number: usize) {
         self.block = number;
     }
@@ -30,49 +30,56 @@ impl<'a> Notes<'a> {
         }
     }
 
-    pub fn jralloc(&mut self, operand: Token<'a>, block: Option<usize>) {
+    pub fn jralloc(&mut self, operand: Span, block: Option<usize>) {
         self.jrallocs.push((operand, block));
     }
 
-    pub fn zero_divisor(&mut self, operand: Token<'a>) {
+    pub fn zero_divisor(&mut self, operand: Span) {
         self.zero_divisors.push(operand);
     }
 
     /// In order of place. The program has no error.
     pub fn warnings(&self, program: &Program, labels: &Labels) -> Vec<Message> {
+        let is_target = |number: &usize| program.blocks[*number].is_join_target();
         let jrallocs = self.jrallocs.iter();
         let mut warnings: Vec<Message> = jrallocs
-            .filter_map(|(operand, block)| no_join_target(operand, *block, program))
+            .filter(|(_, block)| !block.as_ref().map_or(false, is_target))
+            .map(|(operand, block)| no_join_target(*operand, block.map(|n| labels.all()[n])))
             .collect();
-        warnings.extend(self.zero_divisors.iter().map(zero_divisor));
+        warnings.extend(
+            self.zero_divisors
+                .iter()
+                .map(|operand| zero_divisor(*operand)),
+        );
         let later = labels.all().iter().enumerate().skip(1);
         let unnamed = later.filter(|(number, _)| !self.named.contains(number));
-        warnings.extend(unnamed.map(|(_, label)| never_entered(label)));
+        warnings.extend(unnamed.map(|(_, label)| never_entered(*label)));
         warnings.sort_by_key(|warning| warning.span.position);
         warnings
     }
 }
 
-fn no_join_target(operand: &Token, block: Option<usize>, program: &Program) -> Option<Message> {
-    let what = match block {
-        Some(number) if program.blocks[number].is_join_target() => return None,
-        Some(_) => format!("block {} is no join target", operand),
-        None => "an integer is no join target".to_string(),
+/// A label of a block, or an integer.
+fn no_join_target(operand: Span, label: Option<Token>) -> Message {
+    let what = match label {
+        Some(label) => format!("block {}", label),
+        None => "an integer".to_string(),
     };
-    let text = format!("{}: carried out, this ends the task with fault 35", what);
-    let hint = block.map(|_| {
-        let annotation = "[jtppt POLICY; PAIRS; COMBINING]";
-        format!("a join target is annotated, {}", quoted(&format!("{}: {}", operand.text, annotation)))
+    let hint = label.map(|label| {
+        let annotated = format!("{}: [jtppt POLICY; PAIRS; COMBINING]", label.text);
+        format!("a join target is annotated, {}", quoted(&annotated))
     });
-    Some(Message::warning(*operand, text).with_hint(hint))
+    let fault = "carried out, this ends the task with fault 35";
+    let text = format!("{} is no join target: {}", what, fault);
+    Message::warning(operand, text).with_hint(hint)
 }
 
-fn zero_divisor(operand: &Token) -> Message {
+fn zero_divisor(operand: Span) -> Message {
     let text = "the divisor is 0: carried out, this ends the task with fault 32";
-    Message::warning(*operand, text)
+    Message::warning(operand, text)
 }
 
-fn never_entered(label: &Token) -> Message {
+fn never_entered(label: Token) -> Message {
     let text = format!("no other block names {}: it never runs", label);
-    Message::warning(*label, text)
+    Message::warning(label, text)
 }

@@ -13,7 +13,7 @@ use Operand::{Int, Lab, Reg};
 fn image(source: &str) -> Vec<u8> {
     match assemble(source.as_bytes()) {
         Ok(assembly) => assembly.image,
-        Err(error) => panic!("{}", error),
+        Err(errors) => panic!("{}", errors[0]),
     }
 }
 

@@ -1,15 +1,15 @@
-//! Sources with tokens changed at random: each is refused at a place inside it, or gives an image
-//! that the proved reader accepts and that comes back. And random bytes, which are no program.
+//! Sources with tokens changed at random: each has errors at places inside it, in their order, or gives
+//! an image that the proved reader accepts and that comes back. And random bytes, which are no program.
 
 use checks::generate::valid_image;
 use checks::random::Random;
-use tpasm::{assemble, list, Error};
+use tpasm::{assemble, list, show, Message};
 
 const SEED: u64 = 0x6461_6d61;
 const SOURCES: u64 = 50_000;
 
 /// Tokens that a change may put anywhere.
-const TOKENS: [&str; 40] = [
+const TOKENS: [&str; 60] = [
     "r0",
     "r15",
     "r16",
@@ -50,6 +50,26 @@ const TOKENS: [&str; 40] = [
     "assoc-comm",
     "reg",
     "words",
+    "places",
+    "set",
+    "reg x = r16\n",
+    "main:",
+    "HALT",
+    "mov",
+    "ifjump",
+    "lop",
+    "0xff",
+    "1_0",
+    "==",
+    ">=",
+    "+=",
+    "#",
+    "#1",
+    "/*",
+    "*/",
+    "\t",
+    "\r",
+    "\r\n",
 ];
 
 /// The listing of a small image, cut at its blanks, with some of its tokens changed.
@@ -58,10 +78,10 @@ fn source(random: &mut Random) -> String {
     let blocks = random.between(1, instructions);
     let text = list(&valid_image(random.bits(), blocks, instructions)).unwrap();
     let mut words: Vec<&str> = text.split_inclusive(' ').collect();
-    for _ in 0..random.between(0, 3) {
+    for _ in 0..random.pick(&[0, 1, 2, 3, 40]) {
         let at = random.below(words.len());
         match random.below(4) {
-            0 => drop(words.remove(at)),
+            0 if words.len() > 1 => drop(words.remove(at)),
             1 => words.insert(at, random.pick(&words)),
             2 => words[at] = random.pick(&TOKENS),
             _ => words.insert(at, random.pick(&TOKENS)),
@@ -70,11 +90,28 @@ fn source(random: &mut Random) -> String {
     words.concat()
 }
 
-/// The place is a character of the source, or right behind a line's last one.
-fn lies_in(error: &Error, source: &str) -> bool {
-    let line = source.split('\n').nth(error.position.line - 1);
-    let columns = line.map(|line| line.chars().count() + 1);
-    columns.map_or(false, |most| (1..=most).contains(&error.position.column))
+/// The place has characters of one line of the source, or stands right behind a line's last one.
+fn lies_in(error: &Message, source: &str) -> bool {
+    let source = source.replace("\r\n", "\n").replace('\r', "\n");
+    let line = source.split('\n').nth(error.span.position.line - 1);
+    let first = error.span.position.column;
+    let end = first + error.span.width;
+    line.map_or(false, |line| {
+        (1..=line.chars().count() + 1).contains(&first) && end <= line.chars().count() + 1
+    })
+}
+
+/// Each error lies in the source, and none before the one ahead of it. They can be shown.
+fn check(errors: &[Message], source: &str) {
+    assert!(!errors.is_empty(), "{}", source);
+    for error in errors {
+        assert!(lies_in(error, source), "{} in {}", error, source);
+    }
+    let places = errors.iter().map(|error| error.span.position);
+    let later = errors.iter().skip(1).map(|error| error.span.position);
+    assert!(places.zip(later).all(|(place, next)| place <= next));
+    let shown = show("x", source.as_bytes(), errors);
+    assert!(shown.lines().count() >= 3 * errors.len().min(20));
 }
 
 #[test]
@@ -87,10 +124,13 @@ fn damaged_sources() {
                 assert_eq!(engine::image_check(&assembly.image), Ok(()), "{}", source);
                 let again = assemble(list(&assembly.image).unwrap().as_bytes());
                 assert_eq!(again.unwrap().image, assembly.image, "{}", source);
+                for warning in &assembly.warnings {
+                    assert!(lies_in(warning, &source), "{} in {}", warning, source);
+                }
                 assembled += 1;
             }
-            Err(error) => {
-                assert!(lies_in(&error, &source), "{} in {}", error, source);
+            Err(errors) => {
+                check(&errors, &source);
                 refused += 1;
             }
         }
@@ -105,6 +145,23 @@ fn random_bytes() {
         let random = &mut Random::new(!SEED, number);
         let length = random.below(60);
         let source: Vec<u8> = (0..length).map(|_| random.byte()).collect();
-        assert!(assemble(&source).is_err());
+        let errors = assemble(&source).unwrap_err();
+        assert!(!show("x", &source, &errors).is_empty());
+    }
+}
+
+/// A source of such tokens alone, with a space between them or not.
+#[test]
+fn random_tokens() {
+    for number in 0..SOURCES {
+        let random = &mut Random::new(SEED + 1, number);
+        let mut source = String::new();
+        for _ in 0..random.below(40) {
+            source += random.pick(&TOKENS);
+            source += random.pick(&["", " "]);
+        }
+        if let Err(errors) = assemble(source.as_bytes()) {
+            check(&errors, &source);
+        }
     }
 }

@@ -1,12 +1,19 @@
 //! Each program of examples/: assembled, run by the run program, the engine's job text and the model,
-//! and compared with the output beside it.
+//! picked in orders over its own places, and compared with the output beside it. A new one is found
+//! by its files; no test here names it or counts it.
 
-use checks::replay::{compare, ReplayCase};
-use checks::run_program::RUN_PROGRAMS;
+use checks::replay::{compare, orders_to_the_end, ReplayCase};
+use checks::run_program::{at_the_root, RUN_PROGRAMS};
 use engine::STATE_BYTES;
+use model::job::{text_of, Report};
+use model::Answer;
+use std::ffi::OsStr;
 use std::fs;
 use std::path::{Path, PathBuf};
 use std::process::Command;
+
+/// Jobs with more work than this are run, but not picked: each pick puts all questions.
+const PICKED: u32 = 10_000;
 
 /// A job of examples/: `NAME.out` is what it prints. Its source is the folder's, and `NAME.args`,
 /// where it stands, has the options of `tpasm job`.
@@ -33,6 +40,7 @@ impl Example {
             .arg("job")
             .arg(source.with_extension("tpal"))
             .args(arguments.split_whitespace())
+            .current_dir(at_the_root(""))
             .output()
             .unwrap();
         let complaint = String::from_utf8_lossy(&output.stderr);
@@ -54,7 +62,7 @@ impl Example {
 }
 
 fn folder() -> PathBuf {
-    Path::new(env!("CARGO_MANIFEST_DIR")).join("../../examples")
+    at_the_root("examples")
 }
 
 fn files(folder: &Path) -> Vec<PathBuf> {
@@ -66,22 +74,91 @@ fn files(folder: &Path) -> Vec<PathBuf> {
     files
 }
 
+fn folders(examples: &Path) -> impl Iterator<Item = PathBuf> {
+    files(examples).into_iter().filter(|path| path.is_dir())
+}
+
 fn all() -> Vec<Example> {
-    let folders = files(&folder()).into_iter().filter(|path| path.is_dir());
-    folders
+    folders(&folder())
         .flat_map(|folder| files(&folder))
-        .filter(|path| {
-            path.extension()
-                .map_or(false, |extension| extension == "out")
-        })
+        .filter(|path| path.extension() == Some(OsStr::new("out")))
         .map(|out| Example { out })
         .collect()
+}
+
+/// What a folder of examples lacks: a text, options or an output that should stand beside another
+/// file.
+fn complaints(examples: &Path) -> Vec<String> {
+    let mut complaints = Vec::new();
+    for folder in folders(examples) {
+        let name = folder.file_name().unwrap();
+        let source = folder.join(name).with_extension("tpal");
+        if !source.exists() {
+            complaints.push(format!("{}: no such text", source.display()));
+        }
+        for path in files(&folder) {
+            let is = |extension| path.extension() == Some(OsStr::new(extension));
+            let lacks = |extension| !path.with_extension(extension).exists();
+            let is_folders = path.file_stem() == Some(name);
+            let complaint = if is("tpal") && !is_folders {
+                "a folder's text has the folder's name"
+            } else if (is("tpal") || is("args")) && lacks("out") {
+                "no output (.out) beside it"
+            } else if is("out") && !is_folders && lacks("args") {
+                "no options (.args) beside it"
+            } else {
+                continue;
+            };
+            complaints.push(format!("{}: {}", path.display(), complaint));
+        }
+    }
+    complaints
+}
+
+#[test]
+fn every_text_has_an_output_and_every_output_a_text() {
+    let complaints = complaints(&folder());
+    assert!(complaints.is_empty(), "{}", complaints.join("\n"));
+}
+
+#[test]
+fn what_an_example_lacks_is_said() {
+    let examples = Path::new(env!("CARGO_TARGET_TMPDIR")).join("examples");
+    let _ = fs::remove_dir_all(&examples);
+    let paths = [
+        "good/good.tpal",
+        "good/good.out",
+        "good/serial.args",
+        "good/serial.out",
+        "good/words.bin",
+        "no-output/no-output.tpal",
+        "no-output/serial.args",
+        "no-text/no-text.out",
+        "other-text/other.tpal",
+        "other-text/other.out",
+        "other-text/other-text.tpal",
+        "other-text/other-text.out",
+    ];
+    for path in paths {
+        let path = examples.join(path);
+        fs::create_dir_all(path.parent().unwrap()).unwrap();
+        fs::write(path, "").unwrap();
+    }
+    let expected = [
+        "no-output/no-output.tpal: no output (.out) beside it",
+        "no-output/serial.args: no output (.out) beside it",
+        "no-text/no-text.tpal: no such text",
+        "other-text/other.out: no options (.args) beside it",
+        "other-text/other.tpal: a folder's text has the folder's name",
+    ];
+    let expected = expected.map(|line| examples.join(line).display().to_string());
+    assert_eq!(complaints(&examples), expected);
 }
 
 #[test]
 fn every_example_prints_its_output() {
     let examples = all();
-    assert_eq!(examples.len(), 15);
+    assert!(!examples.is_empty());
     for example in &examples {
         let job = example.job();
         for (name, report) in RUN_PROGRAMS {
@@ -96,32 +173,36 @@ fn every_example_prints_its_output() {
     }
 }
 
-/// The engine's replay and the model's machine are left in the same state, whose work, span and
-/// registers are the output's.
+/// Whatever the order over the job's own places, the engine's replay and the model's machine are left
+/// in the same state, and that one has the output's end, work, span and registers.
 #[test]
-fn the_proved_engine_comes_to_every_output() {
-    for example in all() {
-        let name = example.out.display();
-        let rounds = example.number("span");
-        let case = ReplayCase {
-            job: example.job(),
-            order: (0..rounds).flat_map(|_| 0..8).collect(),
-            state_len: STATE_BYTES,
-        };
-        let replayed = match compare(&case, 0) {
-            Ok(Ok(replayed)) => replayed,
-            Ok(Err(refusal)) => panic!("{}: refused {}", name, refusal),
-            Err(difference) => panic!("{}: {}", name, difference),
-        };
-        let machine = replayed.machine;
-        assert!(machine.end().is_some(), "{}", name);
-        assert_eq!(machine.work(), example.number("work"), "{}", name);
-        assert_eq!(machine.last_task().span, example.number("span"), "{}", name);
-        for (number, value) in machine.last_task().registers.iter().enumerate() {
-            let line = example.line(&format!("r{}", number));
-            assert_eq!(line, value.to_string(), "{}", name);
+fn every_order_comes_to_the_output() {
+    let ended = |example: &Example| example.line("end") != "spent";
+    let mut picked = 0;
+    for example in all().into_iter().filter(ended) {
+        let work = example.number("work");
+        if work > PICKED {
+            continue;
         }
+        let job = example.job();
+        for (manner, order) in orders_to_the_end(&job, 1) {
+            let name = format!("{}, {}", example.out.display(), manner);
+            let case = ReplayCase {
+                job: job.clone(),
+                order,
+                state_len: STATE_BYTES,
+            };
+            let replayed = match compare(&case, 0) {
+                Ok(Ok(replayed)) => replayed,
+                Ok(Err(refusal)) => panic!("{}: refused {}", name, refusal),
+                Err(difference) => panic!("{}: {}", name, difference),
+            };
+            let report = Report::of(&replayed.machine, Answer::Ended, work.into());
+            assert_eq!(text_of(&Ok(report)), example.expected(), "{}", name);
+        }
+        picked += 1;
     }
+    assert!(picked > 0);
 }
 
 /// Document 01's 'Tried by hand' and document 02's request 1: end, work, span and, of the product,

@@ -1,8 +1,10 @@
-//! Images to text and back, on seeded images; every image that is made is held to the proved reader.
+//! Images and jobs to text and back, on seeded ones; every image that is made is held to the proved
+//! reader.
 
 use checks::generate::{case, valid_image};
 use checks::layout::{even_blocks, every_form, program_f};
-use tpasm::{assemble, list, Refusal};
+use checks::{hand, jobs};
+use tpasm::{assemble, job, list, list_file, Refusal};
 
 const SEED: u64 = 0x7470_6173;
 const CASES: u64 = 20_000;
@@ -11,7 +13,7 @@ const CASES: u64 = 20_000;
 fn assembled(source: &str) -> Vec<u8> {
     let image = match assemble(source.as_bytes()) {
         Ok(assembly) => assembly.image,
-        Err(error) => panic!("{}", error),
+        Err(errors) => panic!("{}", errors[0]),
     };
     assert_eq!(engine::image_check(&image), Ok(()));
     image
@@ -21,6 +23,15 @@ fn comes_back(image: &[u8]) {
     let text = list(image).expect("the image is accepted");
     assert_eq!(assembled(&text), image);
     assert_eq!(assembled(&renamed(&text)), image);
+}
+
+/// The same for the listing of a file.
+fn comes_back_from_a_file(image: &[u8]) {
+    for offsets in [false, true] {
+        let text = list_file(image, offsets).expect("the image is accepted");
+        assert!(text.starts_with("// image of "));
+        assert_eq!(assembled(&text), image);
+    }
 }
 
 /// The source with other names: `label-N` for bN, `reg-N` for rN; and with the pairs turned round.
@@ -58,6 +69,8 @@ fn pairs_reversed(line: &str) -> String {
 fn images_tried_by_hand() {
     comes_back(&program_f());
     comes_back(&every_form());
+    comes_back_from_a_file(&program_f());
+    comes_back_from_a_file(&every_form());
     for (blocks, instructions) in [(1, 1), (1, 1024), (128, 128), (128, 1024)] {
         comes_back(&even_blocks(blocks, instructions));
         comes_back(&valid_image(SEED, blocks, instructions));
@@ -73,10 +86,14 @@ fn seeded_images() {
         match engine::image_check(&image) {
             Ok(()) => {
                 comes_back(&image);
+                if accepted % 8 == 0 {
+                    comes_back_from_a_file(&image);
+                }
                 accepted += 1;
             }
             Err(refusal) => {
                 assert_eq!(list(&image), Err(Refusal(refusal)));
+                assert!(list_file(&image, true).is_err());
                 refused[usize::from(refusal)] += 1;
             }
         }
@@ -84,4 +101,24 @@ fn seeded_images() {
     println!("{} accepted; refused by number: {:?}", accepted, refused);
     assert!(accepted > 5_000);
     assert!(refused[1..].iter().all(|&count| count > 0));
+}
+
+#[test]
+fn seeded_jobs() {
+    for number in 0..CASES / 10 {
+        let bytes = jobs::job(SEED, number).input.bytes();
+        for offsets in [false, true] {
+            let text = list_file(&bytes, offsets).expect("the job is accepted");
+            assert!(text.starts_with("// job of "));
+            let assembly = assemble(text.as_bytes()).unwrap();
+            assert_eq!(job(&assembly.image, &assembly.settings), bytes);
+        }
+    }
+}
+
+#[test]
+fn refused_jobs() {
+    for (number, bytes) in hand::refused() {
+        assert_eq!(list_file(&bytes, false), Err(Refusal(number)));
+    }
 }

@@ -12,7 +12,9 @@ read-registers-requires : tie.Need-read-registers-requires
 read-registers-requires c κs = ((accepted-ends (c .before .before .before .before .args .job .now) (c .before .before .before .before .pre .0)), refl)
 
 read-words-requires : tie.Need-read-words-requires
-read-words-requires c κs = ((accepted-ends (c .before .before .before .before .before .before .before .args .job .now) (c .before .before .before .before .before .before .before .pre .0)), c .before .before .before .before .before .before .before .pre .2)
+read-words-requires c κs =
+    let c7 = c .before .before .before .before .before .before .before in
+    ((accepted-ends (c7 .args .job .now) (c7 .pre .0)), c7 .pre .2)
 
 places-of-requires : tie.Need-places-of-requires
 places-of-requires c κs = (accepted-ends (c .before .before .before .before .before .before .before .before .before .args .job .now) (c .before .before .before .before .before .before .before .before .before .pre .0))
@@ -30,7 +32,13 @@ same-length : tie.Need-same-length
 same-length c = search needs
 
 returns : tie.Need-returns
-returns c = replay-agrees (c .before .before .before .before .before .before .before .before .before .before .before .before .before .before .before .args .job .now) (c .before .before .before .before .before .before .before .before .before .before .before .before .before .before .before .pre .0) (c .before .before .before .before .before .before .before .before .before .before .before .before .before .before .before .args .order .now) (c .before .before .before .before .before .before .before .before .before .before .before .before .before .before .before .args .cells .now) (c .before .before .before .before .before .places-of .result) (c .before .before .before .before .interval-of .result) (c .before .before .before .before .before .before .before .before .before .before .read-registers .last .1 .0) (c .before .before .before .before .before .before .before .read-words .last .1 .0) (c .before .replay .result .no) (c .before .replay .result .machine) (c .before .before .before .before .before .before .before .before .before .before .before .before .before .before .before .pre .1) (c .before .before .before .before .before .places-of .ensures) (c .before .before .before .before .interval-of .ensures) (c .before .before .before .before .before .before .before .before .before .before .read-registers .ensures) (c .before .before .before .before .before .before .before .read-words .ensures) (c .before .replay .ensures .0) (c .before .replay .ensures .1 .0)
+returns c =
+    let c4 = c .before .before .before .before in
+    let c5 = c4 .before in
+    let c7 = c5 .before .before in
+    let c10 = c7 .before .before .before in
+    let c15 = c10 .before .before .before .before .before in
+    replay-agrees (c15 .args .job .now) (c15 .pre .0) (c15 .args .order .now) (c15 .args .cells .now) (c5 .places-of .result) (c4 .interval-of .result) (c10 .read-registers .last .1 .0) (c7 .read-words .last .1 .0) (c .before .replay .result .no) (c .before .replay .result .machine) (c15 .pre .1) (c5 .places-of .ensures) (c4 .interval-of .ensures) (c10 .read-registers .ensures) (c7 .read-words .ensures) (c .before .replay .ensures .0) (c .before .replay .ensures .1 .0)
 
 pub carry-out-spec : {M : Type 1} → statement M
 carry-out-spec =

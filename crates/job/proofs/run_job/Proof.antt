@@ -23,7 +23,9 @@ interval-of-requires : tie.Need-interval-of-requires
 interval-of-requires c κs = (accepted-ends (c .before .before .before .before .before .before .before .before .before .args .job .now) (c .before .before .before .before .before .before .before .before .before .pre .0))
 
 cast-fresh-machine : tie.Need-cast-fresh-machine
-cast-fresh-machine c = record { fits = omega (arith, c .interval-of .ensures, interval-small (c .before .before .before .before .before .before .before .before .before .before .args .job .now) (c .before .before .before .before .before .before .before .before .before .before .pre .0)) }
+cast-fresh-machine c =
+    let c10 = c .before .before .before .before .before .before .before .before .before .before in
+    record { fits = omega (arith, c .interval-of .ensures, interval-small (c10 .args .job .now) (c10 .pre .0)) }
 
 slice-aggregate-fresh-machine : tie.Need-slice-aggregate-fresh-machine
 slice-aggregate-fresh-machine c = search needs
@@ -32,7 +34,12 @@ fresh-machine-requires : tie.Need-fresh-machine-requires
 fresh-machine-requires c κs = search needs
 
 drive-requires : tie.Need-drive-requires
-drive-requires c κs = fresh-ready (c .before .before .before .before .before .before .before .before .before .before .before .before .before .args .job .now) (c .before .before .before .before .before .before .before .before .before .before .before .before .before .pre .0) (c .before .before .before .before .before .before .before .before .before .before .before .before .before .pre .1) (c .before .before .before .before .places-of .ensures) (c .before .before .before .interval-of .ensures) (c .before .before .before .before .before .before .before .before .before .read-registers .ensures) (c .before .fresh-machine .ensures)
+drive-requires c κs =
+    let c3 = c .before .before .before in
+    let c4 = c3 .before in
+    let c9 = c4 .before .before .before .before .before in
+    let c13 = c9 .before .before .before .before in
+    fresh-ready (c13 .args .job .now) (c13 .pre .0) (c13 .pre .1) (c4 .places-of .ensures) (c3 .interval-of .ensures) (c9 .read-registers .ensures) (c .before .fresh-machine .ensures)
 
 report-of-requires : tie.Need-report-of-requires
 report-of-requires c κs = search needs
@@ -41,7 +48,14 @@ same-length : tie.Need-same-length
 same-length c = search needs
 
 returns : tie.Need-returns
-returns c = run-agrees (c .before .before .before .before .before .before .before .before .before .before .before .before .before .before .before .before .args .job .now) (c .before .before .before .before .before .before .before .before .before .before .before .before .before .before .before .before .pre .0) (c .before .before .before .before .before .before .before .before .before .before .before .before .before .before .before .before .pre .1) (c .before .before .before .before .before .before .before .places-of .ensures) (c .before .before .before .before .before .before .interval-of .ensures) (c .before .before .before .before .before .before .before .before .before .before .before .before .read-registers .ensures) (c .before .before .before .before .fresh-machine .ensures) (c .before .before .before .before .before .before .before .before .before .read-words .ensures) (c .before .before .before .before .before .before .before .before .before .before .before .before .before .before .before .before .args .budget) (c .before .before .drive .ensures) (c .report-of .ensures)
+returns c =
+    let c4 = c .before .before .before .before in
+    let c6 = c4 .before .before in
+    let c7 = c6 .before in
+    let c9 = c7 .before .before in
+    let c12 = c9 .before .before .before in
+    let c16 = c12 .before .before .before .before in
+    run-agrees (c16 .args .job .now) (c16 .pre .0) (c16 .pre .1) (c7 .places-of .ensures) (c6 .interval-of .ensures) (c12 .read-registers .ensures) (c4 .fresh-machine .ensures) (c9 .read-words .ensures) (c16 .args .budget) (c .before .before .drive .ensures) (c .report-of .ensures)
 
 pub run-job-spec : {M : Type 1} → statement M
 run-job-spec =

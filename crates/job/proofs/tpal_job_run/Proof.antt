@@ -18,7 +18,9 @@ ask-job-requires c κs = search needs
 
 returns : tie.Need-returns
 unfolding runNo unlessRefused
-returns c = (c .before .before .ask-job .ensures .0 ∙ sym (or-else-no (jobNo (c .before .before .before .before .before .before .args .job .now)) _ (λ e. c .if1 .taken (c .before .before .ask-job .ensures .0 ∙ e))), rw (ne-eqb _ _ (c .if1 .taken)))
+returns c =
+    let c6 = c .before .before .before .before .before .before in
+    (c .before .before .ask-job .ensures .0 ∙ sym (or-else-no (jobNo (c6 .args .job .now)) _ (λ e. c .if1 .taken (c .before .before .ask-job .ensures .0 ∙ e))), rw (ne-eqb _ _ (c .if1 .taken)))
 
 returns-2 : tie.Need-returns-2
 unfolding runNo unlessRefused
@@ -38,7 +40,13 @@ same-length c = search needs
 
 returns-3 : tie.Need-returns-3
 unfolding runNo unlessRefused
-returns-3 c = (sym (or-else-yes (jobNo (c .before .before .before .before .before .before .before .before .before .before .before .before .before .args .job .now)) _ (sym (c .before .before .before .before .before .before .before .before .before .ask-job .ensures .0) ∙ c .before .before .before .before .before .before .before .if1 .left) ∙ rw (eq-eqb _ _ (c .before .before .before .before .before .before .if2 .left))), c .before .before .write-report .ensures ∙ ap reportBytes (c .before .before .before .before .run-accepted .ensures))
+returns-3 c =
+    let c4 = c .before .before .before .before in
+    let c6 = c4 .before .before in
+    let c7 = c6 .before in
+    let c9 = c7 .before .before in
+    let c13 = c9 .before .before .before .before in
+    (sym (or-else-yes (jobNo (c13 .args .job .now)) _ (sym (c9 .ask-job .ensures .0) ∙ c7 .if1 .left) ∙ rw (eq-eqb _ _ (c6 .if2 .left))), c .before .before .write-report .ensures ∙ ap reportBytes (c4 .run-accepted .ensures))
 
 pub tpal-job-run-spec : {M : Type 1} → statement M
 tpal-job-run-spec =

@@ -21,7 +21,12 @@ same-length : tie.Need-same-length
 same-length c = search needs
 
 returns-2 : tie.Need-returns-2
-returns-2 c = refusal-given (c .before .before .before .before .before .before .before .before .before .before .before .args .job .now) (c .before .before .before .before .before .before .before .before .before .before .before .args .budget) (c .before .before .before .before .before .before .before .before .before .before .before .args .out .now) (c .before .before .before .before .before .before .before .before .if1 .left) _ (c .before .before .before .before .before .before .ask-job .ensures .0) (c .before .before .before .before .if2 .taken) (c .before .before .write-refused .ensures .0) (c .before .before .write-refused .ensures .1)
+returns-2 c =
+    let c4 = c .before .before .before .before in
+    let c6 = c4 .before .before in
+    let c8 = c6 .before .before in
+    let c11 = c8 .before .before .before in
+    refusal-given (c11 .args .job .now) (c11 .args .budget) (c11 .args .out .now) (c8 .if1 .left) _ (c6 .ask-job .ensures .0) (c4 .if2 .taken) (c .before .before .write-refused .ensures .0) (c .before .before .write-refused .ensures .1)
 
 slice-aggregate-run-accepted : tie.Need-slice-aggregate-run-accepted
 slice-aggregate-run-accepted c = search needs
@@ -36,7 +41,13 @@ same-length-2 : tie.Need-same-length-2
 same-length-2 c = search needs
 
 returns-3 : tie.Need-returns-3
-returns-3 c = report-given (c .before .before .before .before .before .before .before .before .before .before .before .before .before .args .job .now) (c .before .before .before .before .before .before .before .before .before .before .before .before .before .args .budget) (c .before .before .before .before .before .before .before .before .before .before .before .before .before .args .out .now) (c .before .before .before .before .before .before .before .before .before .before .if1 .left) _ (sym (c .before .before .before .before .before .before .before .before .ask-job .ensures .0) ∙ c .before .before .before .before .before .before .if2 .left) (c .before .before .before .before .run-accepted .ensures) (c .before .before .write-text .ensures .0) (c .before .before .write-text .ensures .1)
+returns-3 c =
+    let c4 = c .before .before .before .before in
+    let c6 = c4 .before .before in
+    let c8 = c6 .before .before in
+    let c10 = c8 .before .before in
+    let c13 = c10 .before .before .before in
+    report-given (c13 .args .job .now) (c13 .args .budget) (c13 .args .out .now) (c10 .if1 .left) _ (sym (c8 .ask-job .ensures .0) ∙ c6 .if2 .left) (c4 .run-accepted .ensures) (c .before .before .write-text .ensures .0) (c .before .before .write-text .ensures .1)
 
 pub tpal-job-text-spec : {M : Type 1} → statement M
 tpal-job-text-spec =

@@ -22,26 +22,47 @@ ask-job-requires c κs = search needs
 
 returns : tie.Need-returns
 unfolding replayNo unlessRefused
-returns c = (c .before .before .ask-job .ensures .0 ∙ sym (or-else-no (jobNo (c .before .before .before .before .before .before .before .args .job .now)) _ (λ e. c .if1 .taken (c .before .before .ask-job .ensures .0 ∙ e))), (rw (ne-eqb _ _ (c .if1 .taken)), λ e. absurd (c .if1 .taken e)))
+returns c =
+    let c7 = c .before .before .before .before .before .before .before in
+    (c .before .before .ask-job .ensures .0 ∙ sym (or-else-no (jobNo (c7 .args .job .now)) _ (λ e. c .if1 .taken (c .before .before .ask-job .ensures .0 ∙ e))), (rw (ne-eqb _ _ (c .if1 .taken)), λ e. absurd (c .if1 .taken e)))
 
 returns-2 : tie.Need-returns-2
 unfolding replayNo unlessRefused
-returns-2 c = (sym (or-else-yes (jobNo (c .before .before .before .before .before .before .before .before .args .job .now)) _ (sym (c .before .before .before .ask-job .ensures .0) ∙ c .before .if1 .left) ∙ rw (ne-eqb _ _ (c .if2 .taken))), (refl, λ e. absurd (omega arith)))
+returns-2 c =
+    let c3 = c .before .before .before in
+    let c8 = c3 .before .before .before .before .before in
+    (sym (or-else-yes (jobNo (c8 .args .job .now)) _ (sym (c3 .ask-job .ensures .0) ∙ c .before .if1 .left) ∙ rw (ne-eqb _ _ (c .if2 .taken))), (refl, λ e. absurd (omega arith)))
 
 word-count-requires : tie.Need-word-count-requires
-word-count-requires c κs = (accepted-ends (c .before .before .before .before .before .before .before .before .args .job .now) (sym (c .before .before .before .ask-job .ensures .0) ∙ c .before .if1 .left))
+word-count-requires c κs =
+    let c3 = c .before .before .before in
+    let c8 = c3 .before .before .before .before .before in
+    (accepted-ends (c8 .args .job .now) (sym (c3 .ask-job .ensures .0) ∙ c .before .if1 .left))
 
 slice-aggregate-carry-out : tie.Need-slice-aggregate-carry-out
 slice-aggregate-carry-out c = search needs
 
 array-borrow-prefix-words : tie.Need-array-borrow-prefix-words
-array-borrow-prefix-words c = omega (arith, (c .before .word-count .ensures .0), few-words (c .before .before .before .before .before .before .before .before .before .before .args .job .now) (sym (c .before .before .before .before .before .ask-job .ensures .0) ∙ c .before .before .before .if1 .left))
+array-borrow-prefix-words c =
+    let c3 = c .before .before .before in
+    let c5 = c3 .before .before in
+    let c10 = c5 .before .before .before .before .before in
+    omega (arith, (c .before .word-count .ensures .0), few-words (c10 .args .job .now) (sym (c5 .ask-job .ensures .0) ∙ c3 .if1 .left))
 
 slice-aggregate-carry-out-2 : tie.Need-slice-aggregate-carry-out-2
-slice-aggregate-carry-out-2 c = sym (front-length 4096 (c .before .before .word-count .result) (pos 0) (omega (arith, (c .before .before .word-count .ensures .0), few-words (c .before .before .before .before .before .before .before .before .before .before .before .args .job .now) (sym (c .before .before .before .before .before .before .ask-job .ensures .0) ∙ c .before .before .before .before .if1 .left))))
+slice-aggregate-carry-out-2 c =
+    let c4 = c .before .before .before .before in
+    let c6 = c4 .before .before in
+    let c11 = c6 .before .before .before .before .before in
+    sym (front-length 4096 (c .before .before .word-count .result) (pos 0) (omega (arith, (c .before .before .word-count .ensures .0), few-words (c11 .args .job .now) (sym (c6 .ask-job .ensures .0) ∙ c4 .if1 .left))))
 
 carry-out-requires : tie.Need-carry-out-requires
-carry-out-requires c κs = ((sym (c .before .before .before .before .before .before .ask-job .ensures .0) ∙ c .before .before .before .before .if1 .left), c .before .before .before .before .before .before .ask-job .ensures .1 (c .before .before .before .before .if1 .left), front-length 4096 (c .before .before .word-count .result) (pos 0) (omega (arith, (c .before .before .word-count .ensures .0), few-words (c .before .before .before .before .before .before .before .before .before .before .before .args .job .now) (sym (c .before .before .before .before .before .before .ask-job .ensures .0) ∙ c .before .before .before .before .if1 .left))) ∙ (c .before .before .word-count .ensures .0))
+carry-out-requires c κs =
+    let c4 = c .before .before .before .before in
+    let c4 = c4 in
+    let c6 = c4 .before .before in
+    let c11 = c6 .before .before .before .before .before in
+    ((sym (c6 .ask-job .ensures .0) ∙ c4 .if1 .left), c6 .ask-job .ensures .1 (c4 .if1 .left), front-length 4096 (c .before .before .word-count .result) (pos 0) (omega (arith, (c .before .before .word-count .ensures .0), few-words (c11 .args .job .now) (sym (c6 .ask-job .ensures .0) ∙ c4 .if1 .left))) ∙ (c .before .before .word-count .ensures .0))
 
 write-state-requires : tie.Need-write-state-requires
 write-state-requires c κs = search needs
@@ -51,7 +72,14 @@ same-length c = search needs
 
 returns-3 : tie.Need-returns-3
 unfolding replayNo unlessRefused
-returns-3 c = (sym (or-else-yes (jobNo (c .before .before .before .before .before .before .before .before .before .before .before .before .before .before .before .before .before .args .job .now)) _ (sym (c .before .before .before .before .before .before .before .before .before .before .before .before .ask-job .ensures .0) ∙ c .before .before .before .before .before .before .before .before .before .before .if1 .left) ∙ rw (eq-eqb _ _ (c .before .before .before .before .before .before .before .before .before .if2 .left))), (c .before .before .write-state .ensures ∙ ap stateBytes (c .before .before .before .before .before .carry-out .ensures), λ e. whatever-the-order (c .before .before .before .before .before .before .before .before .before .before .before .before .before .before .before .before .before .args .job .now) (sym (c .before .before .before .before .before .before .before .before .before .before .before .before .ask-job .ensures .0) ∙ c .before .before .before .before .before .before .before .before .before .before .if1 .left) (c .before .before .before .before .before .before .before .before .before .before .before .before .before .before .before .before .before .args .order .now)))
+returns-3 c =
+    let c5 = c .before .before .before .before .before in
+    let c5 = c5 in
+    let c9 = c5 .before .before .before .before in
+    let c10 = c9 .before in
+    let c12 = c10 .before .before in
+    let c17 = c12 .before .before .before .before .before in
+    (sym (or-else-yes (jobNo (c17 .args .job .now)) _ (sym (c12 .ask-job .ensures .0) ∙ c10 .if1 .left) ∙ rw (eq-eqb _ _ (c9 .if2 .left))), (c .before .before .write-state .ensures ∙ ap stateBytes (c5 .carry-out .ensures), λ e. whatever-the-order (c17 .args .job .now) (sym (c12 .ask-job .ensures .0) ∙ c10 .if1 .left) (c17 .args .order .now)))
 
 pub tpal-replay-spec : {M : Type 1} → statement M
 tpal-replay-spec =

@@ -20,8 +20,8 @@ fn numbers_in_decimal() {
 
 #[test]
 fn assignments_with_an_operator() {
-    assert_eq!(of_mark("+=").unwrap(), "write it out: 'r := r + v'");
-    assert_eq!(of_mark("%=").unwrap(), "write it out: 'r := r % v'");
+    assert_eq!(of_mark("+=").unwrap(), "write it out, as in 'r0 := r0 + 1'");
+    assert_eq!(of_mark("%=").unwrap(), "write it out, as in 'r0 := r0 % 1'");
 }
 
 #[test]
@@ -33,8 +33,8 @@ fn other_marks_have_none() {
 
 #[test]
 fn words() {
-    assert_eq!(of_instruction("mov"), Some("a move is written 'r := v'"));
+    assert_eq!(of_instruction("mov"), Some("a move is written 'r0 := 1'"));
     assert_eq!(of_instruction("MOV"), of_instruction("mov"));
-    assert_eq!(of_instruction("goto"), Some("write 'jump v'"));
+    assert_eq!(of_instruction("goto"), Some("write 'jump LABEL'"));
     assert_eq!(of_instruction("frob"), None);
 }

@@ -39,9 +39,45 @@ fn what_fits_nowhere_is_unknown() {
 fn comments_and_blanks() {
     assert_eq!(texts("a // b ; é\nc"), ["a", "\n", "c", ""]);
     assert_eq!(texts("a //"), ["a", ""]);
-    assert_eq!(texts("\ta\r\n"), ["a", "\n", ""]);
+    assert_eq!(texts("\ta\r\n"), ["a", "\r\n", ""]);
     assert_eq!(texts(""), [""]);
     assert_eq!(texts("a/ b"), ["a", "/", "b", ""]);
+}
+
+#[test]
+fn line_ends() {
+    assert_eq!(texts("a\rb\n\rc"), ["a", "\r", "b", "\n", "\r", "c", ""]);
+    assert_eq!(texts("a // b\rc"), ["a", "\r", "c", ""]);
+    let lines: Vec<usize> = tokens("a\r\nb\rc\nd")
+        .iter()
+        .map(|token| token.position.line)
+        .collect();
+    assert_eq!(lines, [1, 1, 2, 2, 3, 3, 4, 4]);
+}
+
+#[test]
+fn marks_of_other_notations() {
+    assert_eq!(texts("a==b"), ["a", "==", "b", ""]);
+    assert_eq!(texts("a<=-1>b"), ["a", "<=", "-", "1", ">", "b", ""]);
+    assert_eq!(texts("a:==b"), ["a", ":=", "=", "b", ""]);
+    assert_eq!(texts("a<-1"), ["a", "<", "-", "1", ""]);
+    assert_eq!(texts("#12 # b\nc"), ["#12", "#", "\n", "c", ""]);
+    assert_eq!(kinds("=="), [Kind::Unknown, Kind::FileEnd]);
+}
+
+#[test]
+fn block_comments_are_passed_over() {
+    let source = "a /* b\r\n c */ d\ne";
+    assert_eq!(texts(source), ["a", "/*", "d", "\n", "e", ""]);
+    let place = |at: usize| {
+        (
+            tokens(source)[at].position.line,
+            tokens(source)[at].position.column,
+        )
+    };
+    assert_eq!([place(1), place(2), place(4)], [(1, 3), (2, 7), (3, 1)]);
+    assert_eq!(texts("a /* b\nc"), ["a", "/*", "\n", "c", ""]);
+    assert_eq!(texts("*/"), ["*/", ""]);
 }
 
 #[test]

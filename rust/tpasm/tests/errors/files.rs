@@ -13,12 +13,16 @@ fn empty() {
 
 #[test]
 fn not_utf_8() {
-    let error = assemble(b"// \xc3\xa9\n//a\xff\n").unwrap_err();
-    let expected = "2:4: expected text in UTF-8, found the byte 0xff";
-    assert_eq!(error.to_string(), expected);
-    let error = assemble(b"\x80").unwrap_err();
+    let error = |source: &[u8]| match &assemble(source).unwrap_err()[..] {
+        [error] => error.to_string(),
+        errors => panic!("{:?}", errors),
+    };
     assert_eq!(
-        error.to_string(),
+        error(b"// \xc3\xa9\n//a\xff\n"),
+        "2:4: expected text in UTF-8, found the byte 0xff"
+    );
+    assert_eq!(
+        error(b"\x80"),
         "1:1: expected text in UTF-8, found the byte 0x80"
     );
 }

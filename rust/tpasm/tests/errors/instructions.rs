@@ -1,14 +1,10 @@
 //! Instructions.
 
-use crate::{block, refused};
+use crate::{block, refused, refused_first};
 
 #[test]
 fn unknown() {
-    refused(
-        &block("goto main"),
-        "2:3: expected an instruction, or a label and ':', \
-         found 'goto', which names no register and no block",
-    );
+    refused(&block("goto main"), "2:3: no such instruction: 'goto'");
     refused(
         &block("main"),
         "2:3: expected an instruction, or a label and ':', found the label 'main'",
@@ -43,7 +39,7 @@ fn no_assignment() {
 #[test]
 fn no_operand() {
     let expected = "expected a register, a label or an integer";
-    refused(
+    refused_first(
         &block("jump"),
         &format!("2:7: {}, found the end of the line", expected),
     );

@@ -1,6 +1,6 @@
 //! Names of registers and blocks.
 
-use crate::{block, refused};
+use crate::{block, refused, refused_first};
 
 #[test]
 fn not_a_new_register_name() {
@@ -71,7 +71,7 @@ fn not_a_new_label() {
 
 #[test]
 fn unknown() {
-    refused(
+    refused_first(
         &block("jump nowhere"),
         "2:8: expected a register, a label or an integer, \
          found 'nowhere', which names no register and no block",

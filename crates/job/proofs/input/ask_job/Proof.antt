@@ -25,16 +25,34 @@ same-length : tie.Need-same-length
 same-length c = search needs
 
 returns-2 : tie.Need-returns-2
-returns-2 c = (refused-by-image (c .before .before .before .before .before .before .before .before .before .before .args .job .now) (sym (c .before .before .before .before .before .before .before .ask-length .ensures) ∙ c .before .before .before .before .before .before .if1 .left) (c .before .before .before .scan .result) (c .before .before .before .scan .ensures .0 ∙ ap imageNo (c .before .before .before .before .before .image-of .ensures)) (c .if2 .taken), λ e. absurd (c .if2 .taken e))
+returns-2 c =
+    let c3 = c .before .before .before in
+    let c5 = c3 .before .before in
+    let c6 = c5 .before in
+    let c7 = c6 .before in
+    let c10 = c7 .before .before .before in
+    (refused-by-image (c10 .args .job .now) (sym (c7 .ask-length .ensures) ∙ c6 .if1 .left) (c3 .scan .result) (c3 .scan .ensures .0 ∙ ap imageNo (c5 .image-of .ensures)) (c .if2 .taken), λ e. absurd (c .if2 .taken e))
 
 places-of-requires : tie.Need-places-of-requires
-places-of-requires c κs = (length-asked (c .before .before .before .before .before .before .before .before .before .before .args .job .now) (c .before .before .before .before .before .before .before .ask-length .result) (c .before .before .before .before .before .before .before .ask-length .ensures) (c .before .before .before .before .before .before .if1 .left))
+places-of-requires c κs =
+    let c6 = c .before .before .before .before .before .before in
+    let c7 = c6 .before in
+    let c10 = c7 .before .before .before in
+    (length-asked (c10 .args .job .now) (c7 .ask-length .result) (c7 .ask-length .ensures) (c6 .if1 .left))
 
 interval-of-requires : tie.Need-interval-of-requires
-interval-of-requires c κs = (length-asked (c .before .before .before .before .before .before .before .before .before .before .before .args .job .now) (c .before .before .before .before .before .before .before .before .ask-length .result) (c .before .before .before .before .before .before .before .before .ask-length .ensures) (c .before .before .before .before .before .before .before .if1 .left))
+interval-of-requires c κs =
+    let c7 = c .before .before .before .before .before .before .before in
+    let c8 = c7 .before in
+    let c11 = c8 .before .before .before in
+    (length-asked (c11 .args .job .now) (c8 .ask-length .result) (c8 .ask-length .ensures) (c7 .if1 .left))
 
 word-count-requires : tie.Need-word-count-requires
-word-count-requires c κs = (length-asked (c .before .before .before .before .before .before .before .before .before .before .before .before .args .job .now) (c .before .before .before .before .before .before .before .before .before .ask-length .result) (c .before .before .before .before .before .before .before .before .before .ask-length .ensures) (c .before .before .before .before .before .before .before .before .if1 .left))
+word-count-requires c κs =
+    let c8 = c .before .before .before .before .before .before .before .before in
+    let c9 = c8 .before in
+    let c12 = c9 .before .before .before in
+    (length-asked (c12 .args .job .now) (c9 .ask-length .result) (c9 .ask-length .ensures) (c8 .if1 .left))
 
 ask-settings-requires : tie.Need-ask-settings-requires
 ask-settings-requires c κs = search needs
@@ -44,10 +62,17 @@ same-length-2 c = search needs
 
 returns-3 : tie.Need-returns-3
 returns-3 c =
-    let passed = sym (c .before .before .before .before .before .before .before .scan .ensures .0 ∙ ap imageNo (c .before .before .before .before .before .before .before .before .before .image-of .ensures)) ∙ c .before .before .before .before .if2 .left in
-    let held = c .before .before .before .before .before .before .before .scan .ensures .1 (c .before .before .before .before .if2 .left) ∙ ap cellsIn (c .before .before .before .before .before .before .before .before .before .image-of .ensures) in
-    let program = ap programNo held ∙ read-program (jobImage (c .before .before .before .before .before .before .before .before .before .before .before .before .before .before .args .job .now)) passed in
-    (answered-by-start (c .before .before .before .before .before .before .before .before .before .before .before .before .before .before .args .job .now) (sym (c .before .before .before .before .before .before .before .before .before .before .before .ask-length .ensures) ∙ c .before .before .before .before .before .before .before .before .before .before .if1 .left) _ _ _ _ (c .ask-settings .result) passed held (c .before .before .before .places-of .ensures) (c .before .before .interval-of .ensures) (c .before .word-count .ensures .0) (c .ask-settings .ensures ∙ settings-left _ _ _ 16 _ program), λ e. held)
+    let c3 = c .before .before .before in
+    let c4 = c3 .before in
+    let c7 = c4 .before .before .before in
+    let c9 = c7 .before .before in
+    let c10 = c9 .before in
+    let c11 = c10 .before in
+    let c14 = c11 .before .before .before in
+    let passed = sym (c7 .scan .ensures .0 ∙ ap imageNo (c9 .image-of .ensures)) ∙ c4 .if2 .left in
+    let held = c7 .scan .ensures .1 (c4 .if2 .left) ∙ ap cellsIn (c9 .image-of .ensures) in
+    let program = ap programNo held ∙ read-program (jobImage (c14 .args .job .now)) passed in
+    (answered-by-start (c14 .args .job .now) (sym (c11 .ask-length .ensures) ∙ c10 .if1 .left) _ _ _ _ (c .ask-settings .result) passed held (c3 .places-of .ensures) (c .before .before .interval-of .ensures) (c .before .word-count .ensures .0) (c .ask-settings .ensures ∙ settings-left _ _ _ 16 _ program), λ e. held)
 
 pub ask-job-spec : {M : Type 1} → statement M
 ask-job-spec =

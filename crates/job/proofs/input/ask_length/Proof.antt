@@ -36,11 +36,17 @@ add-if3-2 c = search needs
 
 returns-3 : tie.Need-returns-3
 unfolding endsExactly
-returns-3 c = rw (le-leb _ _ (c .before .before .before .before .if1 .left), ← (c .before .before .before .read-u16 .ensures .equal), le-leb _ _ (c .before .before .if2 .left), ← (c .before .read-u162 .ensures .equal), ne-eqb _ _ (c .if3 .taken))
+returns-3 c =
+    let c3 = c .before .before .before in
+    let c4 = c3 .before in
+    rw (le-leb _ _ (c4 .if1 .left), ← (c3 .read-u16 .ensures .equal), le-leb _ _ (c .before .before .if2 .left), ← (c .before .read-u162 .ensures .equal), ne-eqb _ _ (c .if3 .taken))
 
 returns-4 : tie.Need-returns-4
 unfolding endsExactly
-returns-4 c = rw (le-leb _ _ (c .before .before .before .before .if1 .left), ← (c .before .before .before .read-u16 .ensures .equal), le-leb _ _ (c .before .before .if2 .left), ← (c .before .read-u162 .ensures .equal), eq-eqb _ _ (c .if3 .left))
+returns-4 c =
+    let c3 = c .before .before .before in
+    let c4 = c3 .before in
+    rw (le-leb _ _ (c4 .if1 .left), ← (c3 .read-u16 .ensures .equal), le-leb _ _ (c .before .before .if2 .left), ← (c .before .read-u162 .ensures .equal), eq-eqb _ _ (c .if3 .left))
 
 pub ask-length-spec : {M : Type 1} → statement M
 ask-length-spec =

@@ -25,7 +25,9 @@ part-result-end : tie.Need-part-result-end
 part-result-end c = let e = ends (c .before .before .args .job .now) (c .before .before .pre) in omega (arith, c .image-size .ensures .0)
 
 returns : tie.Need-returns
-returns c = let n : 2 + c .before .image-size .result - 2 ≡ imageSize (c .before .before .before .args .job .now) = omega (arith, c .before .image-size .ensures .0) in ap (λ (n : ℕ). take n (drop 2 (c .before .before .before .args .job .now))) n
+returns c =
+    let c3 = c .before .before .before in
+    let n : 2 + c .before .image-size .result - 2 ≡ imageSize (c3 .args .job .now) = omega (arith, c .before .image-size .ensures .0) in ap (λ (n : ℕ). take n (drop 2 (c3 .args .job .now))) n
 
 pub image-of-spec : {M : Type 1} → statement M
 image-of-spec =

@@ -15,13 +15,18 @@ add-at : tie.Need-add-at
 add-at c = search needs
 
 read-integers-requires : tie.Need-read-integers-requires
-read-integers-requires c κs = let e = ends (c .before .before .before .args .job .now) (c .before .before .before .pre .0) in omega (arith, c .before .image-size .ensures .0, c .before .before .before .pre .1)
+read-integers-requires c κs =
+    let c3 = c .before .before .before in
+    let e = ends (c3 .args .job .now) (c3 .pre .0) in omega (arith, c .before .image-size .ensures .0, c3 .pre .1)
 
 same-length : tie.Need-same-length
 same-length c = search needs
 
 returns : tie.Need-returns
-returns c = c .before .read-integers .ensures ∙ ap₂ (λ (a n : ℕ). integersIn (c .before .before .before .before .before .args .job .now) (5 + a) n) (c .before .before .before .image-size .ensures .0) (c .before .before .before .before .before .pre .1)
+returns c =
+    let c3 = c .before .before .before in
+    let c5 = c3 .before .before in
+    c .before .read-integers .ensures ∙ ap₂ (λ (a n : ℕ). integersIn (c5 .args .job .now) (5 + a) n) (c3 .image-size .ensures .0) (c5 .pre .1)
 
 pub read-registers-spec : {M : Type 1} → statement M
 read-registers-spec =

@@ -46,8 +46,9 @@ loop-less c = search needs
 
 loop-again : tie.Need-loop-again Inv-loop μ-loop
 loop-again c =
+    let c6 = c .before .before .before .before .before .before in
     let w = c .before .before in
-    let l = c .before .before .before .before .before .before in
+    let l = c6 in
     let a = l .before .before .args in
     (omega arith, w .write-register .kept .0 ∙ l .loop .inv .1, row-placed (λ (i : ℕ). inBytes (valueNumbers (getD (a .t3) i zeroRegister .value))) 24 (λ i. value-width (getD (a .t3) i zeroRegister .value)) (a .out .now) (l .loop .out) _ (a .at) (l .loop .i) (l .loop .inv .2) (w .write-register .ensures))
 

@@ -45,13 +45,19 @@ loop-less : tie.Need-loop-less Inv-loop μ-loop
 loop-less c = omega arith
 
 loop-again : tie.Need-loop-again Inv-loop μ-loop
-loop-again c = (omega arith, simp length-set (c .before .before .before .loop .inv .1), read-more (c .before .before .before .before .before .args .bytes .now) (c .before .before .before .before .before .args .at) (c .before .before .before .before .before .args .out .now) (c .before .before .before .loop .out) (c .before .before .before .loop .i) _ (c .before .before .before .loop .inv .2) (number-stored (c .number .result) (c .before .read-u64 .result) _ (c .number .ok) (c .number .ensures) (c .before .read-u64 .ensures .equal)))
+loop-again c =
+    let c3 = c .before .before .before in
+    let c3 = c3 in
+    let c5 = c3 .before .before in
+    (omega arith, simp length-set (c3 .loop .inv .1), read-more (c5 .args .bytes .now) (c5 .args .at) (c5 .args .out .now) (c3 .loop .out) (c3 .loop .i) _ (c3 .loop .inv .2) (number-stored (c .number .result) (c .before .read-u64 .result) _ (c .number .ok) (c .number .ensures) (c .before .read-u64 .ensures .equal)))
 
 same-length : tie.Need-same-length Inv-loop μ-loop
 same-length c = c .before .loop .inv .1
 
 returns : tie.Need-returns Inv-loop μ-loop
-returns c = c .before .loop .inv .2 ∙ ap (λ (n : ℕ). sets (c .before .before .before .args .out .now) 0 (integersIn (c .before .before .before .args .bytes .now) (c .before .before .before .args .at) n)) (omega arith) ∙ sets-whole (c .before .before .before .args .out .now) _ (length-integers (c .before .before .before .args .bytes .now) (c .before .before .before .args .at) _)
+returns c =
+    let c3 = c .before .before .before in
+    c .before .loop .inv .2 ∙ ap (λ (n : ℕ). sets (c3 .args .out .now) 0 (integersIn (c3 .args .bytes .now) (c3 .args .at) n)) (omega arith) ∙ sets-whole (c3 .args .out .now) _ (length-integers (c3 .args .bytes .now) (c3 .args .at) _)
 
 pub read-integers-spec : {M : Type 1} → statement M
 read-integers-spec =

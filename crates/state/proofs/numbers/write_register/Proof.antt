@@ -42,19 +42,29 @@ same-length : tie.Need-same-length
 same-length c = search needs
 
 returns : tie.Need-returns
-returns c = int-placed (c .before .before .before .before .before .before .before .before .before .args .r .value) _ (c .before .before .before .before .before .before .before .before .before .args .out .now) _ (c .before .before .before .before .before .before .before .before .before .args .at) (c .before .before .before .bits .result) (c .before .before .before .before .before .before .v .given .1) (search needs) (c .before .before .before .bits .ensures) (c .before .before .write-three .ensures)
+returns c =
+    let c3 = c .before .before .before in
+    let c6 = c3 .before .before .before in
+    let c9 = c6 .before .before .before in
+    int-placed (c9 .args .r .value) _ (c9 .args .out .now) _ (c9 .args .at) (c3 .bits .result) (c6 .v .given .1) (search needs) (c3 .bits .ensures) (c .before .before .write-three .ensures)
 
 same-length-2 : tie.Need-same-length-2
 same-length-2 c = search needs
 
 returns-2 : tie.Need-returns-2
-returns-2 c = c .before .before .write-three2 .ensures ∙ ap (λ (v : Value). sets (c .before .before .before .before .before .before .before .before .args .out .now) (c .before .before .before .before .before .before .before .before .args .at) (inBytes (valueNumbers v))) (sym (c .before .before .before .before .before .v2 .given .1))
+returns-2 c =
+    let c5 = c .before .before .before .before .before in
+    let c8 = c5 .before .before .before in
+    c .before .before .write-three2 .ensures ∙ ap (λ (v : Value). sets (c8 .args .out .now) (c8 .args .at) (inBytes (valueNumbers v))) (sym (c5 .v2 .given .1))
 
 same-length-3 : tie.Need-same-length-3
 same-length-3 c = search needs
 
 returns-3 : tie.Need-returns-3
-returns-3 c = c .before .before .write-three3 .ensures ∙ ap (λ (v : Value). sets (c .before .before .before .before .before .before .before .before .args .out .now) (c .before .before .before .before .before .before .before .before .args .at) (inBytes (valueNumbers v))) (sym (c .before .before .before .before .before .v3 .given .1))
+returns-3 c =
+    let c5 = c .before .before .before .before .before in
+    let c8 = c5 .before .before .before in
+    c .before .before .write-three3 .ensures ∙ ap (λ (v : Value). sets (c8 .args .out .now) (c8 .args .at) (inBytes (valueNumbers v))) (sym (c5 .v3 .given .1))
 
 pub write-register-spec : {M : Type 1} → statement M
 write-register-spec =

@@ -21,7 +21,11 @@ same-length : tie.Need-same-length
 same-length c = search needs
 
 returns : tie.Need-returns
-returns c = numbers-placed (c .before .before .before .before .before .before .before .before .before .args .out .now) _ _ (c .before .before .before .before .before .before .before .before .before .args .at) (c .before .before .before .before .before .before .before .before .before .args .at + 8) (c .before .before .before .before .before .before .before .before .before .args .a ∷ []) (c .before .before .before .before .before .before .before .before .before .args .b ∷ []) (c .before .before .before .before .before .before .write-u64 .ensures ∙ ap (λ (x : List ℕ). sets (c .before .before .before .before .before .before .before .before .before .args .out .now) (c .before .before .before .before .before .before .before .before .before .args .at) x) (one-number (c .before .before .before .before .before .before .before .before .before .args .a))) (c .before .before .write-u642 .ensures ∙ ap (λ (x : List ℕ). sets (c .before .before .before .before .before .before .write-u64 .last .0) (c .before .before .before .before .before .before .before .before .before .args .at + 8) x) (one-number (c .before .before .before .before .before .before .before .before .before .args .b))) refl
+returns c =
+    let c6 = c .before .before .before .before .before .before in
+    let c6 = c6 in
+    let c9 = c6 .before .before .before in
+    numbers-placed (c9 .args .out .now) _ _ (c9 .args .at) (c9 .args .at + 8) (c9 .args .a ∷ []) (c9 .args .b ∷ []) (c6 .write-u64 .ensures ∙ ap (λ (x : List ℕ). sets (c9 .args .out .now) (c9 .args .at) x) (one-number (c9 .args .a))) (c .before .before .write-u642 .ensures ∙ ap (λ (x : List ℕ). sets (c6 .write-u64 .last .0) (c9 .args .at + 8) x) (one-number (c9 .args .b))) refl
 
 pub write-two-spec : {M : Type 1} → statement M
 write-two-spec =

@@ -33,11 +33,18 @@ has-32-bits-requires-3 c κs = search needs
 
 returns-5 : tie.Need-returns-5
 unfolding isValue
-returns-5 c = rw (ne-eqb _ _ (c .before .before .before .before .before .if1 .left), ne-eqb _ _ (c .before .before .before .before .if2 .left), eq-eqb _ 2 (c .before .before .before .if4 .left), sym (c .before .before .has-32-bits2 .ensures) ∙ c .before .if5 .taken) (c .has-32-bits3 .ensures)
+returns-5 c =
+    let c3 = c .before .before .before in
+    let c4 = c3 .before in
+    let c5 = c4 .before in
+    rw (ne-eqb _ _ (c5 .if1 .left), ne-eqb _ _ (c4 .if2 .left), eq-eqb _ 2 (c3 .if4 .left), sym (c .before .before .has-32-bits2 .ensures) ∙ c .before .if5 .taken) (c .has-32-bits3 .ensures)
 
 returns-6 : tie.Need-returns-6
 unfolding isValue
-returns-6 c = rw (ne-eqb _ _ (c .before .before .before .before .if1 .left), ne-eqb _ _ (c .before .before .before .if2 .left), eq-eqb _ 2 (c .before .before .if4 .left), sym (c .before .has-32-bits2 .ensures) ∙ c .if5 .left)
+returns-6 c =
+    let c3 = c .before .before .before in
+    let c4 = c3 .before in
+    rw (ne-eqb _ _ (c4 .if1 .left), ne-eqb _ _ (c3 .if2 .left), eq-eqb _ 2 (c .before .before .if4 .left), sym (c .before .has-32-bits2 .ensures) ∙ c .if5 .left)
 
 pub is-value-spec : {M : Type 1} → statement M
 is-value-spec =

@@ -22,10 +22,15 @@ read-tasks-requires : tie.Need-read-tasks-requires
 read-tasks-requires c κs = let r = state-room (c .before .before .before .before .before .args .bytes .now) (c .before .before .before .before .before .pre) in (r .whole, r .tasks)
 
 cast-t7 : tie.Need-cast-t7
-cast-t7 c = omega (arith, state-room (c .before .before .before .before .before .before .args .bytes .now) (c .before .before .before .before .before .before .pre) .interval, c .before .before .before .read-u642 .ensures .equal)
+cast-t7 c =
+    let c3 = c .before .before .before in
+    let c6 = c3 .before .before .before in
+    omega (arith, state-room (c6 .args .bytes .now) (c6 .pre) .interval, c3 .read-u642 .ensures .equal)
 
 cast-t8 : tie.Need-cast-t8
-cast-t8 c = omega (arith, state-room (c .before .before .before .before .before .before .args .bytes .now) (c .before .before .before .before .before .before .pre) .work, c .before .before .read-u643 .ensures .equal)
+cast-t8 c =
+    let c6 = c .before .before .before .before .before .before in
+    omega (arith, state-room (c6 .args .bytes .now) (c6 .pre) .work, c .before .before .read-u643 .ensures .equal)
 
 returns : tie.Need-returns
 unfolding stateIn

@@ -53,7 +53,9 @@ add-read-forks : tie.Need-add-read-forks
 add-read-forks c = search needs
 
 read-forks-requires : tie.Need-read-forks-requires
-read-forks-requires c κs = (omega (arith, c .before .before .before .before .before .before .before .before .before .pre .0), task-room _ _ (c .before .before .before .before .before .before .before .before .before .pre .1) .forks)
+read-forks-requires c κs =
+    let c9 = c .before .before .before .before .before .before .before .before .before in
+    (omega (arith, c9 .pre .0), task-room _ _ (c9 .pre .1) .forks)
 
 cast-t13 : tie.Need-cast-t13
 cast-t13 c = omega (arith, task-room _ _ (c .before .before .before .before .before .before .before .before .before .before .pre .1) .pc, c .before .before .before .before .read-u644 .ensures .equal)
@@ -70,12 +72,18 @@ cast-t16 c = omega (arith, task-room _ _ (c .before .before .before .before .bef
 returns : tie.Need-returns
 unfolding taskIn
 returns c =
-    let status = c .before .before .before .before .before .before .status-of .ensures ∙ ap₂ statusOf (c .before .before .before .before .before .before .before .before .read-u64 .ensures .equal) (c .before .before .before .before .before .before .before .read-u642 .ensures .equal) in
+    let c3 = c .before .before .before in
+    let c4 = c3 .before in
+    let c5 = c4 .before in
+    let c6 = c5 .before in
+    let c7 = c6 .before in
+    let c8 = c7 .before in
+    let status = c6 .status-of .ensures ∙ ap₂ statusOf (c8 .read-u64 .ensures .equal) (c7 .read-u642 .ensures .equal) in
     rw (
       status,
-      c .before .before .before .before .before .read-u643 .ensures .equal,
-      c .before .before .before .before .read-u644 .ensures .equal,
-      c .before .before .before .read-u645 .ensures .equal,
+      c5 .read-u643 .ensures .equal,
+      c4 .read-u644 .ensures .equal,
+      c3 .read-u645 .ensures .equal,
       c .before .before .read-u646 .ensures .equal,
       c .before .read-u647 .ensures .equal,
       c .read-forks .ensures,

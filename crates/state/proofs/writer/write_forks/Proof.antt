@@ -52,13 +52,19 @@ loop-less : tie.Need-loop-less Inv-loop μ-loop
 loop-less c = omega arith
 
 loop-again : tie.Need-loop-again Inv-loop μ-loop
-loop-again c = (omega arith, c .before .before .write-two .kept .0 ∙ c .before .before .before .before .before .before .before .before .loop .inv .1, row-placed (λ (i : ℕ). inBytes (forkNumbers (getD (c .before .before .before .before .before .before .before .before .before .before .args .t3) i zeroFork))) 16 (λ i. length-inBytes _) _ (c .before .before .before .before .before .before .before .before .loop .out) _ (c .before .before .before .before .before .before .before .before .before .before .args .at) (c .before .before .before .before .before .before .before .before .loop .i) (c .before .before .before .before .before .before .before .before .loop .inv .2) (c .before .before .write-two .ensures))
+loop-again c =
+    let c8 = c .before .before .before .before .before .before .before .before in
+    let c8 = c8 in
+    let c10 = c8 .before .before in
+    (omega arith, c .before .before .write-two .kept .0 ∙ c8 .loop .inv .1, row-placed (λ (i : ℕ). inBytes (forkNumbers (getD (c10 .args .t3) i zeroFork))) 16 (λ i. length-inBytes _) _ (c8 .loop .out) _ (c10 .args .at) (c8 .loop .i) (c8 .loop .inv .2) (c .before .before .write-two .ensures))
 
 same-length : tie.Need-same-length Inv-loop μ-loop
 same-length c = c .before .loop .inv .1
 
 returns : tie.Need-returns Inv-loop μ-loop
-returns c = c .before .loop .inv .2 ∙ ap (λ (n : ℕ). sets (c .before .before .before .args .out .now) (c .before .before .before .args .at) (rows (λ (i : ℕ). inBytes (forkNumbers (getD (c .before .before .before .args .t3) i zeroFork))) n)) (omega arith)
+returns c =
+    let c3 = c .before .before .before in
+    c .before .loop .inv .2 ∙ ap (λ (n : ℕ). sets (c3 .args .out .now) (c3 .args .at) (rows (λ (i : ℕ). inBytes (forkNumbers (getD (c3 .args .t3) i zeroFork))) n)) (omega arith)
 
 pub write-forks-spec : {M : Type 1} → statement M
 write-forks-spec =

@@ -20,7 +20,10 @@ same-length : tie.Need-same-length
 same-length c = search needs
 
 returns : tie.Need-returns
-returns c = state-placed (c .before .before .before .before .before .before .before .before .before .before .before .args .m) (c .before .before .before .before .before .before .before .before .before .before .before .args .out .now) _ _ (c .before .before .before .before .before .before .before .before .before .before .before .pre) (c .before .before .before .before .before .before .write-three .ensures) (c .before .before .write-slots .ensures)
+returns c =
+    let c6 = c .before .before .before .before .before .before in
+    let c11 = c6 .before .before .before .before .before in
+    state-placed (c11 .args .m) (c11 .args .out .now) _ _ (c11 .pre) (c6 .write-three .ensures) (c .before .before .write-slots .ensures)
 
 pub write-state-spec : {M : Type 1} → statement M
 write-state-spec =

@@ -39,16 +39,31 @@ write-two-requires-2 : tie.Need-write-two-requires-2
 write-two-requires-2 c κs = search needs
 
 add-write-forks : tie.Need-add-write-forks
-add-write-forks c = omega (arith, c .before .before .before .before .before .before .before .before .before .before .before .before .before .before .before .before .before .before .before .before .before .pre, c .before .before .before .before .before .before .before .before .before .before .before .before .before .before .before .before .before .before .before .before .before .good .0)
+add-write-forks c =
+    let c21 = c .before .before .before .before .before .before .before .before .before .before .before .before .before .before .before .before .before .before .before .before .before in
+    omega (arith, c21 .pre, c21 .good .0)
 
 write-forks-requires : tie.Need-write-forks-requires
-write-forks-requires c κs = omega (arith, c .before .before .before .before .before .before .before .before .before .before .before .before .before .before .before .before .before .before .before .before .before .pre, c .before .before .before .before .before .before .before .before .before .before .before .before .before .before .before .write-three .kept .0, c .before .before .before .before .before .before .before .before .before .write-two .kept .0, c .before .before .before .write-two2 .kept .0)
+write-forks-requires c κs =
+    let c3 = c .before .before .before in
+    let c9 = c3 .before .before .before .before .before .before in
+    let c15 = c9 .before .before .before .before .before .before in
+    let c21 = c15 .before .before .before .before .before .before in
+    omega (arith, c21 .pre, c15 .write-three .kept .0, c9 .write-two .kept .0, c3 .write-two2 .kept .0)
 
 same-length : tie.Need-same-length
 same-length c = search needs
 
 returns : tie.Need-returns
-returns c = task-placed (c .before .before .before .before .before .before .before .before .before .before .before .before .before .before .before .before .before .before .before .before .before .before .before .before .args .t) (c .before .before .before .before .before .before .before .before .before .before .before .before .before .before .before .before .before .before .before .before .before .before .before .before .args .out .now) _ _ _ _ (c .before .before .before .before .before .before .before .before .before .before .before .before .before .before .before .before .before .before .before .before .before .before .before .before .args .at) (c .before .before .before .before .before .before .before .before .before .before .before .before .before .before .before .before .before .before .before .before .status-number .result) (c .before .before .before .before .before .before .before .before .before .before .before .before .before .before .before .before .before .before .before .fault-number .result) (c .before .before .before .before .before .before .before .before .before .before .before .before .before .before .before .before .before .before .before .before .status-number .ensures) (c .before .before .before .before .before .before .before .before .before .before .before .before .before .before .before .before .before .before .before .fault-number .ensures) (c .before .before .before .before .before .before .before .before .before .before .before .before .before .before .before .before .before .before .write-three .ensures) (c .before .before .before .before .before .before .before .before .before .before .before .before .write-two .ensures) (c .before .before .before .before .before .before .write-two2 .ensures) (c .before .before .write-forks .ensures)
+returns c =
+    let c6 = c .before .before .before .before .before .before in
+    let c6 = c6 in
+    let c12 = c6 .before .before .before .before .before .before in
+    let c18 = c12 .before .before .before .before .before .before in
+    let c19 = c18 .before in
+    let c20 = c19 .before in
+    let c24 = c20 .before .before .before .before in
+    task-placed (c24 .args .t) (c24 .args .out .now) _ _ _ _ (c24 .args .at) (c20 .status-number .result) (c19 .fault-number .result) (c20 .status-number .ensures) (c19 .fault-number .ensures) (c18 .write-three .ensures) (c12 .write-two .ensures) (c6 .write-two2 .ensures) (c .before .before .write-forks .ensures)
 
 pub write-task-spec : {M : Type 1} → statement M
 write-task-spec =

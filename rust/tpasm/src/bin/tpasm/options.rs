@@ -1,54 +1,38 @@
 //! The command line.
 
+use crate::files::Place;
 use std::ffi::OsString;
-use std::path::{Path, PathBuf};
-use tpasm::{Settings, INTERVALS, PLACES};
-
-pub const USAGE: &str = "\
-usage: tpasm image SOURCE [-o FILE]
-       tpasm job SOURCE [-o FILE] [--places N] [--interval N]
-                 [--set REGISTER=INTEGER].. [--words FILE]
-       tpasm list IMAGE [-o FILE]
-
-image  assembles SOURCE and writes its image
-job    assembles SOURCE and writes a job for the run program
-list   writes the source of an image
-
-A job's options replace the settings that stand in SOURCE. The FILE of --words
-has 64-bit words, little-endian. The file '-' is standard input or output;
-without -o, the result goes to standard output.
-";
+use tpasm::{nearest, Settings, INTERVALS, PLACES};
 
 #[derive(Clone, Copy, Debug, PartialEq, Eq)]
 pub enum Command {
     Image,
     Job,
     List,
+    Names,
 }
 
-/// A file, or standard input or output.
-#[derive(Clone, Debug, PartialEq, Eq)]
-pub enum Place {
-    Standard,
-    File(PathBuf),
-}
+use Command::{Image, Job, List, Names};
 
-impl Place {
-    fn of(argument: OsString) -> Self {
-        if argument == "-" {
-            Place::Standard
-        } else {
-            Place::File(argument.into())
-        }
-    }
+const COMMANDS: [(&str, Command); 4] = [
+    ("image", Image),
+    ("job", Job),
+    ("list", List),
+    ("names", Names),
+];
 
-    pub fn path(&self) -> Option<&Path> {
-        match self {
-            Place::Standard => None,
-            Place::File(path) => Some(path),
-        }
-    }
-}
+/// Each option, and the commands that have it.
+const OPTIONS: [(&str, &[Command]); 9] = [
+    ("-o", &[Image, Job, List, Names]),
+    ("--deny-warnings", &[Image, Job]),
+    ("--places", &[Job]),
+    ("--interval", &[Job]),
+    ("--set", &[Job]),
+    ("--words", &[Job]),
+    ("--offsets", &[List]),
+    ("-h", &[Image, Job, List, Names]),
+    ("--help", &[Image, Job, List, Names]),
+];
 
 /// What a job's options say.
 #[derive(Debug, Default)]
@@ -64,6 +48,8 @@ pub struct Options {
     pub command: Command,
     pub input: Place,
     pub output: Place,
+    pub deny_warnings: bool,
+    pub offsets: bool,
     pub changes: Changes,
 }
 
@@ -75,32 +61,30 @@ pub enum Request {
 
 /// The arguments after the program's name, or what is wrong with them.
 pub fn parse(mut arguments: impl Iterator<Item = OsString>) -> Result<Request, String> {
-    let first = arguments.next().ok_or("expected a command")?;
-    let command = match first.to_str() {
-        Some("image") => Command::Image,
-        Some("job") => Command::Job,
-        Some("list") => Command::List,
-        Some("-h" | "--help") => return Ok(Request::Help),
-        _ => {
-            let found = first.to_string_lossy();
-            return Err(format!("expected image, job or list, found '{}'", found));
-        }
-    };
+    let first = arguments
+        .next()
+        .ok_or("expected image, job, list or names")?;
+    if first == "-h" || first == "--help" {
+        return Ok(Request::Help);
+    }
     let mut reader = Reader {
-        command,
+        command: command(&first.to_string_lossy())?,
         arguments,
         input: None,
         output: Place::Standard,
+        deny_warnings: false,
+        offsets: false,
         changes: Changes::default(),
     };
     if reader.read_all()? {
         return Ok(Request::Help);
     }
-    let input = reader.input.ok_or("expected a file to read")?;
     let options = Options {
-        command,
-        input,
+        command: reader.command,
+        input: reader.input.ok_or("expected a file to read")?,
         output: reader.output,
+        deny_warnings: reader.deny_warnings,
+        offsets: reader.offsets,
         changes: reader.changes,
     };
     if options.input == Place::Standard && options.changes.words == Some(Place::Standard) {
@@ -109,11 +93,31 @@ pub fn parse(mut arguments: impl Iterator<Item = OsString>) -> Result<Request, S
     Ok(Request::Run(options))
 }
 
+fn command(word: &str) -> Result<Command, String> {
+    let known = COMMANDS.iter().find(|(name, _)| *name == word);
+    known.map(|(_, command)| *command).ok_or_else(|| {
+        let hint = did_you_mean(word, COMMANDS.iter().map(|(name, _)| *name));
+        format!(
+            "expected image, job, list or names, found '{}'{}",
+            word, hint
+        )
+    })
+}
+
+fn did_you_mean(word: &str, known: impl Iterator<Item = &'static str>) -> String {
+    match nearest(word, known) {
+        None => String::new(),
+        Some(near) => format!(": did you mean '{}'?", near),
+    }
+}
+
 struct Reader<I> {
     command: Command,
     arguments: I,
     input: Option<Place>,
     output: Place,
+    deny_warnings: bool,
+    offsets: bool,
     changes: Changes,
 }
 
@@ -122,15 +126,15 @@ impl<I: Iterator<Item = OsString>> Reader<I> {
     fn read_all(&mut self) -> Result<bool, String> {
         let mut only_files = false;
         while let Some(argument) = self.arguments.next() {
-            let text = argument.to_str().unwrap_or_default();
+            let text = argument.to_string_lossy();
             if only_files || text == "-" || !text.starts_with('-') {
                 self.set_input(argument)?;
                 continue;
             }
-            match text {
+            match &*text {
                 "--" => only_files = true,
                 "-h" | "--help" => return Ok(true),
-                _ => self.option(text)?,
+                _ => self.option(&text)?,
             }
         }
         Ok(false)
@@ -151,18 +155,39 @@ impl<I: Iterator<Item = OsString>> Reader<I> {
             Some((name, value)) if name.starts_with("--") => (name, Some(value.into())),
             _ => (text, None),
         };
-        let is_known = match name {
-            "-o" => true,
-            "--places" | "--interval" | "--set" | "--words" => self.command == Command::Job,
-            _ => false,
-        };
-        if !is_known {
-            return Err(format!("unknown option '{}'", name));
+        let known = OPTIONS.iter().find(|(option, _)| *option == name);
+        if !known.map_or(false, |(_, commands)| commands.contains(&self.command)) {
+            return Err(self.unknown(name));
+        }
+        if name == "--deny-warnings" || name == "--offsets" {
+            self.deny_warnings |= name == "--deny-warnings";
+            self.offsets |= name == "--offsets";
+            return match attached {
+                None => Ok(()),
+                Some(_) => Err(format!("{}: expected no value", name)),
+            };
         }
         let value = attached
             .or_else(|| self.arguments.next())
             .ok_or_else(|| format!("expected a value after {}", name))?;
         self.set_option(name, value)
+    }
+
+    /// An option of no command, or of others.
+    fn unknown(&self, name: &str) -> String {
+        let known = OPTIONS.iter().find(|(option, _)| *option == name);
+        let of_another = known.and_then(|(_, commands)| {
+            let has_it = |(_, command): &&(&str, Command)| commands.contains(command);
+            COMMANDS.iter().find(has_it)
+        });
+        let hint = match of_another {
+            Some((command, _)) => format!(": it is an option of 'tpasm {}'", command),
+            None => {
+                let own = |(_, commands): &&(_, &[Command])| commands.contains(&self.command);
+                did_you_mean(name, OPTIONS.iter().filter(own).map(|(option, _)| *option))
+            }
+        };
+        format!("unknown option '{}'{}", name, hint)
     }
 
     fn set_option(&mut self, name: &str, value: OsString) -> Result<(), String> {
@@ -178,10 +203,8 @@ impl<I: Iterator<Item = OsString>> Reader<I> {
             }
             "--set" => {
                 let set = register_value(&value);
-                let expected = "REGISTER=INTEGER";
-                changes
-                    .set
-                    .push(set.ok_or_else(|| wrong(name, expected, &value))?);
+                let set = set.ok_or_else(|| wrong(name, "REGISTER=INTEGER", &value))?;
+                changes.set.push(set);
             }
             "--words" => changes.words = Some(Place::of(value)),
             _ => self.output = Place::of(value),
