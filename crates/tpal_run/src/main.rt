@@ -2,6 +2,9 @@
 ghost use Prim.Native.Nat.{_+_, _≤_};
 ghost use lib.ListN.{length};
 
+// The most picks that a job is given.
+const BUDGET: u64 = 1_000_000;
+
 // What came of reading: so many bytes, or a read that failed.
 pub struct Input {
     pub failed: bool,
@@ -55,6 +58,7 @@ fn complain(message: &[u8]) {
 
 fn print(text: &[u8], n: usize) {
     if text.len() < n {
+        complain(b"tpal_run: the text is longer than its buffer\n");
         return;
     }
     if !io::write_all(1, &text[..n]) {
@@ -62,13 +66,14 @@ fn print(text: &[u8], n: usize) {
     }
 }
 
-// The first n bytes are the job. The budget is 1,000,000.
+// The first n bytes are the job.
 fn run(input: &[u8], n: usize) {
     if input.len() < n {
+        complain(b"tpal_run: the job is longer than its buffer\n");
         return;
     }
     let mut text = [0u8; 1024];
-    let written = job::tpal_job_text(&input[..n], 1000000, &mut text);
+    let written = job::tpal_job_text(&input[..n], BUDGET, &mut text);
     print(&text, written as usize);
 }
 
