@@ -4,13 +4,18 @@
 //! faster. Both get the same bytes, do the same work on them and run in turns in the same process,
 //! the model built for release. What the two come to is compared.
 //!
-//! | line | what is timed |
-//! | --- | --- |
-//! | `read` | the image check of the largest program: questions 1 to 9, on either side without making a program |
-//! | `write` | the rewrite of the same image: the check, the program, and its image in a lent buffer |
-//! | `pick` | one pick from the bytes of program, call record and state to the new state's, with all its questions |
-//! | `run-serial`, `run-figure2`, `run-forks`, `run-waits`, `run-rest` | a million picks and what is around them, from the job's bytes to the report: questions 10, 1 to 9 and start's own once, the run, and the report's bytes (on the model's side the report as a struct) |
-//! | `job`, `job-small` | a whole call from the job's bytes to the text in a lent buffer, which is not cleared: `job` with 256 instructions, words and picks, `job-small` with program F, nine picks |
+//! What is timed:
+//!
+//! - `read`: the image check of the largest program, questions 1 to 9. Neither side makes a program.
+//! - `write`: the rewrite of the same image: check, program, and its image in a lent buffer.
+//! - `pick`: one pick with all its questions, from the bytes of program, call record and state to the
+//!   new state's.
+//! - `run-serial`, `run-figure2`, `run-forks`, `run-waits`, `run-rest`: a whole run of a million picks,
+//!   from the job's bytes to the report. Both put question 10, the reader's and start's own once.
+//! - `job`, `job-small`: a whole call, from the job's bytes to the text in a lent buffer, with the same
+//!   questions: 256 instructions, words and picks; and program F, nine picks.
+//!
+//! No lent buffer is cleared between calls.
 //!
 //! Then comes the engine's run on a state's bytes beside its run of the same job's, and last how the
 //! time of a pick inside a run grows, with the number of picks and with P.
@@ -30,7 +35,6 @@ fn compare_images() {
     const ROUNDS: usize = 401;
     const CALLS: u32 = 40;
     let image = checks::generate::valid_image(1, 128, 1024);
-    // Neither makes a program.
     let check = calls_in_turns(
         ROUNDS,
         CALLS,
@@ -144,8 +148,7 @@ fn compare_runs(name: &str, what: &str, job: &[u8]) {
     );
 }
 
-/// Times whole calls from a job's bytes to its text, in a buffer that is lent on either side and not
-/// cleared between calls. Both put question 10, the reader's and start's own once.
+/// Times whole calls, from a job's bytes to its text in a lent buffer.
 fn compare_jobs(name: &str, what: &str, job: &[u8]) {
     const ROUNDS: usize = 201;
     const CALLS: u32 = 20;

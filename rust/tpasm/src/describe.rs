@@ -7,7 +7,7 @@ use crate::names::{looks_numbered, numbered};
 use crate::notation::{self, ANNOTATIONS, POLICIES, WORDS};
 use crate::settings::SETTING_WORDS;
 use crate::suggest::nearest;
-use crate::text::quoted;
+use crate::text::{cut, quoted};
 use crate::token::{Kind, Token};
 
 const SETTING: &str = "a setting (reg, places, interval, set or words) or a label and ':'";
@@ -124,7 +124,9 @@ impl<'a> Parser<'a> {
         match self.difference(name) {
             Some((left, right)) => format!(
                 "{} (for a difference write spaces: {} - {})",
-                shown, left, right
+                shown,
+                cut(left),
+                cut(right)
             ),
             None => format!("{}, which names no register and no block", shown),
         }

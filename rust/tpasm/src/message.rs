@@ -52,8 +52,7 @@ pub enum Severity {
     Warning,
 }
 
-/// An error or a warning: `LINE:COLUMN: TEXT`, and a hint beside it. [`show`](crate::show) prints it
-/// whole.
+/// An error or a warning: `LINE:COLUMN: TEXT`, and a hint beside it. `show` makes the whole text.
 #[derive(Clone, Debug, PartialEq, Eq)]
 pub struct Message {
     pub severity: Severity,

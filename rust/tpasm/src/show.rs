@@ -1,7 +1,7 @@
 //! Messages as they are printed: file and place, the line of the source, carets under the place.
 
 use crate::message::{Message, Span};
-use crate::text::{lines, without_mark};
+use crate::text::{lines, without_mark, CUT};
 use std::fmt::{self, Write};
 
 /// How many messages are shown; one line says that there are more.
@@ -11,7 +11,6 @@ pub const MAX_MESSAGES: usize = 20;
 const MAX_COLUMNS: usize = 100;
 
 const TAB: usize = 8;
-const CUT: &str = "...";
 const UNPRINTABLE: char = '\u{fffd}';
 
 /// The text of messages about the source of a file, the first twenty of them.

@@ -6,7 +6,8 @@ use std::{iter, str};
 /// Longer names are cut in messages, to this many characters.
 const MAX_SHOWN: usize = 60;
 
-const CUT: &str = "...";
+/// Stands for what is cut off.
+pub const CUT: &str = "...";
 
 /// The source without the byte order mark that some editors put before it.
 pub fn without_mark(source: &[u8]) -> &[u8] {
@@ -37,12 +38,13 @@ pub fn lines(text: &str) -> impl Iterator<Item = &str> {
     })
 }
 
-/// A name or mark in quotes: cut where it is long, and without characters that do not print.
+/// A name or mark in quotes: cut, and without characters that do not print.
 pub fn quoted(text: &str) -> String {
     format!("'{}'", cut(text).escape_debug())
 }
 
-fn cut(text: &str) -> Cow<'_, str> {
+/// A name, cut where it is long.
+pub fn cut(text: &str) -> Cow<'_, str> {
     match text.char_indices().nth(MAX_SHOWN) {
         None => text.into(),
         Some(_) => {

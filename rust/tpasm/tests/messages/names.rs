@@ -131,4 +131,14 @@ fn long_names_are_cut() {
         "^".repeat(70)
     );
     instruction_shows(&format!("fork {}, loop", long), &about);
+    let about = format!(
+        "12: error: expected a register, a label, an integer, 'word' or 'jralloc', \
+         found 'jr-{}...' (for a difference write spaces: jr - {}...)
+      |            {}
+",
+        "a".repeat(54),
+        "a".repeat(57),
+        "^".repeat(73)
+    );
+    instruction_shows(&format!("total := jr-{}", long), &about);
 }
