@@ -12,6 +12,8 @@
 # make soak        the long comparison of images: make soak IMAGES=.. SEED=..
 # make soak-jobs   the long comparison of jobs: make soak-jobs JOBS=.. SEED=..
 # make soak-steps  the long comparison of jobs pick by pick: make soak-steps JOBS=.. SEED=..
+# make soak-orders jobs on the model, every order against its plain evaluation: JOBS=.. SEED=..
+# make soak-replay jobs with orders of picks on both: make soak-replay JOBS=.. SEED=..
 # make install     tpal.h, libtpal.a, libtpal.so, tpal.pc, tpal_run and tpasm below PREFIX, /usr/local:
 #                    make install PREFIX=/opt/tpal DESTDIR=stage
 # make uninstall   removes them again, with the same PREFIX and DESTDIR
@@ -51,7 +53,7 @@ in_rust = --release --offline --manifest-path rust/Cargo.toml
 # rt's checks share target/: one at a time.
 .NOTPARALLEL:
 .DELETE_ON_ERROR:
-.PHONY: all run lib test rust-test c-test bench soak soak-jobs soak-steps install uninstall tools \
+.PHONY: all run lib test rust-test c-test bench soak soak-jobs soak-steps soak-orders soak-replay install uninstall tools \
         clean distclean help
 
 all: tools $(program) lib
@@ -84,6 +86,13 @@ soak-jobs: tools $(archive)
 soak-steps: JOBS = 100000
 soak-steps: tools $(archive)
 	cargo run $(in_rust) --bin soak_steps -- $(JOBS) $(SEED)
+
+soak-orders: tools $(archive)
+	cargo run $(in_rust) --bin soak_orders -- $(JOBS) $(SEED)
+
+soak-replay: JOBS = 100000
+soak-replay: tools $(archive)
+	cargo run $(in_rust) --bin soak_replay -- $(JOBS) $(SEED)
 
 tools:
 	@sh scripts/tools.sh gcc cargo
