@@ -25,9 +25,7 @@ pub fn assemble(source: &[u8]) -> Result<Assembly, Vec<Message>> {
     let (settings, has_strays) = parser.settings();
     let program = parser.program(has_strays);
     if !parser.errors.is_empty() {
-        let mut errors = parser.errors;
-        errors.sort_by_key(|error| error.span.position);
-        return Err(errors);
+        return Err(parser.errors);
     }
     let image = model::write(&program).expect("the parser has put the writer's questions");
     Ok(Assembly {

@@ -21,7 +21,7 @@ pub struct Parser<'a> {
     pub doubtful: HashSet<&'a str>,
     pub labels: Labels<'a>,
     pub notes: Notes,
-    /// Each error belongs to the statement being parsed or to one before it.
+    /// In order of place, since each is reported where parsing has come to.
     pub errors: Vec<Message>,
 }
 

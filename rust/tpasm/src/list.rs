@@ -33,10 +33,10 @@ pub fn list_file(bytes: &[u8], offsets: bool) -> Result<String, Refusal> {
     Ok(text(&lines, offsets))
 }
 
-/// The image's mark stands behind the image's length. An image has it at its start, so it is no job.
+/// The image's mark stands behind the image's length. An image has another letter there.
 fn is_job(bytes: &[u8]) -> bool {
-    let at = |offset: usize| bytes.get(offset..).unwrap_or_default();
-    !at(0).starts_with(&MARK) && at(IMAGE_AT).starts_with(&MARK)
+    let image = bytes.get(IMAGE_AT..).unwrap_or_default();
+    image.starts_with(&MARK)
 }
 
 fn image_lines(image: &[u8]) -> Result<Vec<Line>, Refusal> {

@@ -118,6 +118,14 @@ fn a_label_without_its_colon() {
       hint: a block begins with its label and ':', 'second:'
 ",
     );
+    shows(
+        "main: second\n",
+        "\
+x:1:7: error: no such instruction: 'second'
+    1 | main: second
+      |       ^^^^^^
+",
+    );
 }
 
 #[test]

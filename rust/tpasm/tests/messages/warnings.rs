@@ -1,6 +1,7 @@
 //! Warnings whole.
 
 use crate::{shown, shows};
+use tpasm::assemble;
 
 #[test]
 fn jralloc_of_what_is_no_join_target() {
@@ -57,6 +58,18 @@ x:5:1: warning: no other block names 'loop': it never runs
       | ^^^^
 ",
     );
+}
+
+#[test]
+fn in_order_of_place() {
+    let source =
+        "main: halt\nx:\n  r0 := r0 / 0\n  r1 := jralloc x\n  r0 := r0 % 0\n  halt\ny: halt\n";
+    let warnings = assemble(source.as_bytes()).unwrap().warnings;
+    let lines: Vec<usize> = warnings
+        .iter()
+        .map(|warning| warning.span.position.line)
+        .collect();
+    assert_eq!(lines, [2, 3, 4, 5, 7]);
 }
 
 #[test]
