@@ -14,6 +14,7 @@
 # make soak-steps  the long comparison of jobs pick by pick: make soak-steps JOBS=.. SEED=..
 # make soak-orders jobs on the model, every order against its plain evaluation: JOBS=.. SEED=..
 # make soak-replay jobs with orders of picks on both: make soak-replay JOBS=.. SEED=..
+# make limit       the work limit of 4,294,967,295 reached on the engine, about half a minute
 # make install     tpal.h, libtpal.a, libtpal.so, tpal.pc, tpal_run and tpasm below PREFIX, /usr/local:
 #                    make install PREFIX=/opt/tpal DESTDIR=stage
 # make uninstall   removes them again, with the same PREFIX and DESTDIR
@@ -53,7 +54,7 @@ in_rust = --release --offline --manifest-path rust/Cargo.toml
 # rt's checks share target/: one at a time.
 .NOTPARALLEL:
 .DELETE_ON_ERROR:
-.PHONY: all run lib test rust-test c-test bench soak soak-jobs soak-steps soak-orders soak-replay install uninstall tools \
+.PHONY: all run lib test rust-test c-test bench soak soak-jobs soak-steps soak-orders soak-replay limit install uninstall tools \
         clean distclean help
 
 all: tools $(program) lib
@@ -93,6 +94,9 @@ soak-orders: tools $(archive)
 soak-replay: JOBS = 100000
 soak-replay: tools $(archive)
 	cargo run $(in_rust) --bin soak_replay -- $(JOBS) $(SEED)
+
+limit: tools $(archive)
+	cargo run $(in_rust) --bin limit
 
 tools:
 	@sh scripts/tools.sh gcc cargo

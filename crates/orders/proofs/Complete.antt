@@ -20,7 +20,7 @@ use Rattle.machine.proofs.Models.{formsOf, laws-hold}
 use Rattle.machine.proofs.Quiet.{fits-ended}
 use Rattle.machine.proofs.PickLaws.{picked-work}
 use Rattle.machine.proofs.StartLaws.{fresh-shows, fresh-fits}
-use Rattle.orders.specs.Demand.{Job, startOn, played, carriedOut, Agrees}
+use Rattle.orders.specs.Demand.{Job, startOn, playedOf, played, carriedOut, Agrees}
 use Rattle.orders.specs.Complete.{Complete, SameOutcome, CompleteOrdersAgree, SomeOrderCompletes}
 use Rattle.orders.proofs.Plays.{modelOfJob, FitsJob, freshJob, JobAccepted, job-accepted, started-job, played-on, play-fits, played-is, carriedOut-is}
 use Rattle.orders.proofs.Demand.{demand-3}
@@ -29,7 +29,7 @@ use Rattle.orders.proofs.Demand.{demand-3}
 
 played-one-more : (j : Job) (ks : List ℕ) (m : Machine) (k : ℕ)
     → played j m (ks ++ (k ∷ [])) ≡ picked (j .cells) (j .words) (played j m ks) k
-unfolding played
+unfolding playedOf
 played-one-more j ks m k = played-on j ks (k ∷ []) m
 
 -- a task is picked as long as work is left: r more picks

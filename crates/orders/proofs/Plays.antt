@@ -12,7 +12,7 @@ use Rattle.machine.proofs.Models.{modelOf}
 use Rattle.machine.proofs.ShapeLaws.{Fits, pick-fits}
 use Rattle.machine.proofs.PickLaws.{pick-test, picked-is}
 use Rattle.machine.proofs.StartLaws.{StartAccepted, start-accepted, started-fresh}
-use Rattle.orders.specs.Demand.{Job, Accepted, startOn, played, carriedOut}
+use Rattle.orders.specs.Demand.{Job, Accepted, startOn, playedOf, played, carriedOutOf, carriedOut}
 
 abbrev pub modelOfJob : Job → Model Frame Machine
 modelOfJob j = modelOf (j .cells) (j .words) (j .interval) (j .places)
@@ -39,7 +39,7 @@ started-job j e m = started-fresh m (j .cells) (j .places) (j .interval) (j .reg
 
 -- two orders, one after the other
 pub played-on : (j : Job) (ks ls : List ℕ) (m : Machine) → played j m (ks ++ ls) ≡ played j (played j m ks) ls
-unfolding played
+unfolding playedOf
 played-on j [] ls m = refl
 played-on j (k ∷ ks) ls m = played-on j ks ls (picked (j .cells) (j .words) m k)
 
@@ -59,13 +59,13 @@ module _ {j : Job} (start : JobAccepted j) where
   play-fits (k ∷ ks) m x = play-fits ks (pick M m k) (next-fits m k x)
 
   pub played-is : (ks : List ℕ) (m : Machine) → FitsJob j m → played j m ks ≡ play (modelOfJob j) m ks
-  unfolding played play
+  unfolding playedOf play
   played-is [] m x = refl
   played-is (k ∷ ks) m x = ap (λ n. played j n ks) (next-is m k x) ∙ played-is ks (pick M m k) (next-fits m k x)
 
   pub carriedOut-is : (count : ℕ → ℕ) (ks : List ℕ) (m : Machine) → FitsJob j m
       → carriedOut j count m ks ≡ model.carriedOut (modelOfJob j) count m ks
-  unfolding carriedOut model.carriedOut
+  unfolding carriedOutOf model.carriedOut
   carriedOut-is count [] m x = refl
   carriedOut-is count (k ∷ ks) m x =
       ap (λ b. ifPicked b (count k) + carriedOut j count (picked (j .cells) (j .words) m k) ks) (pick-test (start .allowed) (start .lent) m k x)

@@ -21,7 +21,7 @@ use Rattle.machine.proofs.PickLaws.{Lent, picked-issued, picked-work}
 use Rattle.machine.proofs.Searching.{next-runs}
 use Rattle.machine.proofs.Passing.{picks-next, rests}
 use Rattle.machine.proofs.Picked.{state-passes}
-use Rattle.orders.specs.Demand.{Job, Accepted, startOn, played, carriedOut}
+use Rattle.orders.specs.Demand.{Job, Accepted, startOn, playedOf, played, carriedOutOf, carriedOut}
 use Rattle.orders.specs.Shapes.{Meets, ShapeEnsures}
 use Rattle.orders.specs.Runs.{Untouched, IsOrder, RunIsOrder, EveryRun}
 use Rattle.orders.proofs.Plays.{job-accepted, played-on}
@@ -61,7 +61,7 @@ module _ (j : Job) (program : programNo (j .cells) ≡ 0) (lent : Lent (j .cells
 
   -- it picks no more
   stays : (b : ℕ) (r : Run) → Meets cells (r .machine) → (jobEnded (r .machine) ≡ false → (0 ≡ b) ⊎ (workLimit ≤ r .machine .work)) → Ordered b r r
-  unfolding played carriedOut
+  unfolding playedOf carriedOutOf
   stays b r x why = record {
     order = [];
     leads-here = refl;
@@ -85,7 +85,7 @@ module _ (j : Job) (program : programNo (j .cells) ≡ 0) (lent : Lent (j .cells
   -- one pick, and then the others
   picks-first : (b k : ℕ) (r e : Run) → r .machine .work < workLimit → pickNo cells words (r .machine) k ≡ 0
       → Ordered b (pickedAt cells words k r) e → Ordered (suc b) r e
-  unfolding played carriedOut
+  unfolding playedOf carriedOutOf
   picks-first b k r e room accepts rest =
       let m = r .machine in
       let same : picked cells words m k ≡ issued cells words m k = picked-issued cells words m k accepts in

@@ -13,7 +13,7 @@ use Rattle.machine.specs.declared.Machine.{Machine}
 use Rattle.machine.specs.Ending.{jobEnded}
 use Rattle.machine.specs.Picking.{workLimit}
 use Rattle.machine.specs.Running.{Run}
-use Rattle.orders.specs.Demand.{Job, Accepted, startOn, played, carriedOut, evaluation, Ends, Agrees}
+use Rattle.orders.specs.Demand.{Job, Accepted, startOn, playedOf, played, carriedOutOf, evaluation, Ends, Agrees}
 use Rattle.orders.specs.Runs.{IsOrder, run, EndsAlike, SameEnd}
 use Rattle.orders.proofs.Plays.{played-on}
 use Rattle.orders.proofs.Demand.{demand-3}
@@ -95,7 +95,7 @@ module _ (j : Job) (accepted : Accepted j) (m : Machine) where
   -- ---- both ways to spend a budget
 
   start-work : startOn j m .work ≡ 0
-  unfolding played carriedOut
+  unfolding playedOf carriedOutOf
   start-work = demand-3 j accepted m [] .work-counted
 
   in-one : {c : ℕ} {r : Run} → IsOrder j (startOn j m) c r → Spends c (r .machine)
@@ -145,7 +145,7 @@ module _ (j : Job) (accepted : Accepted j) (m : Machine) where
   after-order ks b = run-is-order j (played j (startOn j m) ks) (every-order-meets j accepted m ks .sized) (order-passes j accepted m ks) 0 b
 
   from-start : (b : ℕ) → IsOrder j (startOn j m) b (run j (startOn j m) b)
-  unfolding played
+  unfolding playedOf
   from-start b = after-order [] b
 
 pub same-end : SameEnd

@@ -1,5 +1,5 @@
--- Demand 3: whatever the order of picks, a job agrees with its plain evaluation. It speaks of whole orders, and of start and pick as
--- `machine` defines them. `proofs/Demand.antt` proves it.
+-- Demand 3: whatever the order of picks, a job agrees with its plain evaluation. It speaks of whole orders, and of any start and pick.
+-- Ours, as `machine` defines them, are one instance: `proofs/Demand.antt` proves it of them, and `teeth` that it is false of wrong ones.
 -- What it rests on, in reading order: agreement's Plain (the evaluation) and Slots (what an instruction does to the slots), task's Frames,
 -- Values and Step (an instruction, a join), machine's Slots, Ending, Starting and Picking. The shape test that a pick makes (machine's Shape)
 -- refuses no pick of an order: Shapes.antt.
@@ -28,36 +28,48 @@ pub record Job : Type 0 where
   pub registers : List ℤ
   pub words : List ℤ
 
-module _ (j : Job) where
+-- what start and pick answer, 0 or the number of a refusal, and the states that they hand back
+pub record Engine : Type 0 where
+  -- given a program, P, the interval, start registers and a call record; called on a state
+  pub startNo : List ℕ → ℕ → ℕ → List ℤ → List ℤ → ℕ
+  pub started : Machine → List ℕ → ℕ → ℕ → List ℤ → List ℤ → Machine
+  -- given a program and a call record; called on a state, with a slot
+  pub pickNo : List ℕ → List ℤ → Machine → ℕ → ℕ
+  pub picked : List ℕ → List ℤ → Machine → ℕ → Machine
+
+module _ (engine : Engine) (j : Job) where
   open Job j using (cells, places, interval, registers, words)
 
   -- start does not refuse it
-  abbrev pub Accepted : Type 0
-  Accepted = startNo cells places interval registers words ≡ 0
+  abbrev pub AcceptedOf : Type 0
+  AcceptedOf = engine .startNo cells places interval registers words ≡ 0
 
   -- the state that start hands back, called on the state m
-  abbrev pub startOn : Machine → Machine
-  startOn m = started m cells places interval registers words
+  abbrev pub startOf : Machine → Machine
+  startOf m = engine .started m cells places interval registers words
 
   -- ---- Orders. All picks get start's program and call record
 
   -- a list of picks of any slots, refused ones included: each gets the state that the one before handed back
-  unfoldable pub played : Machine → List ℕ → Machine
-  played m [] = m
-  played m (k ∷ ks) = played (picked cells words m k) ks
+  unfoldable pub playedOf : Machine → List ℕ → Machine
+  playedOf m [] = m
+  playedOf m (k ∷ ks) = playedOf (engine .picked cells words m k) ks
 
   -- a pick is carried out when it isn't refused
   abbrev pub isCarriedOut : Machine → ℕ → Bool
-  isCarriedOut m k = eqb (pickNo cells words m k) 0
+  isCarriedOut m k = eqb (engine .pickNo cells words m k) 0
 
   -- the picks of an order that are carried out, each counted as much as `count` says of its slot
-  unfoldable pub carriedOut : (ℕ → ℕ) → Machine → List ℕ → ℕ
-  carriedOut count m [] = 0
-  carriedOut count m (k ∷ ks) = ifPicked (isCarriedOut m k) (count k) + carriedOut count (picked cells words m k) ks
+  unfoldable pub carriedOutOf : (ℕ → ℕ) → Machine → List ℕ → ℕ
+  carriedOutOf count m [] = 0
+  carriedOutOf count m (k ∷ ks) = ifPicked (isCarriedOut m k) (count k) + carriedOutOf count (engine .picked cells words m k) ks
 
   -- a task can be picked
-  abbrev pub Pickable : Machine → Type 0
-  Pickable m = (k : ℕ) × (pickNo cells words m k ≡ 0)
+  abbrev pub PickableOf : Machine → Type 0
+  PickableOf m = (k : ℕ) × (engine .pickNo cells words m k ≡ 0)
+
+module _ (j : Job) where
+  open Job j using (cells, places, interval, registers, words)
 
   -- ---- The plain evaluation. It is fed the job, and knows no picks or slots
 
@@ -84,29 +96,61 @@ pub record SameResult (m : Machine) (e : Frame) (W : ℕ) : Type 0 where
   pub same-task : at m 0 ≡ e
 
 -- where the evaluation ends with e and W
-pub record Agrees (j : Job) (m : Machine) (e : Frame) (W : ℕ) : Type 0 where
+pub record AgreesOf (engine : Engine) (j : Job) (m : Machine) (e : Frame) (W : ℕ) : Type 0 where
   pub work-never-above : m .work ≤ W
   pub ended-when-equal : m .work ≡ W → jobEnded m ≡ true
   pub equal-when-ended : jobEnded m ≡ true → m .work ≡ W
   pub then-same-result : jobEnded m ≡ true → SameResult m e W
-  pub before-that-pickable : m .work < W → Pickable j m
+  pub before-that-pickable : m .work < W → PickableOf engine j m
 
 -- where it doesn't end within the limit
-pub record Unending (j : Job) (m : Machine) : Type 0 where
+pub record UnendingOf (engine : Engine) (j : Job) (m : Machine) : Type 0 where
   pub never-ended : jobEnded m ≡ false
-  pub below-limit-pickable : m .work < workLimit → Pickable j m
+  pub below-limit-pickable : m .work < workLimit → PickableOf engine j m
 
 -- ---- The demand
 
 -- of the order ks from the state m₀ that start handed back
-pub record WhateverTheOrder (j : Job) (m₀ : Machine) (ks : List ℕ) : Type 0 where
-  pub work-counted : played j m₀ ks .work ≡ carriedOut j once m₀ ks
-  pub where-it-ends : (e : Frame) (W : ℕ) → Ends j e W → Agrees j (played j m₀ ks) e W
-  pub where-it-does-not-end : ((e : Frame) (W : ℕ) → Ends j e W → ⊥) → Unending j (played j m₀ ks)
+pub record WhateverTheOrderOf (engine : Engine) (j : Job) (m₀ : Machine) (ks : List ℕ) : Type 0 where
+  pub work-counted : playedOf engine j m₀ ks .work ≡ carriedOutOf engine j once m₀ ks
+  pub where-it-ends : (e : Frame) (W : ℕ) → Ends j e W → AgreesOf engine j (playedOf engine j m₀ ks) e W
+  pub where-it-does-not-end : ((e : Frame) (W : ℕ) → Ends j e W → ⊥) → UnendingOf engine j (playedOf engine j m₀ ks)
 
 -- for every job that start does not refuse, whatever state it was called on, and for every list of numbers as slots
+abbrev pub Demand3Of : Engine → Type 0
+Demand3Of engine = (j : Job) → AcceptedOf engine j → (m : Machine) (ks : List ℕ) → WhateverTheOrderOf engine j (startOf engine j m) ks
+
+-- ---- Of our start and pick
+
+abbrev pub ours : Engine
+ours = record { startNo = startNo; started = started; pickNo = pickNo; picked = picked }
+
+abbrev pub Accepted : Job → Type 0
+Accepted j = AcceptedOf ours j
+
+abbrev pub startOn : Job → Machine → Machine
+startOn j m = startOf ours j m
+
+abbrev pub played : Job → Machine → List ℕ → Machine
+played j m ks = playedOf ours j m ks
+
+abbrev pub carriedOut : Job → (ℕ → ℕ) → Machine → List ℕ → ℕ
+carriedOut j count m ks = carriedOutOf ours j count m ks
+
+abbrev pub Pickable : Job → Machine → Type 0
+Pickable j m = PickableOf ours j m
+
+abbrev pub Agrees : Job → Machine → Frame → ℕ → Type 0
+Agrees j m e W = AgreesOf ours j m e W
+
+abbrev pub Unending : Job → Machine → Type 0
+Unending j m = UnendingOf ours j m
+
+abbrev pub WhateverTheOrder : Job → Machine → List ℕ → Type 0
+WhateverTheOrder j m₀ ks = WhateverTheOrderOf ours j m₀ ks
+
 abbrev pub Demand3 : Type 0
-Demand3 = (j : Job) → Accepted j → (m : Machine) (ks : List ℕ) → WhateverTheOrder j (startOn j m) ks
+Demand3 = Demand3Of ours
 
 -- an evaluation with any fuel that ends within the limit is the one that counts
 abbrev pub AnyFuel : Type 0

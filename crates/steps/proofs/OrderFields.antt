@@ -11,7 +11,7 @@ use Rattle.machine.specs.Slots.{at}
 use Rattle.machine.specs.Starting.{startNo, fresh, started}
 use Rattle.machine.specs.Picking.{picked}
 use Rattle.machine.proofs.StartLaws.{start-accepted, started-fresh, fresh-work, fresh-first, fresh-others, fresh-fits}
-use Rattle.orders.specs.Demand.{Job, Accepted, startOn, played}
+use Rattle.orders.specs.Demand.{Job, Accepted, startOn, playedOf, played}
 use Rattle.state.specs.Numbers.{integersIn}
 use Rattle.state.specs.Fields.{InFields}
 use Rattle.steps.specs.Fields.{IntegersInField}
@@ -46,7 +46,7 @@ fresh-in-fields m cells places interval registers words e fit =
 
 -- from any state
 pub played-in-fields : (j : Job) → IntegersInField (j .words) → (ks : List ℕ) (m : Machine) → InFields m → InFields (played j m ks)
-unfolding played
+unfolding playedOf
 played-in-fields j fit [] m x = x
 played-in-fields j fit (k ∷ ks) m x =
     played-in-fields j fit ks (picked (j .cells) (j .words) m k) (picked-in-fields (j .cells) (j .words) m k fit x)

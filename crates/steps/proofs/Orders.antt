@@ -12,7 +12,7 @@ use Rattle.image.specs.Doors.{unlessRefused}
 use Rattle.machine.specs.declared.Machine.{Machine}
 use Rattle.machine.specs.Starting.{empty}
 use Rattle.machine.specs.Picking.{pickNo, picked}
-use Rattle.orders.specs.Demand.{startOn, played}
+use Rattle.orders.specs.Demand.{startOn, playedOf, played}
 use Rattle.orders.proofs.Demand.{demand-3}
 use Rattle.state.specs.State.{stateLength, stateBytes}
 use Rattle.state.specs.Reading.{standsState, stateIn}
@@ -55,7 +55,7 @@ module _ (program words : List ℕ) (whole : length program ≡ programBytes) (e
 
 module _ (l : Lent) (whole : length (l .program) ≡ programBytes) (even : length (l .words) ≡ 8 * wholes (l .words)) (few : wholes (l .words) ≤ 4096) where
   pub picks-bytes : (ks : List ℕ) (m : Machine) → InFields m → afterPicks l (stateBytes m) ks ≡ stateBytes (played (jobLent l) m ks)
-  unfolding afterPicks played
+  unfolding afterPicks playedOf
   picks-bytes [] m fields = refl
   picks-bytes (k ∷ ks) m fields =
       ap (λ (state : List ℕ). afterPicks l state ks) (same-bytes (l .program) (l .words) whole even few m fields k)

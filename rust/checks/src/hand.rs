@@ -1,11 +1,12 @@
 //! Jobs of document 01's 'Tried by hand'.
 
 use crate::assemble::{
-    fork, halt, join, jralloc, jump, op, word, Annotation, Assembly, JobInput, Operand,
+    fork, halt, if_jump, join, jralloc, jump, mov, op, word, Annotation, Assembly, JobInput,
+    Operand,
 };
 use crate::layout::{pair, program_f, InstructionRecord};
 use crate::product::{product, A, B};
-use model::opcode::{ADD, DIVIDE};
+use model::opcode::{ADD, DIVIDE, SUBTRACT};
 use Operand::{Int, Lab, Reg};
 
 /// Program F with r0 4.
@@ -93,4 +94,20 @@ pub fn long(image_len: usize) -> Vec<u8> {
     let mut input = JobInput::new(vec![0; image_len], 1, 0);
     input.words = vec![0; 65_535];
     input.bytes()
+}
+
+/// A job that ends by halt after exactly so many picks, 5 or more.
+pub fn of_picks(picks: u64) -> JobInput {
+    const ROUND: u64 = 3;
+    // The last look at r0, and the halt.
+    const END: u64 = 2;
+    let mut count_down = Assembly::default();
+    let round = [if_jump(0, Lab(1)), op(SUBTRACT, 0, 0, Int(1)), jump(Lab(0))];
+    count_down.block(Annotation::None, &round);
+    let rest = (picks - END) % ROUND;
+    let mut end = vec![mov(1, Int(0)); rest as usize];
+    end.push(halt());
+    count_down.block(Annotation::None, &end);
+    let rounds = (picks - END) / ROUND;
+    JobInput::new(count_down.image(), 1, 0).with_register(0, rounds as i64)
 }

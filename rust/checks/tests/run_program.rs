@@ -1,13 +1,10 @@
 //! The run program, `target/bin/tpal_run`, on inputs with stored outputs, with the engine's job text
 //! and the model beside it.
 
-use checks::assemble::{halt, if_jump, jump, mov, op, Annotation, Assembly, JobInput, Operand};
-use checks::hand::{by_zero, endless, f, f_with, figure_2, long, outside, refused};
+use checks::hand::{by_zero, endless, f, f_with, figure_2, long, of_picks, outside, refused};
 use checks::run_program::{at_the_root, printed, printed_for, program, report};
-use model::opcode::SUBTRACT;
 use std::fs::{self, File, OpenOptions};
 use std::process::{Command, Stdio};
-use Operand::{Int, Lab};
 
 fn stored(name: &str) -> String {
     let path = at_the_root("rust/checks/tests/data").join(name);
@@ -29,22 +26,6 @@ fn jobs_with_stored_outputs() {
     for (name, input) in jobs {
         assert_eq!(report(&input.bytes()), stored(name), "{}", name);
     }
-}
-
-/// A job that ends by halt after exactly so many picks, 5 or more.
-fn of_picks(picks: u64) -> JobInput {
-    const ROUND: u64 = 3;
-    // The last look at r0, and the halt.
-    const END: u64 = 2;
-    let mut count_down = Assembly::default();
-    let round = [if_jump(0, Lab(1)), op(SUBTRACT, 0, 0, Int(1)), jump(Lab(0))];
-    count_down.block(Annotation::None, &round);
-    let rest = (picks - END) % ROUND;
-    let mut end = vec![mov(1, Int(0)); rest as usize];
-    end.push(halt());
-    count_down.block(Annotation::None, &end);
-    let rounds = (picks - END) / ROUND;
-    JobInput::new(count_down.image(), 1, 0).with_register(0, rounds as i64)
 }
 
 /// Document 01's number. A job that ends on the last of these picks has ended; one that needs a pick
