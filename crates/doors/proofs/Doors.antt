@@ -1,0 +1,118 @@
+-- Every row of the table is right: antt computes the test of each, and the test is enough.
+use mathlib.Core.Path.{_≡_, refl}
+use mathlib.Core.Bool.{Bool, true}
+use mathlib.Core.List.{List, [], _∷_, _++_}
+use Rattle.int64.specs.Little.{little, bytesOf}
+use Rattle.image.specs.Layout.{rows, buffer, cellsIn}
+use Rattle.image.specs.Questions.{orElse, firstNo, countsNo, rising, unjoined, joined, annotated, blockNo}
+use Rattle.image.specs.Questions.{register, operandFits, laidOut, startsAt, lastInBlock, instructionNo, recordsNo, programNo}
+use Rattle.image.specs.Doors.{markIn, headerNo, imageNo, readNo, rewriteNo, writeNo, unlessRefused}
+use Rattle.agreement.specs.Facts.{both-true}
+use Rattle.agreement.specs.Slots.{settle, carry}
+use Rattle.agreement.specs.Shape.{hollow, tiles}
+use Rattle.task.specs.Step.{operand, asked, promotes, belong, fits, step, copied, join}
+use Rattle.task.specs.Formed.{every as everySlot, isTarget, formed, isVacant}
+use Rattle.codes.specs.Stretches.{reads}
+use Rattle.machine.specs.Starting.{rank, startNoBy, fresh}
+use Rattle.machine.specs.Shape.{shape}
+use Rattle.machine.specs.Picking.{slotNo, stateNoBy}
+use Rattle.machine.specs.Running.{firstRunning, nextPick, runs, outcome}
+use Rattle.state.specs.Numbers.{integersIn, inBytes}
+use Rattle.state.specs.Reading.{table}
+use Rattle.report.specs.Words.{digits}
+use Rattle.report.specs.Text.{registerLine, registerLines, textOf}
+use Rattle.steps.specs.Buffers.{cellsOf}
+use Rattle.steps.specs.Calls as steps
+use Rattle.job.specs.Job.{endsExactly, jobNo}
+use Rattle.job.specs.Replay.{replayNo}
+use Rattle.job.specs.Run.{runNo, textIn}
+use Rattle.cases.specs.ProgramF.{imageF}
+use Rattle.cases.specs.Assembly.{assembled}
+use Rattle.cases.proofs.Test.{every}
+use Rattle.cases.proofs.Enough.{every-at}
+use Rattle.doors.specs.Fields.{fields}
+use Rattle.doors.specs.Images.{headers, records, someRecords, imageRows}
+use Rattle.doors.specs.Programs.{programF, onlyHalt, buffers, writes, programRows}
+use Rattle.doors.specs.Starts.{startRows}
+use Rattle.doors.specs.Picks.{lentRows, shapeRows, slotRows, runRows, pickRows}
+use Rattle.doors.specs.Jobs.{jobF, ownRows, jobRows}
+use Rattle.doors.specs.Bytes.{short, shortBuffers, lentBytes, byteRows}
+use Rattle.doors.specs.Faults.{goingOn, ending, operations, others, faultRows}
+use Rattle.doors.specs.Texts.{textRows}
+use Rattle.doors.specs.Table.{doors, EveryDoor}
+use Rattle.doors.proofs.Test.{passes, right}
+
+-- ---- Computed, door by door
+
+images-pass : every passes imageRows ≡ true
+unfolding imageRows headers records fields someRecords imageF
+    orElse firstNo countsNo rising unjoined joined annotated blockNo register operandFits laidOut startsAt lastInBlock instructionNo
+    recordsNo little rows buffer cellsIn markIn headerNo imageNo readNo rewriteNo steps.readNo
+images-pass = refl
+
+programs-pass : every passes programRows ≡ true
+unfolding programRows buffers someRecords writes programF onlyHalt imageF
+    orElse firstNo countsNo rising unjoined joined annotated blockNo register operandFits laidOut startsAt lastInBlock instructionNo
+    recordsNo little rows buffer cellsIn programNo writeNo startNoBy rank stateNoBy outcome
+programs-pass = refl
+
+starts-pass : every passes startRows ≡ true
+unfolding startRows programF imageF
+    orElse firstNo countsNo rising unjoined joined annotated blockNo register operandFits laidOut startsAt lastInBlock instructionNo
+    recordsNo little rows buffer cellsIn programNo startNoBy rank
+starts-pass = refl
+
+picks-pass : every passes pickRows ≡ true
+unfolding pickRows lentRows shapeRows slotRows runRows programF onlyHalt imageF
+    orElse firstNo countsNo rising unjoined joined annotated blockNo register operandFits laidOut startsAt lastInBlock instructionNo
+    recordsNo little rows buffer cellsIn programNo stateNoBy slotNo
+    shape rank tiles hollow everySlot isTarget formed isVacant reads fresh
+    firstRunning nextPick runs outcome operand asked belong fits promotes step copied join settle carry
+picks-pass = refl
+
+jobs-pass : every passes jobRows ≡ true
+unfolding jobRows headers someRecords jobF ownRows imageF
+    orElse firstNo countsNo rising unjoined joined annotated blockNo register operandFits laidOut startsAt lastInBlock instructionNo
+    recordsNo little rows buffer cellsIn markIn headerNo imageNo programNo startNoBy rank
+    endsExactly jobNo replayNo runNo
+jobs-pass = refl
+
+bytes-pass : every passes byteRows ≡ true
+unfolding byteRows shortBuffers lentBytes short onlyHalt
+    orElse firstNo countsNo rising unjoined joined annotated blockNo register operandFits laidOut startsAt lastInBlock instructionNo
+    recordsNo little bytesOf rows buffer cellsIn programNo writeNo startNoBy rank
+    inBytes integersIn table cellsOf steps.writtenNo steps.startedNo steps.lentNo steps.pickedNo steps.ranNo
+bytes-pass = refl
+
+faults-pass : every passes faultRows ≡ true
+unfolding faultRows operations others goingOn ending assembled bytesOf little rows buffer cellsIn operand asked belong fits promotes step
+faults-pass = refl
+
+texts-pass : every passes textRows ≡ true
+unfolding textRows jobF imageF assembled bytesOf
+    orElse firstNo countsNo rising unjoined joined annotated blockNo register operandFits laidOut startsAt lastInBlock instructionNo
+    recordsNo little rows buffer cellsIn markIn headerNo imageNo programNo startNoBy rank
+    endsExactly jobNo integersIn reads fresh unlessRefused
+    firstRunning nextPick runs operand asked belong fits promotes step copied join settle carry
+    digits registerLine registerLines textOf textIn
+texts-pass = refl
+
+-- ---- All of them
+
+every-append : {A : Type 0} (test : A → Bool) (xs ys : List A) → every test xs ≡ true → every test ys ≡ true → every test (xs ++ ys) ≡ true
+every-append test [] ys e h = h
+every-append test (x ∷ xs) ys e h =
+    let p = both-true (test x) (every test xs) e in rw (p .0) (every-append test xs ys (p .1) h)
+
+all-pass : every passes doors ≡ true
+unfolding doors
+all-pass =
+    every-append passes imageRows _ images-pass
+    (every-append passes programRows _ programs-pass
+    (every-append passes startRows _ starts-pass
+    (every-append passes pickRows _ picks-pass
+    (every-append passes jobRows _ jobs-pass
+    (every-append passes byteRows _ bytes-pass (every-append passes faultRows _ faults-pass texts-pass))))))
+
+pub every-door : EveryDoor
+every-door x h = right x (every-at passes doors all-pass x h)

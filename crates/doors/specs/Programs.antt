@@ -1,0 +1,98 @@
+-- Program buffers, each with the number that questions 4 and 6 to 9 give it, at the writer, start, pick and run: these put them before their
+-- own. Some of the images' records stand here too, as programs.
+use mathlib.Core.List.{List, [], _∷_, _++_}
+use Prim.Native.Nat.{ℕ}
+use lib.IntN.{ℤ, pos}
+use lib.ListN.{set, take, replicate}
+use Rattle.image.specs.Layout.{cellsIn}
+use Rattle.machine.specs.declared.Machine.{Machine}
+use Rattle.machine.specs.Starting.{empty}
+use Rattle.cases.specs.ProgramF.{imageF}
+use Rattle.doors.specs.Doors.{Asked, _gets_, Row, _gives_, write, start, pick, run, orLater}
+use Rattle.doors.specs.Fields.{single}
+use Rattle.doors.specs.Images.{someRecords}
+
+-- F in a program buffer of 5,890 cells: B, I, six cells for each of 128 blocks from cell 2 on, five for each of 1,024 instructions from 770 on
+unfoldable pub programF : List ℕ
+programF = cellsIn imageF
+
+-- one block with one halt
+unfoldable pub onlyHalt : List ℕ
+onlyHalt = cellsIn (single 14 0 0 0)
+
+-- n integers 0: registers, or words
+abbrev pub zeros : ℕ → List ℤ
+zeros n = replicate n (pos 0)
+
+-- no state that start or a pick leaves
+abbrev pub noState : Machine
+noState = empty 0 0
+
+-- ---- Question 4, and what a short buffer lacks
+
+unfoldable pub buffers : List Asked
+buffers =
+    -- B in 1 to 128 and I in 1 to 1,024? (4) A buffer that lacks them has none
+    [] gets 4
+    ∷ take 1 programF gets 4
+    ∷ set programF 0 0 gets 4
+    ∷ set programF 0 129 gets 4
+    ∷ set programF 1 0 gets 4
+    ∷ set programF 1 1025 gets 4
+    -- with a block 0 that starts at 1 too
+    ∷ set (set programF 0 129) 2 1 gets 4
+    -- B 128: on to 6, block 4 starts at 0. I 1,024: on to 9, the join at 8 is not the last in its block
+    ∷ set programF 0 128 gets 6
+    ∷ set programF 1 1024 gets 9
+    -- a block that a short buffer lacks counts as a no to 6: all of block 0, its last cell, block 3's last cell
+    ∷ take 2 programF gets 6
+    ∷ take 7 onlyHalt gets 6
+    ∷ take 25 programF gets 6
+    -- block 3 lacks, but block 2 before it has annotation 3; block 3 has annotation 3, and lacks
+    ∷ take 25 (set programF 15 3) gets 7
+    ∷ take 25 (set programF 21 3) gets 6
+    -- block 3 has annotation 3, and instruction 0 no opcode; instruction 0 is a halt that has r, in the middle of its block
+    ∷ set (set programF 21 3) 770 0 gets 7
+    ∷ set programF 770 14 gets 8
+    -- an instruction that it lacks counts as a no to 8: all of the first, its last cell, the last one's last cell
+    ∷ take 8 onlyHalt gets 8
+    ∷ take 774 onlyHalt gets 8
+    ∷ take 814 programF gets 8
+    -- the last instruction lacks, but instruction 2 before it is a halt in the middle; the first lacks, and has opcode 0
+    ∷ take 814 (set (set (set programF 780 14) 783 0) 784 0) gets 9
+    ∷ take 774 (set onlyHalt 770 0) gets 8
+    -- nothing lacks
+    ∷ take 775 onlyHalt gets 0
+    ∷ take 815 programF gets 0
+    ∷ programF gets 0
+    ∷ []
+
+abbrev pub programsOf : List Asked → List Asked
+programsOf [] = []
+programsOf ((image gets n) ∷ images) = cellsIn image gets n ∷ programsOf images
+
+-- ---- At the doors. All that comes later is a no too: the writer's 15, start's 11 to 15, the pick's and the run's 14 to 21
+
+abbrev pub atPrograms : List Asked → List Row
+atPrograms [] = []
+atPrograms ((program gets n) ∷ programs) =
+    write program 0 gives orLater n 15
+    ∷ start program 3 7 (zeros 15) (zeros 4097) gives orLater n 11
+    ∷ pick program (zeros 4097) noState 64 gives orLater n 14
+    ∷ run program (zeros 4097) noState 0 gives orLater n 14
+    ∷ atPrograms programs
+
+-- Reader and writer put 15 last: the program's buffer, and the image's of 8 + 10·B + 12·I bytes
+unfoldable pub writes : List Row
+writes =
+    write programF 156 gives 0
+    ∷ write programF 155 gives 15
+    ∷ write programF 157 gives 15
+    ∷ write onlyHalt 30 gives 0
+    ∷ write (take 815 programF) 156 gives 15
+    ∷ write (take 5889 programF) 156 gives 15
+    ∷ write (programF ++ (0 ∷ [])) 156 gives 15
+    ∷ []
+
+unfoldable pub programRows : List Row
+programRows = atPrograms (buffers ++ programsOf someRecords) ++ writes
