@@ -15,6 +15,8 @@
 # make soak-orders jobs on the model, every order against its plain evaluation: JOBS=.. SEED=..
 # make soak-replay jobs with orders of picks on both: make soak-replay JOBS=.. SEED=..
 # make limit       the work limit of 4,294,967,295 reached on the engine, about half a minute
+# make mutants     wrong definitions with code to match: which check catches each; minutes for each, hours for
+#                  all: make mutants MUTANTS='28 work_limit' AT_ONCE=2
 # make install     tpal.h, libtpal.a, libtpal.so, tpal.pc, tpal_run and tpasm below PREFIX, /usr/local:
 #                    make install PREFIX=/opt/tpal DESTDIR=stage
 # make uninstall   removes them again, with the same PREFIX and DESTDIR
@@ -29,6 +31,9 @@ BUDGET =
 IMAGES = 10000000
 JOBS = 1000000
 SEED = 1
+
+MUTANTS =
+AT_ONCE = 1
 
 PREFIX = /usr/local
 DESTDIR =
@@ -54,7 +59,7 @@ in_rust = --release --offline --manifest-path rust/Cargo.toml
 # rt's checks share target/: one at a time.
 .NOTPARALLEL:
 .DELETE_ON_ERROR:
-.PHONY: all run lib test rust-test c-test bench soak soak-jobs soak-steps soak-orders soak-replay limit install uninstall tools \
+.PHONY: all run lib test rust-test c-test bench soak soak-jobs soak-steps soak-orders soak-replay limit mutants install uninstall tools \
         clean distclean help
 
 all: tools $(program) lib
@@ -97,6 +102,9 @@ soak-replay: tools $(archive)
 
 limit: tools $(archive)
 	cargo run $(in_rust) --bin limit
+
+mutants: tools $(archive)
+	@sh scripts/mutants.sh -j $(AT_ONCE) $(MUTANTS)
 
 tools:
 	@sh scripts/tools.sh gcc cargo

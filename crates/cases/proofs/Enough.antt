@@ -9,7 +9,7 @@ use lib.Dec.{eqb, leb}
 use lib.ListN.{length}
 use borrow.Author.Tests.{eqb-true, leb-true, eq-eqb}
 use Rattle.int64.proofs.Equality.{eqZ-eq}
-use Rattle.agreement.specs.Facts.{clash, both-true}
+use Rattle.agreement.proofs.Facts.{clash, both-true}
 use Rattle.agreement.specs.Plain.{Ran, out, ran}
 use Rattle.image.specs.Layout.{programCells, cellsIn}
 use Rattle.image.specs.Questions.{programNo}

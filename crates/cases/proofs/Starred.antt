@@ -11,7 +11,7 @@ use Rattle.agreement.specs.Plain.{eval}
 use Rattle.agreement.specs.Slots.{settle, carry}
 use Rattle.agreement.specs.Picks.{pick, play}
 use Rattle.task.specs.Step.{operand, asked, promotes, belong, fits, step, copied, join}
-use Rattle.codes.specs.Stretches.{reads}
+use Rattle.task.specs.Stretches.{reads}
 use Rattle.machine.specs.Starting.{rank, fresh}
 use Rattle.cases.specs.Assembly.{assembled}
 use Rattle.cases.specs.ProgramF.{forking, programF, imageF, twoFaults, haltInSide}

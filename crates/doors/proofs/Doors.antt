@@ -7,12 +7,12 @@ use Rattle.image.specs.Layout.{rows, buffer, cellsIn}
 use Rattle.image.specs.Questions.{orElse, firstNo, countsNo, rising, unjoined, joined, annotated, blockNo}
 use Rattle.image.specs.Questions.{register, operandFits, laidOut, startsAt, lastInBlock, instructionNo, recordsNo, programNo}
 use Rattle.image.specs.Doors.{markIn, headerNo, imageNo, readNo, rewriteNo, writeNo, unlessRefused}
-use Rattle.agreement.specs.Facts.{both-true}
+use Rattle.agreement.proofs.Facts.{both-true}
 use Rattle.agreement.specs.Slots.{settle, carry}
 use Rattle.agreement.specs.Shape.{hollow, tiles}
 use Rattle.task.specs.Step.{operand, asked, promotes, belong, fits, step, copied, join}
 use Rattle.task.specs.Formed.{every as everySlot, isTarget, formed, isVacant}
-use Rattle.codes.specs.Stretches.{reads}
+use Rattle.task.specs.Stretches.{reads}
 use Rattle.machine.specs.Starting.{rank, startNoBy, fresh}
 use Rattle.machine.specs.Shape.{shape}
 use Rattle.machine.specs.Picking.{slotNo, stateNoBy}

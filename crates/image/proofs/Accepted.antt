@@ -8,7 +8,7 @@ use lib.ListN.{length}
 use lib.Dec.{eqb, ltb, leb}
 use borrow.Author.Tests.{eqb-true, ltb-true, leb-true, lt-leb, eq-eqb}
 use Rattle.image.specs.declared.Block.{Block}
-use Rattle.image.specs.Layout.{blockCount, instructionCount, blockOf, instructionOf}
+use Rattle.image.specs.Layout.{blockCount, instructionCount, blockOf, instructionOf, programOf}
 use Rattle.image.specs.Questions.{firstNo, countsNo, inOrder, rising, unjoined, joined, annotated, blockNo, hasR, hasS, hasV, has, register, operandFits, laidOut, startsAt, lastInBlock, same, instructionNo, recordsNo, programNo}
 use Rattle.image.proofs.Booleans.{clash, both-true}
 use Rattle.image.proofs.Asked.{ask-yes, or-else-both, first-no-all}
@@ -185,13 +185,13 @@ either-false true b h = clash h refl
 either-false false b h = refl
 
 -- question 9 of an instruction that is not 13, 14 or 15: it isn't the program's last
-next-is : (cells : List ℕ) (i : ℕ) → i < instructionCount cells → same (leb 13 (instructionOf cells i .opcode)) (lastInBlock cells i) ≡ true
+next-is : (cells : List ℕ) (i : ℕ) → i < instructionCount cells → same (leb 13 (instructionOf cells i .opcode)) (lastInBlock (programOf cells) i) ≡ true
     → instructionOf cells i .opcode < 13 → i + 1 < instructionCount cells
 unfolding lastInBlock
 next-is cells i below h small =
     let t : leb 13 (instructionOf cells i .opcode) ≡ false = lt-leb 13 (instructionOf cells i .opcode) small in
     let p : eqb (i + 1) (instructionCount cells) ≡ false =
-    either-false (eqb (i + 1) (instructionCount cells)) (startsAt cells (blockCount cells) (i + 1)) (rw t at h) in
+    either-false (eqb (i + 1) (instructionCount cells)) (startsAt (programOf cells) (blockCount cells) (i + 1)) (rw t at h) in
     let q : i + 1 ≡ instructionCount cells → ⊥ = λ z. clash (eq-eqb (i + 1) (instructionCount cells) z) p in
     omega arith
 
@@ -201,7 +201,7 @@ instruction-is cells i below e =
     let x = instructionOf cells i in
     let p = ask-yes (leb (770 + 5 * i + 5) (length cells)) 7 _ e in
     let q = ask-yes (laidOut (blockCount cells) x) 7 _ (p .1) in
-    let r = ask-yes (same (leb 13 (x .opcode)) (lastInBlock cells i)) 8 0 (q .1) in
+    let r = ask-yes (same (leb 13 (x .opcode)) (lastInBlock (programOf cells) i)) 8 0 (q .1) in
     let a = both-true (leb 1 (x .opcode)) _ (q .0) in
     let b = both-true (leb (x .opcode) 15) _ (a .1) in
     let c = both-true (register (has (x .opcode) hasR) (x .r)) _ (b .1) in

@@ -9,7 +9,7 @@ use lib.Dec.{eqb, ltb, leb}
 use borrow.Author.Tests.{le-leb}
 use Rattle.image.specs.declared.Block.{Block}
 use Rattle.image.specs.declared.Instruction.{Instruction}
-use Rattle.image.specs.Layout.{programCells, blockCount, instructionCount, blockOf, instructionOf}
+use Rattle.image.specs.Layout.{programCells, blockCount, instructionCount, blockOf, instructionOf, programOf}
 use Rattle.image.specs.Questions.{firstNo, inOrder, annotated, blockNo, laidOut, same, startsAt, lastInBlock, instructionNo, recordsNo}
 use Rattle.image.proofs.Asked.{ask-yes, or-else-both, or-else-yes, first-no-all, first-no-none}
 
@@ -39,16 +39,16 @@ module _ (p q : List ℕ) (alike : Alike p q) where
       ap₂ _&&_ (ap₂ ltb (first-same b h) (alike .instructions))
       (ap₂ (cond (eqb b 0)) (ap (λ (n : ℕ). eqb n 0) (first-same b h)) (ap₂ ltb (first-same (b - 1) (omega arith)) (first-same b h)))
 
-  starts-at-same : (n i : ℕ) → n ≤ blockCount p → startsAt p n i ≡ startsAt q n i
+  starts-at-same : (n i : ℕ) → n ≤ blockCount p → startsAt (programOf p) n i ≡ startsAt (programOf q) n i
   unfolding startsAt
   starts-at-same zero i h = refl
   starts-at-same (suc n) i h = ap₂ _||_ (ap (λ (m : ℕ). eqb m i) (first-same n (omega arith))) (starts-at-same n i (omega arith))
 
-  last-same : (i : ℕ) → lastInBlock p i ≡ lastInBlock q i
+  last-same : (i : ℕ) → lastInBlock (programOf p) i ≡ lastInBlock (programOf q) i
   unfolding lastInBlock
   last-same i =
       ap₂ _||_ (ap (eqb (i + 1)) (alike .instructions))
-      (starts-at-same (blockCount p) (i + 1) (omega arith) ∙ ap (λ (n : ℕ). startsAt q n (i + 1)) (alike .blocks))
+      (starts-at-same (blockCount p) (i + 1) (omega arith) ∙ ap (λ (n : ℕ). startsAt (programOf q) n (i + 1)) (alike .blocks))
 
   module _ (whole : length q ≡ programCells) where
     block-yes : (b : ℕ) → b < blockCount p → blockCount p ≤ 128 → blockNo p b ≡ 0 → blockNo q b ≡ 0
@@ -66,10 +66,10 @@ module _ (p q : List ℕ) (alike : Alike p q) where
     instruction-yes i h few e =
         let u = ask-yes (leb (770 + 5 * i + 5) (length p)) 7 _ e in
         let v = ask-yes (laidOut (blockCount p) (instructionOf p i)) 7 _ (u .1) in
-        let w = ask-yes (same (leb 13 (instructionOf p i .opcode)) (lastInBlock p i)) 8 0 (v .1) in
+        let w = ask-yes (same (leb 13 (instructionOf p i .opcode)) (lastInBlock (programOf p) i)) 8 0 (v .1) in
         let x = alike .instruction i h in
         let l : laidOut (blockCount q) (instructionOf q i) ≡ true = sym (ap₂ laidOut (alike .blocks) x) ∙ v .0 in
-        let s : same (leb 13 (instructionOf q i .opcode)) (lastInBlock q i) ≡ true =
+        let s : same (leb 13 (instructionOf q i .opcode)) (lastInBlock (programOf q) i) ≡ true =
         sym (ap₂ (λ (y : Instruction) (t : Bool). same (leb 13 (y .opcode)) t) x (last-same i)) ∙ w .0 in
         rw (le-leb (770 + 5 * i + 5) (length q) (omega arith), l, s)
 

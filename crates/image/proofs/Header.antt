@@ -11,7 +11,7 @@ use borrow.Author.Tests.{leb-true, eqb-true, le-leb, eq-eqb}
 use Rattle.int64.specs.Little.{little}
 use Rattle.image.specs.declared.Block.{Block}
 use Rattle.image.specs.declared.Instruction.{Instruction}
-use Rattle.image.specs.Layout.{blockPlace, instructionPlace, blocksIn, instructionsIn, imageLength, programCells, blockCount, instructionCount, blockOf}
+use Rattle.image.specs.Layout.{blockPlace, instructionPlace, blocksIn, instructionsIn, imageLength, programCells, blockCount, instructionCount, blockOf, programOf}
 use Rattle.image.specs.Layout.{instructionOf, blockIn, instructionIn, buffer, blockCellsIn, instructionCellsIn, recordsLaid, cellsIn}
 use Rattle.image.specs.Questions.{ask, countsNo, blockRecordNo, blockNo, lastInBlock, instructionRecordNo, instructionNo}
 use Rattle.image.specs.Doors.{markIn, headerNo}
@@ -122,9 +122,9 @@ module _ (bytes : List ℕ) (h : Header bytes) where
       (sym (le-leb (2 + 6 * b + 6) (length (cellsIn bytes)) (omega (arith, cells-in-length bytes, count .blocks-fit))))
 
   pub instruction-asked : (i : ℕ) → i < I
-      → instructionRecordNo B (lastInBlock (cellsIn bytes) i) (instructionIn bytes (instructionPlace B i)) ≡ instructionNo (cellsIn bytes) i
+      → instructionRecordNo B (lastInBlock (programOf (cellsIn bytes)) i) (instructionIn bytes (instructionPlace B i)) ≡ instructionNo (cellsIn bytes) i
   unfolding instructionNo
   instruction-asked i q =
-      ap₂ (λ (n : ℕ) (x : Instruction). instructionRecordNo n (lastInBlock (cellsIn bytes) i) x) (sym (cells-in-blocks bytes)) (sym (instruction-read i q))
-      ∙ ap (λ (t : Bool). ask t 8 (instructionRecordNo (blockCount (cellsIn bytes)) (lastInBlock (cellsIn bytes) i) (instructionOf (cellsIn bytes) i)))
+      ap₂ (λ (n : ℕ) (x : Instruction). instructionRecordNo n (lastInBlock (programOf (cellsIn bytes)) i) x) (sym (cells-in-blocks bytes)) (sym (instruction-read i q))
+      ∙ ap (λ (t : Bool). ask t 8 (instructionRecordNo (blockCount (cellsIn bytes)) (lastInBlock (programOf (cellsIn bytes)) i) (instructionOf (cellsIn bytes) i)))
       (sym (le-leb (770 + 5 * i + 5) (length (cellsIn bytes)) (omega (arith, cells-in-length bytes, count .instructions-fit))))

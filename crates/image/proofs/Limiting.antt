@@ -9,7 +9,7 @@ use lib.Seq.{sets}
 use lib.Dec.{eqb, ltb, leb}
 use borrow.Author.Tests.{le-leb, lt-leb, ne-eqb, ltb-true, ltb-false}
 use Rattle.image.specs.declared.Instruction.{Instruction}
-use Rattle.image.specs.Layout.{rows, blockCount, instructionCount, instructionOf}
+use Rattle.image.specs.Layout.{rows, blockCount, instructionCount, instructionOf, programOf}
 use Rattle.image.specs.Questions.{fields, hasR, hasS, hasV, has, register, operandFits, laidOut, lastInBlock, instructionRecordNo, instructionNo}
 use Rattle.image.specs.Marks.{Ended}
 use Rattle.image.specs.Limits.{limitRow, limitsAt, limitRows, largestOf, Limited, blocksBy}
@@ -194,13 +194,13 @@ limited-by blocks limits largest L = subst (λ (n : ℕ). Limited n limits large
 
 pub asked-by : (cells marks : List ℕ) (blocks : ℕ) (limits largest : List ℕ) → Limited blocks limits largest → Ended cells marks
     → (i : ℕ) → i < instructionCount cells → (x : Instruction)
-    → instructionRecordNo (blocksBy largest) (eqb (getD marks (i + 1) 0) 1) x ≡ instructionRecordNo blocks (lastInBlock cells i) x
+    → instructionRecordNo (blocksBy largest) (eqb (getD marks (i + 1) 0) 1) x ≡ instructionRecordNo blocks (lastInBlock (programOf cells) i) x
 asked-by cells marks blocks limits largest L E i h x =
     ap₂ (λ (n : ℕ) (t : Bool). instructionRecordNo n t x) (blocks-told blocks limits largest L)
-    (mark-told (lastInBlock cells i) (getD marks (i + 1) 0) (E .ended i h) .0)
+    (mark-told (lastInBlock (programOf cells) i) (getD marks (i + 1) 0) (E .ended i h) .0)
 
 -- one that the buffer has
 pub asked-held : (cells : List ℕ) (i : ℕ) → 770 + 5 * i + 5 ≤ length cells
-    → instructionRecordNo (blockCount cells) (lastInBlock cells i) (instructionOf cells i) ≡ instructionNo cells i
+    → instructionRecordNo (blockCount cells) (lastInBlock (programOf cells) i) (instructionOf cells i) ≡ instructionNo cells i
 unfolding instructionNo
 asked-held cells i h = rw (le-leb (770 + 5 * i + 5) (length cells) h)

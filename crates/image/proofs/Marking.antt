@@ -9,7 +9,7 @@ use lib.ListN.{getD, set, length-set, replicate, length-replicate, getD-replicat
 use lib.Seq.{getD-set-same, getD-set-other}
 use lib.Dec.{eqb}
 use borrow.Author.Tests.{eq-eqb, ne-eqb, eqb-true, eqb-false}
-use Rattle.image.specs.Layout.{blockCount, instructionCount, blockOf}
+use Rattle.image.specs.Layout.{blockCount, instructionCount, blockOf, programOf}
 use Rattle.image.specs.Questions.{startsAt, lastInBlock, same}
 use Rattle.image.specs.Marks.{flag, Marked, Ended}
 
@@ -19,17 +19,17 @@ pub marked-none : (cells : List ℕ) → Marked cells 0 (replicate 1025 0)
 unfolding startsAt
 marked-none cells = record { sized = length-replicate {A = ℕ} 1025 0; marked = λ i h. getD-replicate {A = ℕ} 1025 i 0 0 h }
 
-starts-here : (cells : List ℕ) (n i : ℕ) → blockOf cells n .first ≡ i → startsAt cells (suc n) i ≡ true
+starts-here : (cells : List ℕ) (n i : ℕ) → blockOf cells n .first ≡ i → startsAt (programOf cells) (suc n) i ≡ true
 unfolding startsAt
 starts-here cells n i e = rw (eq-eqb (blockOf cells n .first) i e)
 
-starts-elsewhere : (cells : List ℕ) (n i : ℕ) → (blockOf cells n .first ≡ i → ⊥) → startsAt cells (suc n) i ≡ startsAt cells n i
+starts-elsewhere : (cells : List ℕ) (n i : ℕ) → (blockOf cells n .first ≡ i → ⊥) → startsAt (programOf cells) (suc n) i ≡ startsAt (programOf cells) n i
 unfolding startsAt
 starts-elsewhere cells n i e = rw (ne-eqb (blockOf cells n .first) i e)
 
 module _ (cells : List ℕ) (n : ℕ) (marks : List ℕ) (m : Marked cells n marks) (below : blockOf cells n .first < 1025) where
   mark-at : (i : ℕ) → i < 1025 → (t : Bool) → eqb (blockOf cells n .first) i ≡ t
-      → getD (set marks (blockOf cells n .first) 1) i 0 ≡ flag (startsAt cells (suc n) i)
+      → getD (set marks (blockOf cells n .first) 1) i 0 ≡ flag (startsAt (programOf cells) (suc n) i)
   mark-at i h true e =
       let k : blockOf cells n .first ≡ i = eqb-true _ i e in
       ap (λ (j : ℕ). getD (set marks (blockOf cells n .first) 1) j 0) (sym k)
@@ -48,16 +48,16 @@ module _ (cells marks : List ℕ) (m : Marked cells (blockCount cells) marks) (f
   I = instructionCount cells
 
   -- the program's end, marked behind the starts of its blocks
-  mark-of : (i : ℕ) → i < I → (t : Bool) → eqb (i + 1) I ≡ t → getD (set marks I 1) (i + 1) 0 ≡ flag (lastInBlock cells i)
+  mark-of : (i : ℕ) → i < I → (t : Bool) → eqb (i + 1) I ≡ t → getD (set marks I 1) (i + 1) 0 ≡ flag (lastInBlock (programOf cells) i)
   unfolding lastInBlock
   mark-of i h true e =
       let k : i + 1 ≡ I = eqb-true (i + 1) I e in
       ap (λ (j : ℕ). getD (set marks I 1) j 0) k ∙ getD-set-same marks I 1 0 (omega (arith, m .sized))
-      ∙ ap (λ (t : Bool). flag (t || startsAt cells (blockCount cells) (i + 1))) (sym e)
+      ∙ ap (λ (t : Bool). flag (t || startsAt (programOf cells) (blockCount cells) (i + 1))) (sym e)
   mark-of i h false e =
       let k : i + 1 ≡ I → ⊥ = eqb-false (i + 1) I e in
       getD-set-other marks I (i + 1) 1 0 k ∙ m .marked (i + 1) (omega arith)
-      ∙ ap (λ (t : Bool). flag (t || startsAt cells (blockCount cells) (i + 1))) (sym e)
+      ∙ ap (λ (t : Bool). flag (t || startsAt (programOf cells) (blockCount cells) (i + 1))) (sym e)
 
   pub ended : Ended cells (set marks I 1)
   ended = record { sized = length-set marks I 1 ∙ m .sized; ended = λ i h. mark-of i h (eqb (i + 1) I) refl }

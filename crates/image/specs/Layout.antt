@@ -6,6 +6,7 @@ use lib.Seq.{sets}
 use Rattle.int64.specs.Little.{little, bytesOf}
 use Rattle.image.specs.declared.Block.{Block}
 use Rattle.image.specs.declared.Instruction.{Instruction}
+use Rattle.image.specs.Program.{Program}
 
 -- n rows, one after the other: f 0, f 1, ..
 unfoldable pub rows : (ℕ → List ℕ) → ℕ → List ℕ
@@ -71,6 +72,19 @@ instructionBytes x =
 abbrev pub programCells : ℕ
 programCells = 5890
 
+-- the six cells of block b begin at 2 + 6·b, the five of instruction i at 770 + 5·i
+abbrev pub firstBlockCell : ℕ
+firstBlockCell = 2
+
+abbrev pub firstInstructionCell : ℕ
+firstInstructionCell = 770
+
+abbrev pub blockCell : ℕ → ℕ
+blockCell b = firstBlockCell + 6 * b
+
+abbrev pub instructionCell : ℕ → ℕ
+instructionCell i = firstInstructionCell + 5 * i
+
 abbrev pub blockCount : List ℕ → ℕ
 blockCount cells = getD cells 0 0
 
@@ -88,9 +102,8 @@ blockFrom cells at = record {
   packed = getD cells (at + 5) 0;
 }
 
--- those of block b begin at 2 + 6·b
 abbrev pub blockOf : List ℕ → ℕ → Block
-blockOf cells b = blockFrom cells (2 + 6 * b)
+blockOf cells b = blockFrom cells (blockCell b)
 
 abbrev pub blockCells : Block → List ℕ
 blockCells k = k .first ∷ k .annotation ∷ k .policy ∷ k .label ∷ k .pairs ∷ k .packed ∷ []
@@ -105,19 +118,27 @@ instructionFrom cells at = record {
   operand = getD cells (at + 4) 0;
 }
 
--- those of instruction i begin at 770 + 5·i
 abbrev pub instructionOf : List ℕ → ℕ → Instruction
-instructionOf cells i = instructionFrom cells (770 + 5 * i)
+instructionOf cells i = instructionFrom cells (instructionCell i)
 
 abbrev pub instructionCells : Instruction → List ℕ
 instructionCells x = x .opcode ∷ x .r ∷ x .s ∷ x .kind ∷ x .operand ∷ []
+
+-- the program that a buffer holds
+abbrev pub programOf : List ℕ → Program
+programOf cells = record {
+  blocks = blockCount cells;
+  instructions = instructionCount cells;
+  block = blockOf cells;
+  instruction = instructionOf cells;
+}
 
 -- the buffer of a program that has these blocks and instructions: every unused cell is 0
 unfoldable pub buffer : ℕ → ℕ → (ℕ → Block) → (ℕ → Instruction) → List ℕ
 buffer blocks instructions block instruction =
     sets
     (sets (replicate programCells 0) 0 (blocks ∷ instructions ∷ rows (λ b. blockCells (block b)) blocks))
-    770
+    firstInstructionCell
     (rows (λ i. instructionCells (instruction i)) instructions)
 
 -- ---- From one to the other
@@ -131,7 +152,9 @@ instructionCellsIn bytes n = rows (λ i. instructionCells (instructionIn bytes (
 
 -- a buffer with all of them laid into it
 abbrev pub recordsLaid : List ℕ → List ℕ → List ℕ
-recordsLaid bytes cells = sets (sets cells 2 (blockCellsIn bytes (blocksIn bytes))) 770 (instructionCellsIn bytes (instructionsIn bytes))
+recordsLaid bytes cells =
+    sets (sets cells firstBlockCell (blockCellsIn bytes (blocksIn bytes))) firstInstructionCell
+    (instructionCellsIn bytes (instructionsIn bytes))
 
 -- the buffer that an image is read into
 unfoldable pub cellsIn : List ℕ → List ℕ

@@ -1,3 +1,4 @@
+pub mod Program
 pub mod Layout
 pub mod Questions
 pub mod Marks

@@ -6,7 +6,8 @@ use lib.ListN.{length, getD}
 use lib.Dec.{eqb, ltb, leb}
 use Rattle.image.specs.declared.Block.{Block}
 use Rattle.image.specs.declared.Instruction.{Instruction}
-use Rattle.image.specs.Layout.{blockCount, instructionCount, blockOf, instructionOf}
+use Rattle.image.specs.Program.{Program}
+use Rattle.image.specs.Layout.{blockCount, instructionCount, blockCell, instructionCell, programOf}
 
 -- the answer n where the test fails, else the answer after it
 abbrev pub ask : Bool → ℕ → ℕ → ℕ
@@ -22,10 +23,16 @@ unfoldable pub firstNo : (ℕ → ℕ) → ℕ → ℕ → ℕ
 firstNo f zero i = 0
 firstNo f (suc n) i = orElse (f i) (firstNo f n (i + 1))
 
+abbrev pub mostBlocks : ℕ
+mostBlocks = 128
+
+abbrev pub mostInstructions : ℕ
+mostInstructions = 1024
+
 -- B in 1 to 128 and I in 1 to 1,024? (4)
 unfoldable pub countsNo : ℕ → ℕ → ℕ
 countsNo blocks instructions =
-    ask (leb 1 blocks && (leb blocks 128 && (leb 1 instructions && leb instructions 1024))) 4 0
+    ask (leb 1 blocks && (leb blocks mostBlocks && (leb 1 instructions && leb instructions mostInstructions))) 4 0
 
 -- ---- blocks
 
@@ -57,11 +64,13 @@ annotated blocks k =
 abbrev pub blockRecordNo : ℕ → ℕ → ℕ → ℕ → Block → ℕ
 blockRecordNo blocks instructions b before k = ask (inOrder instructions b before (k .first)) 6 (ask (annotated blocks k) 7 0)
 
+-- block b of a program
+abbrev pub programBlockNo : Program → ℕ → ℕ
+programBlockNo p b = blockRecordNo (p .blocks) (p .instructions) b (p .block (b - 1) .first) (p .block b)
+
 -- a block that a short buffer lacks is a no to 6
 unfoldable pub blockNo : List ℕ → ℕ → ℕ
-blockNo cells b =
-    ask (leb (2 + 6 * b + 6) (length cells)) 6
-    (blockRecordNo (blockCount cells) (instructionCount cells) b (blockOf cells (b - 1) .first) (blockOf cells b))
+blockNo cells b = ask (leb (blockCell b + 6) (length cells)) 6 (programBlockNo (programOf cells) b)
 
 -- ---- instructions
 
@@ -116,13 +125,13 @@ laidOut blocks x =
     && (register (has (x .opcode) hasS) (x .s) && operandFits blocks (has (x .opcode) hasV) (x .kind) (x .operand))))
 
 -- does one of the first n blocks start at instruction i?
-unfoldable pub startsAt : List ℕ → ℕ → ℕ → Bool
-startsAt cells zero i = false
-startsAt cells (suc n) i = eqb (blockOf cells n .first) i || startsAt cells n i
+unfoldable pub startsAt : Program → ℕ → ℕ → Bool
+startsAt p zero i = false
+startsAt p (suc n) i = eqb (p .block n .first) i || startsAt p n i
 
 -- the next instruction starts a block, or there is none
-unfoldable pub lastInBlock : List ℕ → ℕ → Bool
-lastInBlock cells i = eqb (i + 1) (instructionCount cells) || startsAt cells (blockCount cells) (i + 1)
+unfoldable pub lastInBlock : Program → ℕ → Bool
+lastInBlock p i = eqb (i + 1) (p .instructions) || startsAt p (p .blocks) (i + 1)
 
 abbrev pub same : Bool → Bool → Bool
 same true b = b
@@ -132,11 +141,13 @@ same false b = not b
 abbrev pub instructionRecordNo : ℕ → Bool → Instruction → ℕ
 instructionRecordNo blocks last x = ask (laidOut blocks x) 8 (ask (same (leb 13 (x .opcode)) last) 9 0)
 
+-- instruction i of a program
+abbrev pub programInstructionNo : Program → ℕ → ℕ
+programInstructionNo p i = instructionRecordNo (p .blocks) (lastInBlock p i) (p .instruction i)
+
 -- an instruction that a short buffer lacks is a no to 8
 unfoldable pub instructionNo : List ℕ → ℕ → ℕ
-instructionNo cells i =
-    ask (leb (770 + 5 * i + 5) (length cells)) 8
-    (instructionRecordNo (blockCount cells) (lastInBlock cells i) (instructionOf cells i))
+instructionNo cells i = ask (leb (instructionCell i + 5) (length cells)) 8 (programInstructionNo (programOf cells) i)
 
 -- ---- a program
 

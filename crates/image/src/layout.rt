@@ -3,11 +3,11 @@ use crate::Block;
 use crate::Instruction;
 ghost use mathlib.Core.Path.{_≡_};
 ghost use mathlib.Core.List.{_++_};
-ghost use Prim.Native.Nat.{_+_, _*_, _≤_};
+ghost use Prim.Native.Nat.{_+_, _≤_};
 ghost use lib.ListN.{length};
 ghost use lib.Seq.{sets};
 ghost use Rattle.int64.specs.Little.{bytesOf};
-ghost use Rattle.image.specs.Layout.{blockIn, blockBytes, blockFrom, blockOf, blockCells, instructionIn, instructionBytes, instructionFrom, instructionOf, instructionCells};
+ghost use Rattle.image.specs.Layout.{blockIn, blockBytes, blockFrom, blockCell, blockOf, blockCells, instructionIn, instructionBytes, instructionFrom, instructionCell, instructionOf, instructionCells};
 
 // The block whose cells begin at `at`. The crate itself calls it, with the place of a block that the buffer has.
 pub fn block_from(cells: &[u64], at: usize) -> Block
@@ -26,13 +26,37 @@ pub fn block_from(cells: &[u64], at: usize) -> Block
 
 // Our crates alone call it: the questions count below the blocks, a join below a checked program's.
 pub fn block_of(cells: &[u64], b: usize) -> Block
-    requires { ⌜ 2 + 6 * b + 6 ≤ length (now cells) ⌝ }
+    requires { ⌜ blockCell b + 6 ≤ length (now cells) ⌝ }
     ensures { λ r. ⌜ r ≡ blockOf (now (cells .entry)) b ⌝ }
 {
     block_from(cells, 2 + 6 * b)
 }
 
-// The instruction whose cells begin at `at`, as above.
+// The fields of block b that control looks at, each by itself. `task` and `shape` alone call them, with a block of an accepted program.
+pub fn first_of(cells: &[u64], b: usize) -> u64
+    requires { ⌜ blockCell b + 6 ≤ length (now cells) ⌝ }
+    ensures { λ r. ⌜ r ≡ blockOf (now (cells .entry)) b .first ⌝ }
+{
+    cells[2 + 6 * b]
+}
+
+// As above.
+pub fn annotation_of(cells: &[u64], b: usize) -> u64
+    requires { ⌜ blockCell b + 6 ≤ length (now cells) ⌝ }
+    ensures { λ r. ⌜ r ≡ blockOf (now (cells .entry)) b .annotation ⌝ }
+{
+    cells[2 + 6 * b + 1]
+}
+
+// As above.
+pub fn label_of(cells: &[u64], b: usize) -> u64
+    requires { ⌜ blockCell b + 6 ≤ length (now cells) ⌝ }
+    ensures { λ r. ⌜ r ≡ blockOf (now (cells .entry)) b .label ⌝ }
+{
+    cells[2 + 6 * b + 3]
+}
+
+// The instruction whose cells begin at `at`, as for a block.
 pub fn instruction_from(cells: &[u64], at: usize) -> Instruction
     requires { ⌜ at + 5 ≤ length (now cells) ⌝ }
     ensures { λ r. ⌜ r ≡ instructionFrom (now (cells .entry)) at ⌝ }
@@ -48,7 +72,7 @@ pub fn instruction_from(cells: &[u64], at: usize) -> Instruction
 
 // Our crates alone call it: the questions count below the instructions, drive has the shape test's pc.
 pub fn instruction_of(cells: &[u64], i: usize) -> Instruction
-    requires { ⌜ 770 + 5 * i + 5 ≤ length (now cells) ⌝ }
+    requires { ⌜ instructionCell i + 5 ≤ length (now cells) ⌝ }
     ensures { λ r. ⌜ r ≡ instructionOf (now (cells .entry)) i ⌝ }
 {
     instruction_from(cells, 770 + 5 * i)

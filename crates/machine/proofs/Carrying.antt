@@ -7,9 +7,9 @@ use native.Mathlib.Omega.{arith}
 use lib.IntN.{ℤ}
 use Rattle.agreement.specs.Plain.{one}
 use Rattle.agreement.specs.Slots.{carry}
-use Rattle.agreement.specs.SlotLaws.{carry-one}
-use Rattle.agreement.specs.Laws.{Laws}
-use Rattle.agreement.specs.RunningLaws.{Stands, stands, settle-running}
+use Rattle.agreement.proofs.SlotLaws.{carry-one}
+use Rattle.agreement.proofs.Laws.{Laws}
+use Rattle.agreement.proofs.RunningLaws.{Stands, stands, settle-running}
 use Rattle.task.specs.declared.Frame.{Frame}
 use Rattle.task.specs.Frames.{running}
 use Rattle.task.specs.Step.{step}

@@ -9,15 +9,15 @@ use lib.Dec.{eqb}
 use lib.Pow.{pow-pos}
 use lib.ListN.{getD}
 use borrow.Author.Tests.{eqb-true, eq-eqb}
-use Rattle.agreement.specs.Facts.{both-true, by-test}
+use Rattle.agreement.proofs.Facts.{both-true, by-test}
 use Rattle.agreement.specs.Slots.{sideEnded}
 use Rattle.agreement.specs.Shape.{hollow, tiles}
-use Rattle.agreement.specs.ShapeLaws.{tiles-slot, tiles-lone, tiles-split}
+use Rattle.agreement.proofs.ShapeLaws.{tiles-slot, tiles-lone, tiles-split}
 use Rattle.task.specs.Formed.{every, isVacant, formed}
-use Rattle.codes.specs.Codes.{codeOf, stands, clear, tiled}
-use Rattle.codes.proofs.EveryLaws.{never}
-use Rattle.codes.proofs.TiledLaws.{tiled-whole, tiled-none, tiled-lower-fails, tiled-upper-fails, tiled-halves}
-use Rattle.codes.proofs.CodeLaws.{formed-height, code-vacant, code-formed, code-ended}
+use Rattle.shape.specs.Codes.{codeOf, stands, clear, tiled}
+use Rattle.task.proofs.EveryLaws.{never}
+use Rattle.shape.proofs.TiledLaws.{tiled-whole, tiled-none, tiled-lower-fails, tiled-upper-fails, tiled-halves}
+use Rattle.shape.proofs.CodeLaws.{formed-height, code-vacant, code-formed, code-ended}
 use Rattle.machine.specs.declared.Machine.{Machine}
 use Rattle.machine.specs.Slots.{at, slotsOf}
 use Rattle.machine.specs.Shape.{testsOf}

@@ -9,8 +9,8 @@ use lib.ListN.{length, getD, set}
 use lib.Seq.{sets}
 use Rattle.task.specs.declared.Register.{Register}
 use Rattle.task.specs.Frames.{zeroRegister, zeros}
-use Rattle.codes.specs.Stretches.{reads}
-use Rattle.codes.proofs.StretchLaws.{length-reads, reads-snoc}
+use Rattle.task.specs.Stretches.{reads}
+use Rattle.task.proofs.StretchLaws.{length-reads, reads-snoc}
 use Rattle.machine.specs.declared.Machine.{Machine}
 
 module _ {A : Type 0} (d : A) where

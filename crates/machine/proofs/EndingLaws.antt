@@ -6,9 +6,9 @@ use mathlib.Core.List.{List}
 use native.Mathlib.Omega.{arith}
 use lib.Dec.{eqb, ltb}
 use borrow.Author.Tests.{ltb-true, ne-eqb}
-use Rattle.agreement.specs.Facts.{clash, both-true}
-use Rattle.agreement.specs.Trees.{Tree, leaf, node}
-use Rattle.agreement.specs.Holds.{Holds}
+use Rattle.agreement.proofs.Facts.{clash, both-true}
+use Rattle.agreement.proofs.Trees.{Tree, leaf, node}
+use Rattle.agreement.proofs.Holds.{Holds}
 use Rattle.agreement.specs.Slots.{sideEnded}
 use Rattle.task.specs.declared.Status.{Status}
 use Rattle.task.specs.declared.Status.the-variants.{Vacant, Running, Waiting, Halted, Faulted}

@@ -11,8 +11,8 @@ use Rattle.int64.proofs.Stores.{sets-append}
 use Rattle.task.specs.declared.Value.the-variants.{Int}
 use Rattle.task.specs.declared.Register.{Register}
 use Rattle.task.specs.Frames.{zeroRegister, integers}
-use Rattle.codes.specs.Stretches.{reads}
-use Rattle.codes.proofs.StretchLaws.{length-reads, reads-snoc}
+use Rattle.task.specs.Stretches.{reads}
+use Rattle.task.proofs.StretchLaws.{length-reads, reads-snoc}
 
 pub filled-none : (bank : List Register) (zs : List ℤ) → bank ≡ sets bank 0 (reads zeroRegister (integers zs) 0 0)
 unfolding reads

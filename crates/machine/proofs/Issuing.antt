@@ -9,7 +9,7 @@ use native.Mathlib.Omega.{arith}
 use lib.IntN.{ℤ}
 use lib.ListN.{set}
 use Rattle.agreement.specs.Plain.{one}
-use Rattle.agreement.specs.SlotLaws.{carry-two}
+use Rattle.agreement.proofs.SlotLaws.{carry-two}
 use Rattle.image.specs.declared.Instruction.{Instruction}
 use Rattle.image.specs.Layout.{instructionOf}
 use Rattle.task.specs.declared.Value.{Value}

@@ -7,9 +7,9 @@ use native.Mathlib.Omega.{arith}
 use lib.ListN.{getD}
 use borrow.Author.Tests.{lt-ltb, le-ltb}
 use Rattle.task.specs.Frames.{zeroRegister}
-use Rattle.codes.specs.Stretches.{reads}
-use Rattle.codes.specs.Codes.{GradedSlots, codeOf, CodedTasks, tree}
-use Rattle.codes.proofs.TiledLaws.{power-small}
+use Rattle.task.specs.Stretches.{reads}
+use Rattle.shape.specs.Codes.{GradedSlots, codeOf, CodedTasks, tree}
+use Rattle.shape.proofs.TiledLaws.{power-small}
 use Rattle.machine.specs.declared.Machine.{Machine}
 use Rattle.machine.specs.Slots.{at}
 use Rattle.machine.specs.Starting.{rank, intervalAllowed}

@@ -7,7 +7,7 @@ use native.Mathlib.Omega.{arith}
 use native.Mathlib.Nat.{pow-le-pow-right}
 use lib.IntN.{ℤ}
 use Rattle.agreement.specs.Picks.{Model}
-use Rattle.agreement.specs.Laws.{Forms, Laws}
+use Rattle.agreement.proofs.Laws.{Forms, Laws}
 use Rattle.image.specs.Questions.{programNo}
 use Rattle.image.proofs.Accepted.{Accepted, accepted}
 use Rattle.task.specs.declared.Frame.{Frame}

@@ -8,9 +8,9 @@ use native.Mathlib.Omega.{arith}
 use native.Mathlib.Nat.{add-zero}
 use lib.ListN.{length, getD, set, getD-replicate}
 use lib.Seq.{sets, set-set, getD-set-other}
-use Rattle.agreement.specs.Facts.{by-test}
+use Rattle.agreement.proofs.Facts.{by-test}
 use Rattle.agreement.specs.Slots.{due, merged, settle}
-use Rattle.agreement.specs.SlotLaws.{settle-none, settle-go, settle-stop}
+use Rattle.agreement.proofs.SlotLaws.{settle-none, settle-go, settle-stop}
 use Rattle.task.specs.declared.Register.{Register}
 use Rattle.task.specs.declared.Task.{Task}
 use Rattle.task.specs.declared.Joint.{Joint}
@@ -18,8 +18,8 @@ use Rattle.task.specs.Frames.{zeroRegister, zeros, vacantTask, vacant, running,
 use Rattle.task.specs.Step.{copied, join}
 use Rattle.task.specs.Execute.{jointOf, jointRegisters}
 use Rattle.task.proofs.Copying.{copies-first, copies-none, faulted-pairs, join-joint}
-use Rattle.codes.specs.Stretches.{reads}
-use Rattle.codes.proofs.StretchLaws.{length-reads, getD-reads, reads-all}
+use Rattle.task.specs.Stretches.{reads}
+use Rattle.task.proofs.StretchLaws.{length-reads, getD-reads, reads-all}
 use Rattle.machine.specs.declared.Machine.{Machine}
 use Rattle.machine.specs.Slots.{at, put, ticked, slotsOf}
 use Rattle.machine.proofs.SlotLaws.{put-other, put-tasks}

@@ -8,11 +8,11 @@ use lib.Dec.{eqb, ltb, leb}
 use lib.IntN.{ℤ}
 use lib.ListN.{length}
 use borrow.Author.Tests.{eqb-true, ltb-true}
-use Rattle.agreement.specs.Facts.{by-test}
+use Rattle.agreement.proofs.Facts.{by-test}
 use Rattle.agreement.specs.Slots.{carry}
-use Rattle.agreement.specs.SlotLaws.{carry-keeps}
+use Rattle.agreement.proofs.SlotLaws.{carry-keeps}
 use Rattle.agreement.specs.Picks.{Model, canPick, pick}
-use Rattle.agreement.specs.PickLaws.{parts-can, pick-carried, pick-refused}
+use Rattle.agreement.proofs.PickLaws.{parts-can, pick-carried, pick-refused}
 use Rattle.image.specs.Layout.{programCells}
 use Rattle.image.specs.Questions.{ask, orElse, programNo}
 use Rattle.image.specs.Doors.{unlessRefused}

@@ -5,11 +5,11 @@ use mathlib.Core.List.{List}
 use Prim.Native.Nat.{ℕ, _<_}
 use native.Mathlib.Omega.{arith}
 use lib.IntN.{ℤ}
-use Rattle.agreement.specs.Facts.{clash, by-test}
+use Rattle.agreement.proofs.Facts.{clash, by-test}
 use Rattle.agreement.specs.Slots.{sideEnded}
 use Rattle.agreement.specs.Picks.{Model}
-use Rattle.agreement.specs.Laws.{Forms, Laws}
-use Rattle.agreement.specs.HoldsLaws.{ended-idle, open-runs}
+use Rattle.agreement.proofs.Laws.{Forms, Laws}
+use Rattle.agreement.proofs.HoldsLaws.{ended-idle, open-runs}
 use Rattle.task.specs.declared.Frame.{Frame}
 use Rattle.task.specs.Frames.{running}
 use Rattle.machine.specs.declared.Machine.{Machine}

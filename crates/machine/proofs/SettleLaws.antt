@@ -6,9 +6,9 @@ use mathlib.Core.List.{List}
 use native.Mathlib.Omega.{arith}
 use lib.Dec.{eqb, ltb}
 use borrow.Author.Tests.{lt-ltb, le-ltb, eq-eqb, ltb-true, eqb-true}
-use Rattle.agreement.specs.Facts.{clash, both-true}
+use Rattle.agreement.proofs.Facts.{clash, both-true}
 use Rattle.agreement.specs.Slots.{sideEnded, due, merged, settle}
-use Rattle.agreement.specs.SlotLaws.{settle-none, settle-go, settle-stop}
+use Rattle.agreement.proofs.SlotLaws.{settle-none, settle-go, settle-stop}
 use Rattle.task.specs.declared.Status.{Status}
 use Rattle.task.specs.Frames.{isRunning}
 use Rattle.machine.specs.declared.Machine.{Machine}

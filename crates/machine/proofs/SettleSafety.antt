@@ -13,7 +13,7 @@ use lib.IntN.{ℤ}
 use lib.ListN.{getD, set, List·getD-eq-default}
 use lib.Seq.{getD-set-other}
 use borrow.Author.Tests.{lt-ltb}
-use Rattle.agreement.specs.Facts.{by-below}
+use Rattle.agreement.proofs.Facts.{by-below}
 use Rattle.agreement.specs.Plain.{one}
 use Rattle.agreement.specs.Slots.{due, merged, settle}
 use Rattle.image.specs.Layout.{blockCount}

@@ -6,16 +6,16 @@ use mathlib.Core.List.{List}
 use native.Mathlib.Omega.{arith}
 use lib.IntN.{ℤ}
 use lib.ListN.{List·getD-eq-default}
-use Rattle.agreement.specs.Facts.{both-true, true-both, by-below}
-use Rattle.agreement.specs.Trees.{Tree}
-use Rattle.agreement.specs.SlotLaws.{carry-keeps}
+use Rattle.agreement.proofs.Facts.{both-true, true-both, by-below}
+use Rattle.agreement.proofs.Trees.{Tree}
+use Rattle.agreement.proofs.SlotLaws.{carry-keeps}
 use Rattle.agreement.specs.Picks.{Model, pick}
-use Rattle.agreement.specs.PickLaws.{pick-has}
-use Rattle.agreement.specs.EveryFrame.{Framewise, pick-all}
-use Rattle.agreement.specs.Laws.{Forms}
-use Rattle.agreement.specs.Holds.{Shows}
+use Rattle.agreement.proofs.PickLaws.{pick-has}
+use Rattle.agreement.proofs.EveryFrame.{Framewise, pick-all}
+use Rattle.agreement.proofs.Laws.{Forms}
+use Rattle.agreement.proofs.Holds.{Shows}
 use Rattle.agreement.specs.Shape.{Tests, shaped}
-use Rattle.agreement.specs.ShapeLaws.{TestLaws, shaped-shows, pick-shaped}
+use Rattle.agreement.proofs.ShapeLaws.{TestLaws, shaped-shows, pick-shaped}
 use Rattle.image.specs.Questions.{programNo}
 use Rattle.task.specs.declared.Frame.{Frame}
 use Rattle.task.specs.Frames.{noTask}

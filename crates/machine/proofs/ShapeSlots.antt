@@ -5,9 +5,9 @@ use mathlib.Core.Logic.{_⊎_, inl, inr, ⊎-elim}
 use mathlib.Core.Bool.{true}
 use mathlib.Core.List.{List, []}
 use native.Mathlib.Omega.{arith}
-use Rattle.agreement.specs.Facts.{clash, by-below}
-use Rattle.agreement.specs.Trees.{Tree, leaf, node}
-use Rattle.agreement.specs.Holds.{Holds}
+use Rattle.agreement.proofs.Facts.{clash, by-below}
+use Rattle.agreement.proofs.Trees.{Tree, leaf, node}
+use Rattle.agreement.proofs.Holds.{Holds}
 use Rattle.task.specs.declared.Frame.{Frame}
 use Rattle.task.specs.Frames.{vacant, running}
 use Rattle.task.proofs.Formation.{Formed}

@@ -6,13 +6,13 @@ use mathlib.Core.Bool.{false}
 use native.Mathlib.Omega.{arith}
 use lib.ListN.{length, getD, length-set, List·getD-eq-default}
 use lib.Seq.{length-sets, getD-set-same, getD-set-other, ext-getD}
-use Rattle.agreement.specs.Facts.{by-order}
+use Rattle.agreement.proofs.Facts.{by-order}
 use Rattle.task.specs.declared.Task.{Task}
 use Rattle.task.specs.declared.Frame.{Frame}
 use Rattle.task.specs.Frames.{zeroRegister, noTask, isRunning, running}
 use Rattle.task.proofs.Facts.{set-keeps}
-use Rattle.codes.specs.Stretches.{reads}
-use Rattle.codes.proofs.StretchLaws.{length-reads, getD-reads, reads-sets, reads-same, reads-all}
+use Rattle.task.specs.Stretches.{reads}
+use Rattle.task.proofs.StretchLaws.{length-reads, getD-reads, reads-sets, reads-same, reads-all}
 use Rattle.machine.specs.declared.Machine.{Machine}
 use Rattle.machine.specs.Slots.{at, put, Sized, ticked}
 

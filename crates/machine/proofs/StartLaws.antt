@@ -7,10 +7,10 @@ use lib.Dec.{eqb, leb}
 use lib.IntN.{ℤ}
 use lib.ListN.{length, getD, replicate, length-replicate, getD-replicate}
 use borrow.Author.Tests.{eqb-true}
-use Rattle.agreement.specs.Trees.{leaf}
-use Rattle.agreement.specs.Holds.{Shows}
-use Rattle.agreement.specs.HoldsLaws.{lone-shows}
-use Rattle.agreement.specs.ShapeLaws.{shows-shaped}
+use Rattle.agreement.proofs.Trees.{leaf}
+use Rattle.agreement.proofs.Holds.{Shows}
+use Rattle.agreement.proofs.HoldsLaws.{lone-shows}
+use Rattle.agreement.proofs.ShapeLaws.{shows-shaped}
 use Rattle.image.specs.Layout.{programCells}
 use Rattle.image.specs.Questions.{programNo}
 use Rattle.image.specs.Doors.{unlessRefused}
@@ -21,7 +21,7 @@ use Rattle.task.proofs.Facts.{constant-at}
 use Rattle.task.proofs.Formation.{Formed}
 use Rattle.task.proofs.Start.{length-integers, start-formed}
 use Rattle.task.proofs.Counts.{Within, vacant-within, start-within}
-use Rattle.codes.specs.Stretches.{reads}
+use Rattle.task.specs.Stretches.{reads}
 use Rattle.machine.specs.declared.Machine.{Machine}
 use Rattle.machine.specs.Slots.{at, Sized, slotsOf}
 use Rattle.machine.specs.Starting.{rank, placesAllowed, intervalAllowed, startNo, startNoBy, empty, fresh, started}

@@ -10,7 +10,7 @@ use types.Run.{OneOf, miss}
 use denote.Enum.Declared.{tagOf}
 use Rattle.agreement.specs.Plain.{one}
 use Rattle.agreement.specs.Slots.{due, merged, settle}
-use Rattle.agreement.specs.SlotLaws.{carry-one}
+use Rattle.agreement.proofs.SlotLaws.{carry-one}
 use Rattle.image.specs.declared.Instruction.{Instruction}
 use Rattle.task.specs.declared.Value.{Value}
 use Rattle.task.specs.declared.Frame.{Frame}

@@ -8,7 +8,7 @@ use Rattle.agreement.specs.Slots.{Slots}
 use Rattle.task.specs.declared.Frame.{Frame}
 use Rattle.task.specs.Frames.{zeroRegister, vacant, noTask, running}
 use Rattle.task.specs.Step.{join}
-use Rattle.codes.specs.Stretches.{reads}
+use Rattle.task.specs.Stretches.{reads}
 use Rattle.machine.specs.declared.Machine.{Machine}
 
 -- the frame at slot k

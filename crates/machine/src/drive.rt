@@ -5,13 +5,13 @@
 use crate::Driven;
 use crate::Machine;
 use crate::slots;
-use codes::tasks::is_running;
 use task::Active;
 use task::Fork;
 use task::Kind;
 use task::Register;
 use task::Status;
 use task::Task;
+use task::running::is_running;
 use task::Value;
 ghost use mathlib.Core.Path.{_≡_};
 ghost use mathlib.Core.Bool.{true, cond, not, _&&_};

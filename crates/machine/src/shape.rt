@@ -1,10 +1,10 @@
 // The shape test of question 20.
 use crate::Machine;
 use crate::start;
-use codes::registers;
-use codes::slots;
-use codes::tasks;
-use codes::tiling;
+use shape::registers;
+use shape::slots;
+use shape::tasks;
+use shape::tiling;
 ghost use mathlib.Core.Path.{_≡_};
 ghost use lib.ListN.{length};
 ghost use Rattle.image.specs.Layout.{programCells};

@@ -5,10 +5,10 @@ use mathlib.Core.Path.{_≡_, sym, ap, _∙_, subst⁻¹}
 use mathlib.Core.Bool.{true}
 use mathlib.Core.List.{List, [], _∷_, _++_}
 use native.Mathlib.Omega.{arith}
-use Rattle.agreement.specs.Trees.{leaf}
+use Rattle.agreement.proofs.Trees.{leaf}
 use Rattle.agreement.specs.Picks.{Model, onlyAt, play}
 use Rattle.agreement.specs.Picks as model
-use Rattle.agreement.specs.CompleteLaws.{same-picks, same-work, same-slots}
+use Rattle.agreement.proofs.CompleteLaws.{same-picks, same-work, same-slots}
 use Rattle.task.specs.declared.Frame.{Frame}
 use Rattle.task.specs.Frames.{integers, startFrame}
 use Rattle.machine.specs.declared.Machine.{Machine}

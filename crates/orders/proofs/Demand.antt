@@ -5,12 +5,12 @@ use Prim.Native.Nat.{ℕ, _<_}
 use mathlib.Core.Path.{_≡_, sym, ap, _∙_, subst⁻¹}
 use mathlib.Core.Bool.{true, false}
 use mathlib.Core.List.{List}
-use Rattle.agreement.specs.EvalLaws.{eval-any-fuel}
+use Rattle.agreement.proofs.EvalLaws.{eval-any-fuel}
 use Rattle.agreement.specs.Picks.{Model, rules, once, canPick, play}
 use Rattle.agreement.specs.Picks as model
 use Rattle.agreement.specs.Demand.{Ordered}
 use Rattle.agreement.specs.Demand as model-demand
-use Rattle.agreement.specs.DemandLaws.{ordered}
+use Rattle.agreement.proofs.DemandLaws.{ordered}
 use Rattle.task.specs.declared.Frame.{Frame}
 use Rattle.task.specs.Frames.{vacant, integers, startFrame}
 use Rattle.machine.specs.declared.Machine.{Machine}

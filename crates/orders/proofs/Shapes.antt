@@ -8,10 +8,10 @@ use native.Mathlib.Omega.{arith}
 use lib.Dec.{eqb}
 use lib.IntN.{ℤ}
 use borrow.Author.Tests.{eqb-true}
-use Rattle.agreement.specs.Facts.{clash, by-test}
+use Rattle.agreement.proofs.Facts.{clash, by-test}
 use Rattle.agreement.specs.Picks.{play}
-use Rattle.agreement.specs.PlacesLaws.{places-add-up}
-use Rattle.agreement.specs.HoldsLaws.{open-runs, ended-idle}
+use Rattle.agreement.proofs.PlacesLaws.{places-add-up}
+use Rattle.agreement.proofs.HoldsLaws.{open-runs, ended-idle}
 use Rattle.image.specs.Doors.{unlessRefused}
 use Rattle.task.specs.declared.Status.{Status}
 use Rattle.task.specs.declared.Status.the-variants.{Vacant, Running, Waiting, Halted, Faulted}

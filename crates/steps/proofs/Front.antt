@@ -8,8 +8,8 @@ use lib.ListN.{length, getD, take, length-take}
 use lib.Seq.{getD-take}
 use lib.Dec.{eqb, leb}
 use borrow.Author.Tests.{leb-true, leb-false, le-leb, lt-leb}
-use Rattle.agreement.specs.Facts.{by-test}
-use Rattle.image.specs.Layout.{programCells, blockCount, instructionCount, blockOf, instructionOf}
+use Rattle.agreement.proofs.Facts.{by-test}
+use Rattle.image.specs.Layout.{programCells, blockCount, instructionCount, blockOf, instructionOf, programOf}
 use Rattle.image.specs.Questions.{ask, orElse, firstNo, countsNo, blockRecordNo, blockNo, startsAt, lastInBlock, instructionRecordNo, instructionNo, recordsNo, programNo}
 use Rattle.image.proofs.Asked.{or-else-same, first-no-same}
 use Rattle.image.proofs.Counts.{Counted, counted}
@@ -51,16 +51,16 @@ module _ (p q : List ℕ) (same : SameFront p q) where
   block-no-same b h = λ j. ask (same .stored (2 + 6 * b + 6) (omega arith) j) 6
       (blockRecordNo (blocks-same j) (instructions-same j) b (block-same (b - 1) (omega arith) j .first) (block-same b h j))
 
-  starts-at-same : (n i : ℕ) → n ≤ 128 → startsAt p n i ≡ startsAt q n i
+  starts-at-same : (n i : ℕ) → n ≤ 128 → startsAt (programOf p) n i ≡ startsAt (programOf q) n i
   unfolding startsAt
   starts-at-same zero i h = refl
   starts-at-same (suc n) i h = λ j. eqb (block-same n (omega arith) j .first) i || starts-at-same n i (omega arith) j
 
-  last-same : (i : ℕ) → blockCount p ≤ 128 → lastInBlock p i ≡ lastInBlock q i
+  last-same : (i : ℕ) → blockCount p ≤ 128 → lastInBlock (programOf p) i ≡ lastInBlock (programOf q) i
   unfolding lastInBlock
   last-same i few =
       ap₂ _||_ (ap (eqb (i + 1)) instructions-same)
-      (starts-at-same (blockCount p) (i + 1) few ∙ ap (λ (n : ℕ). startsAt q n (i + 1)) blocks-same)
+      (starts-at-same (blockCount p) (i + 1) few ∙ ap (λ (n : ℕ). startsAt (programOf q) n (i + 1)) blocks-same)
 
   instruction-no-same : (i : ℕ) → blockCount p ≤ 128 → i < 1024 → instructionNo p i ≡ instructionNo q i
   unfolding instructionNo

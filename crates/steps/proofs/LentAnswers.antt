@@ -8,7 +8,7 @@ use lib.Dec.{eqb, leb}
 use lib.IntN.{ℤ}
 use lib.ListN.{length}
 use borrow.Author.Tests.{leb-true, eqb-true, ne-eqb}
-use Rattle.agreement.specs.Facts.{both-true}
+use Rattle.agreement.proofs.Facts.{both-true}
 use Rattle.image.specs.Questions.{ask, orElse, programNo}
 use Rattle.image.proofs.Asked.{or-else-no, or-else-both, or-else-none}
 use Rattle.image.proofs.Booleans.{clash}

@@ -7,8 +7,8 @@ use native.Mathlib.Omega.{arith}
 use lib.Dec.{eqb}
 use lib.IntN.{ℤ}
 use borrow.Author.Tests.{eqb-true}
-use Rattle.agreement.specs.Facts.{by-test}
-use Rattle.agreement.specs.SlotLaws.{carry-keeps, carry-all}
+use Rattle.agreement.proofs.Facts.{by-test}
+use Rattle.agreement.proofs.SlotLaws.{carry-keeps, carry-all}
 use Rattle.image.specs.Doors.{unlessRefused}
 use Rattle.task.specs.Frames.{running}
 use Rattle.task.specs.Step.{step}

@@ -9,7 +9,7 @@ use native.Mathlib.Nat.{pow-le-pow-right}
 use lib.Dec.{eqb, ltb, leb}
 use lib.ListN.{length, getD, List·getD-eq-default}
 use borrow.Author.Tests.{eqb-true, ltb-true, leb-true}
-use Rattle.agreement.specs.Facts.{by-below}
+use Rattle.agreement.proofs.Facts.{by-below}
 use Rattle.image.specs.Layout.{blockCount}
 use Rattle.image.proofs.Booleans.{both-true}
 use Rattle.image.proofs.Accepted.{Accepted, accepted}
@@ -26,7 +26,7 @@ use Rattle.task.specs.Formed.{valueFits, forkFits, statusFits}
 use Rattle.task.proofs.Facts.{constant-at}
 use Rattle.task.proofs.Formation.{Formed, target-below}
 use Rattle.task.proofs.Counts.{Within}
-use Rattle.codes.proofs.StretchLaws.{getD-reads}
+use Rattle.task.proofs.StretchLaws.{getD-reads}
 use Rattle.machine.specs.declared.Machine.{Machine}
 use Rattle.machine.specs.Slots.{at}
 use Rattle.machine.specs.Starting.{rank}

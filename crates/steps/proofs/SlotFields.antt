@@ -5,15 +5,15 @@ use Prim.Native.Nat.{ℕ, zero, suc, _+_, _*_, _<_}
 use native.Mathlib.Omega.{arith}
 use lib.ListN.{getD, set, List·getD-eq-default}
 use lib.Seq.{sets}
-use Rattle.agreement.specs.Facts.{by-below}
+use Rattle.agreement.proofs.Facts.{by-below}
 use Rattle.task.specs.declared.Value.{Value}
 use Rattle.task.specs.declared.Value.the-variants.{Int, Label, Record}
 use Rattle.task.specs.declared.Task.{Task}
 use Rattle.task.specs.declared.Frame.{Frame}
 use Rattle.task.specs.Frames.{zeroRegister, zeroFork, noTask}
 use Rattle.task.proofs.Facts.{set-keeps}
-use Rattle.codes.specs.Stretches.{reads}
-use Rattle.codes.proofs.StretchLaws.{length-reads, getD-reads}
+use Rattle.task.specs.Stretches.{reads}
+use Rattle.task.proofs.StretchLaws.{length-reads, getD-reads}
 use Rattle.machine.specs.declared.Machine.{Machine}
 use Rattle.machine.specs.Slots.{at, put}
 use Rattle.machine.proofs.SlotLaws.{put-tasks}

@@ -8,7 +8,7 @@ use lib.Dec.{eqb, leb}
 use lib.IntN.{ℤ}
 use lib.ListN.{length}
 use borrow.Author.Tests.{eq-eqb, le-leb, leb-true, eqb-true}
-use Rattle.agreement.specs.Facts.{both-true, true-both}
+use Rattle.agreement.proofs.Facts.{both-true, true-both}
 use Rattle.image.specs.Layout.{programCells}
 use Rattle.image.specs.Questions.{ask, orElse, programNo}
 use Rattle.image.proofs.Asked.{ask-yes, or-else-no, or-else-yes, or-else-both, or-else-none}

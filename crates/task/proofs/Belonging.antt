@@ -6,15 +6,16 @@ use Prim.Native.Nat.{ℕ, suc, _+_, _-_, _<_, _≤_}
 use native.Mathlib.Omega.{arith}
 use lib.ListN.{getD}
 use borrow.Author.Tests.{eq-eqb, ne-eqb, le-leb, lt-leb}
-use Rattle.image.specs.Layout.{blockOf}
+use Rattle.image.specs.Layout.{blockOf, programOf}
 use Rattle.task.specs.declared.Value.{Value}
 use Rattle.task.specs.declared.Value.the-variants.{Label, Record}
-use Rattle.task.specs.declared.Kind.the-variants.{Waits}
+use Rattle.task.specs.declared.Kind.the-variants.{Waits, Faults}
 use Rattle.task.specs.declared.Fork.{Fork}
 use Rattle.task.specs.declared.Active.{Active}
 use Rattle.task.specs.Frames.{zeroFork}
-use Rattle.task.specs.Step.{belong, fits}
-use Rattle.task.specs.Execute.{required, ends, faults, enters, splits, forked, met}
+use Rattle.task.specs.Choices.{Choices, chosen}
+use Rattle.task.specs.Effect.{asked, belong, fits, splits, meets}
+use Rattle.task.specs.Execute.{ending, forking, entering, handed}
 use Rattle.task.proofs.Variants.{NotLabel, NotRecord, not-label, not-record}
 
 -- ---- the loop over the open forks, from i to d
@@ -45,48 +46,54 @@ module _ (l : List Fork) (k : Fork) (d i : ℕ) where
 
 -- ---- fork
 
-module _ (cells : List ℕ) (s v : Value) (t : Active) (l : List Fork) where
-  pub fork-other : NotRecord s → faults 36 ≡ forked cells s v t l
-  unfolding required
-  fork-other k = not-record (λ (w : Value). faults 36 ≡ forked cells w v t l) (λ z. refl) (λ b. refl) s k
+module _ (choices : Choices) (cells : List ℕ) (s v : Value) (t : Active) (l : List Fork) where
+  pub fork-other : NotRecord s → ending (Faults 36) ≡ handed (programOf cells) choices t (splits s v t l)
+  unfolding asked
+  fork-other k =
+      not-record (λ (w : Value). ending (Faults 36) ≡ handed (programOf cells) choices t (splits w v t l)) (λ z. refl) (λ b. refl) s k
 
   module _ {c d : ℕ} {z : Bool} (p : s ≡ Record c d) (e : z ≡ fits (record { continuation = c; depth = d }) (t .depth) l) where
-    pub fork-unfit : z ≡ false → faults 36 ≡ forked cells s v t l
-    unfolding required
+    pub fork-unfit : z ≡ false → ending (Faults 36) ≡ handed (programOf cells) choices t (splits s v t l)
+    unfolding asked
     fork-unfit k = rw (p, ← e, k)
 
     module _ (k : z ≡ true) where
-      pub fork-no-target : NotLabel v → faults 34 ≡ forked cells s v t l
-      unfolding required
+      pub fork-no-target : NotLabel v → ending (Faults 34) ≡ handed (programOf cells) choices t (splits s v t l)
+      unfolding asked
       fork-no-target n =
-          rw p (not-label (λ (w : Value). faults 34 ≡ forked cells (Record c d) w t l) (λ z. rw (← e, k)) (λ b d. rw (← e, k)) v n)
+          rw p
+          (not-label (λ (w : Value). ending (Faults 34) ≡ handed (programOf cells) choices t (splits (Record c d) w t l))
+          (λ z. rw (← e, k))
+          (λ b d. rw (← e, k)) v n)
 
       module _ {b : ℕ} (q : v ≡ Label b) where
-        pub fork-no-places : t .places < 2 → faults 37 ≡ forked cells s v t l
-        unfolding required
+        pub fork-no-places : t .places < 2 → ending (Faults 37) ≡ handed (programOf cells) choices t (splits s v t l)
+        unfolding asked
         fork-no-places h = rw (p, ← e, k, q, lt-leb 2 (t .places) h)
 
         pub opens : {pc : ℕ} → 2 ≤ t .places → pc ≡ blockOf cells b .first
-            → splits (Record c d) pc t ≡ forked cells s v t l
-        unfolding required
+            → forking (Record c d) pc t ≡ handed (programOf cells) choices t (splits s v t l)
+        unfolding asked
         opens h f = rw (f, p, ← e, k, q, le-leb 2 (t .places) h)
 
 -- ---- join
 
 module _ (cells : List ℕ) (interval : ℕ) (v : Value) (t : Active) (l : List Fork) where
-  pub meet-other : NotRecord v → faults 36 ≡ met cells interval v t l
-  unfolding required
-  meet-other k = not-record (λ (w : Value). faults 36 ≡ met cells interval w t l) (λ z. refl) (λ b. refl) v k
+  pub meet-other : NotRecord v → ending (Faults 36) ≡ handed (programOf cells) (chosen interval) t (meets v t l)
+  unfolding asked
+  meet-other k =
+      not-record (λ (w : Value). ending (Faults 36) ≡ handed (programOf cells) (chosen interval) t (meets w t l)) (λ z. refl) (λ b. refl) v k
 
   module _ {c d : ℕ} {z : Bool} (p : v ≡ Record c d) (e : z ≡ fits (record { continuation = c; depth = d }) (t .depth) l) where
-    pub meet-unfit : z ≡ false → faults 36 ≡ met cells interval v t l
-    unfolding required
+    pub meet-unfit : z ≡ false → ending (Faults 36) ≡ handed (programOf cells) (chosen interval) t (meets v t l)
+    unfolding asked
     meet-unfit k = rw (p, ← e, k)
 
-    pub meets : z ≡ true → d ≡ t .depth → enters cells interval c t ≡ met cells interval v t l
-    unfolding required
-    meets k h = rw (p, ← e, k, eq-eqb d (t .depth) h)
+    pub meets-there : z ≡ true → d ≡ t .depth
+        → entering (programOf cells) (chosen interval) c t ≡ handed (programOf cells) (chosen interval) t (meets v t l)
+    unfolding asked
+    meets-there k h = rw (p, ← e, k, eq-eqb d (t .depth) h)
 
-    pub waits-on : z ≡ true → (d ≡ t .depth → ⊥) → ends Waits ≡ met cells interval v t l
-    unfolding required
+    pub waits-on : z ≡ true → (d ≡ t .depth → ⊥) → ending Waits ≡ handed (programOf cells) (chosen interval) t (meets v t l)
+    unfolding asked
     waits-on k h = rw (p, ← e, k, ne-eqb d (t .depth) h)

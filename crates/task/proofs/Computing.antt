@@ -16,46 +16,53 @@ use borrow.Author.Tests.{lt-ltb, le-ltb}
 use Rattle.int64.specs.Equal.{eqZ}
 use Rattle.int64.proofs.Equality.{eq-eqZ}
 use Rattle.int64.proofs.Sign.{natural}
+use Rattle.image.specs.Program.{Program}
 use Rattle.image.proofs.Booleans.{clash}
 use Rattle.task.specs.declared.Value.{Value}
 use Rattle.task.specs.declared.Value.the-variants.{Int}
 use Rattle.task.specs.declared.Active.{Active}
-use Rattle.task.specs.declared.Executed.{Executed}
+use Rattle.task.specs.declared.Kind.the-variants.{Faults}
 use Rattle.task.specs.Values.{isInt}
-use Rattle.task.specs.Execute.{required, stores, faults, computed, divided, fetched}
+use Rattle.task.specs.Choices.{Choices}
+use Rattle.task.specs.Effect.{Effect, asked, computes, divides, fetches}
+use Rattle.task.specs.Execute.{storing, ending, handed}
 use Rattle.task.proofs.Variants.{NotInt, not-int}
 
 -- the value that a call gave
 pub given : {r z : ℤ} → mag r < 2 ^ 63 → r ≡ z → Int (toZ w64 (ofZ w64 r)) ≡ Int z
 given {r} h e = ap Int (toZ-ofZ w64 r (record { sfits = h }) ∙ e)
 
-module _ (s v : Value) where
+module _ (program : Program) (choices : Choices) (t : Active) (s v : Value) where
   -- the left operand is no integer, or the right one
-  pub left-other : (after : Executed) → NotInt s → faults 31 ≡ required (isInt s && isInt v) 31 after
-  unfolding required
-  left-other after k = not-int (λ (w : Value). faults 31 ≡ required (isInt w && isInt v) 31 after) (λ b. refl) (λ b d. refl) s k
+  pub left-other : (after : Effect) → NotInt s → ending (Faults 31) ≡ handed program choices t (asked (isInt s && isInt v) 31 after)
+  unfolding asked
+  left-other after k =
+      not-int (λ (w : Value). ending (Faults 31) ≡ handed program choices t (asked (isInt w && isInt v) 31 after)) (λ b. refl) (λ b d. refl) s k
 
-  pub right-other : (after : Executed) {a : ℤ} → s ≡ Int a → NotInt v → faults 31 ≡ required (isInt s && isInt v) 31 after
-  unfolding required
+  pub right-other : (after : Effect) {a : ℤ} → s ≡ Int a → NotInt v
+      → ending (Faults 31) ≡ handed program choices t (asked (isInt s && isInt v) 31 after)
+  unfolding asked
   right-other after p k =
-      rw p (not-int (λ (w : Value). faults 31 ≡ required (isInt w) 31 after) (λ b. refl) (λ b d. refl) v k)
+      rw p (not-int (λ (w : Value). ending (Faults 31) ≡ handed program choices t (asked (isInt w) 31 after)) (λ b. refl) (λ b d. refl) v k)
 
-  module _ {a b : ℤ} (t : Active) (p : s ≡ Int a) (q : v ≡ Int b) (f : SFits w64 a) (g : SFits w64 b) where
-    pub computes : (op : ℤ → ℤ → Value) {w : Value} → w ≡ op (toZ w64 (ofZ w64 a)) (toZ w64 (ofZ w64 b)) → stores w t ≡ computed op s v t
-    unfolding required
-    computes op e = rw (p, q, e, toZ-ofZ w64 a f, toZ-ofZ w64 b g)
+  module _ {a b : ℤ} (p : s ≡ Int a) (q : v ≡ Int b) (f : SFits w64 a) (g : SFits w64 b) where
+    pub gives : (op : ℤ → ℤ → Value) {w : Value} → w ≡ op (toZ w64 (ofZ w64 a)) (toZ w64 (ofZ w64 b))
+        → storing w t ≡ handed program choices t (computes op s v)
+    unfolding asked
+    gives op e = rw (p, q, e, toZ-ofZ w64 a f, toZ-ofZ w64 b g)
 
     -- a divisor of 0
-    pub no-divisor : (op : ℤ → ℤ → Value) {z : Bool} → z ≡ eqZ (toZ w64 (ofZ w64 b)) (pos 0) → z ≡ true → faults 32 ≡ divided op s v t
-    unfolding required
-    no-divisor op e k = rw (p, q, required, ← toZ-ofZ w64 b g, ← e, k)
+    pub no-divisor : (op : ℤ → ℤ → ℤ) {z : Bool} → z ≡ eqZ (toZ w64 (ofZ w64 b)) (pos 0) → z ≡ true
+        → ending (Faults 32) ≡ handed program choices t (divides op s v)
+    unfolding asked
+    no-divisor op e k = rw (p, q, asked, ← toZ-ofZ w64 b g, ← e, k)
 
-    pub divides : (op : ℤ → ℤ → Value) {z : Bool} {w : Value} → z ≡ eqZ (toZ w64 (ofZ w64 b)) (pos 0) → z ≡ false
-        → w ≡ op (toZ w64 (ofZ w64 a)) (toZ w64 (ofZ w64 b)) → stores w t ≡ divided op s v t
-    unfolding required
-    divides op e k w = rw (w, toZ-ofZ w64 a f, p, q, required) (go (sym (rw (toZ-ofZ w64 b g) at e) ∙ k))
+    pub gives-quotient : (op : ℤ → ℤ → ℤ) {z : Bool} {w : Value} → z ≡ eqZ (toZ w64 (ofZ w64 b)) (pos 0) → z ≡ false
+        → w ≡ Int (op (toZ w64 (ofZ w64 a)) (toZ w64 (ofZ w64 b))) → storing w t ≡ handed program choices t (divides op s v)
+    unfolding asked
+    gives-quotient op e k w = rw (w, toZ-ofZ w64 a f, p, q, asked) (go (sym (rw (toZ-ofZ w64 b g) at e) ∙ k))
       where
-        go : eqZ b (pos 0) ≡ false → stores (op a (toZ w64 (ofZ w64 b))) t ≡ divided op (Int a) (Int b) t
+        go : eqZ b (pos 0) ≡ false → storing (Int (op a (toZ w64 (ofZ w64 b)))) t ≡ handed program choices t (divides op (Int a) (Int b))
         go z = rw (z, toZ-ofZ w64 b g)
 
 -- a divisor that the test let pass
@@ -77,23 +84,24 @@ pub index-fits : (a : ℤ) → SFits w64 a → ltZ (toZ w64 (ofZ w64 a)) (pos 0)
     → T (nonNeg (toZ w64 (ofZ w64 a))) × Fits w64 (natAbs (toZ w64 (ofZ w64 a)))
 index-fits a f e = rw (natural a f e) (tt, ofZ-fits w64 a f)
 
-module _ (words : List ℤ) (v : Value) (t : Active) where
-  pub no-index : NotInt v → faults 31 ≡ fetched words v t
-  unfolding required
-  no-index k = not-int (λ (w : Value). faults 31 ≡ fetched words w t) (λ b. refl) (λ b d. refl) v k
+module _ (program : Program) (choices : Choices) (words : List ℤ) (v : Value) (t : Active) where
+  pub no-index : NotInt v → ending (Faults 31) ≡ handed program choices t (fetches words v)
+  unfolding asked
+  no-index k = not-int (λ (w : Value). ending (Faults 31) ≡ handed program choices t (fetches words w)) (λ b. refl) (λ b d. refl) v k
 
   module _ {a : ℤ} (p : v ≡ Int a) (f : SFits w64 a) where
-    pub index-negative : ltZ (toZ w64 (ofZ w64 a)) (pos 0) ≡ true → faults 33 ≡ fetched words v t
-    unfolding required
-    index-negative e = rw (p, required, is-negative a (rw (toZ-ofZ w64 a f) at e))
+    pub index-negative : ltZ (toZ w64 (ofZ w64 a)) (pos 0) ≡ true → ending (Faults 33) ≡ handed program choices t (fetches words v)
+    unfolding asked
+    index-negative e = rw (p, asked, is-negative a (rw (toZ-ofZ w64 a f) at e))
 
-    pub index-past : ltZ (toZ w64 (ofZ w64 a)) (pos 0) ≡ false → length words ≤ natAbs (toZ w64 (ofZ w64 a)) → faults 33 ≡ fetched words v t
-    unfolding required
+    pub index-past : ltZ (toZ w64 (ofZ w64 a)) (pos 0) ≡ false → length words ≤ natAbs (toZ w64 (ofZ w64 a))
+        → ending (Faults 33) ≡ handed program choices t (fetches words v)
+    unfolding asked
     index-past e h =
-        rw (p, required, not-negative a (rw (toZ-ofZ w64 a f) at e), le-ltb (natAbs a) (length words) (rw (toZ-ofZ w64 a f) at h))
+        rw (p, asked, not-negative a (rw (toZ-ofZ w64 a f) at e), le-ltb (natAbs a) (length words) (rw (toZ-ofZ w64 a f) at h))
 
-    pub fetches : ltZ (toZ w64 (ofZ w64 a)) (pos 0) ≡ false → natAbs (toZ w64 (ofZ w64 a)) < length words
-        → {w : Value} → w ≡ Int (getD words (natAbs (toZ w64 (ofZ w64 a))) (pos 0)) → stores w t ≡ fetched words v t
-    unfolding required
-    fetches e h w =
-        rw (w, p, toZ-ofZ w64 a f, required, not-negative a (rw (toZ-ofZ w64 a f) at e), lt-ltb (natAbs a) (length words) (rw (toZ-ofZ w64 a f) at h))
+    pub gives-word : ltZ (toZ w64 (ofZ w64 a)) (pos 0) ≡ false → natAbs (toZ w64 (ofZ w64 a)) < length words
+        → {w : Value} → w ≡ Int (getD words (natAbs (toZ w64 (ofZ w64 a))) (pos 0)) → storing w t ≡ handed program choices t (fetches words v)
+    unfolding asked
+    gives-word e h w =
+        rw (w, p, toZ-ofZ w64 a f, asked, not-negative a (rw (toZ-ofZ w64 a f) at e), lt-ltb (natAbs a) (length words) (rw (toZ-ofZ w64 a f) at h))

@@ -8,9 +8,9 @@ use native.Mathlib.Omega.{arith}
 use lib.ListN.{getD, set}
 use types.Run.{OneOf, miss}
 use denote.Enum.Declared.{tagOf}
-use Rattle.agreement.specs.Facts.{clash}
+use Rattle.agreement.proofs.Facts.{clash}
 use Rattle.image.specs.declared.Block.{Block}
-use Rattle.image.specs.Layout.{blockOf}
+use Rattle.image.specs.Program.{Program}
 use Rattle.task.specs.declared.Register.{Register}
 use Rattle.task.specs.declared.Status.{Status}
 use Rattle.task.specs.declared.Status.the-variants.{Vacant, Running, Waiting, Halted, Faulted}
@@ -44,53 +44,53 @@ module _ (child : List Register) where
 
 -- ---- the joined task, by its status
 
-module _ (cells : List ℕ) (p c : Task) {s : Status} (h : s ≡ statusBy (firstFault (faultOf (p .status)) (faultOf (c .status)))) where
+module _ (program : Program) (p c : Task) {s : Status} (h : s ≡ statusBy (firstFault (faultOf (p .status)) (faultOf (c .status)))) where
   -- the continuation of the parent's innermost fork
   abbrev continuation : ℕ
   continuation = getD (p .forks) (p .depth - 1) zeroFork .continuation
 
   pub joins-faulted : {n : ℕ} {t : Task} → s ≡ Faulted n → t ≡ outwardTask (Faulted n) 0 p c
-      → record { task = t; faulted = true; pairs = 0; packed = 0 } ≡ jointOf cells p c
+      → record { task = t; faulted = true; pairs = 0; packed = 0 } ≡ jointOf program p c
   unfolding jointOf
   joins-faulted {n} k e = rw e (go (firstFault (faultOf (p .status)) (faultOf (c .status))) (sym h ∙ k))
     where
       go : (o : Option ℕ) → statusBy o ≡ Faulted n
-          → record { task = outwardTask (Faulted n) 0 p c; faulted = true; pairs = 0; packed = 0 } ≡ jointBy o cells continuation p c
+          → record { task = outwardTask (Faulted n) 0 p c; faulted = true; pairs = 0; packed = 0 } ≡ jointBy o program continuation p c
       go none e = let z : _≡_ {A = ℕ} 0 1 = cc in absurd (omega arith)
       go (some m) e = ap (λ (f : Status). record { task = outwardTask f 0 p c; faulted = true; pairs = 0; packed = 0 }) (sym e)
 
-  pub joins-running : OneOf (0 ∷ 1 ∷ 2 ∷ 3 ∷ []) (tagOf the-type s) → {b : Block} {pc : ℕ} {t : Task} → b ≡ blockOf cells continuation
-      → pc ≡ blockOf cells (b .label) .first → t ≡ outwardTask Running pc p c
-      → record { task = t; faulted = false; pairs = b .pairs; packed = b .packed } ≡ jointOf cells p c
+  pub joins-running : OneOf (0 ∷ 1 ∷ 2 ∷ 3 ∷ []) (tagOf the-type s) → {b : Block} {pc : ℕ} {t : Task} → b ≡ program .block continuation
+      → pc ≡ program .block (b .label) .first → t ≡ outwardTask Running pc p c
+      → record { task = t; faulted = false; pairs = b .pairs; packed = b .packed } ≡ jointOf program p c
   unfolding jointOf
   joins-running k {b} {pc} {t} x y z = go (firstFault (faultOf (p .status)) (faultOf (c .status))) (ap faultOf (sym h) ∙ no-fault s k)
     where
-      go : (o : Option ℕ) → faultOf (statusBy o) ≡ none → record { task = t; faulted = false; pairs = b .pairs; packed = b .packed } ≡ jointBy o cells continuation p c
+      go : (o : Option ℕ) → faultOf (statusBy o) ≡ none → record { task = t; faulted = false; pairs = b .pairs; packed = b .packed } ≡ jointBy o program continuation p c
       go none e = rw (z, y, x)
       go (some m) e = let z : _≡_ {A = ℕ} 0 1 = cc in absurd (omega arith)
 
 -- a join is that task with those registers
-pub join-joint : (cells : List ℕ) (p c : Frame) → let j = jointOf cells (p .task) (c .task) in
-    join cells p c ≡ record { task = j .task; registers = jointRegisters (j .faulted) (j .pairs) (j .packed) (p .registers) (c .registers) }
+pub join-joint : (program : Program) (p c : Frame) → let j = jointOf program (p .task) (c .task) in
+    join program p c ≡ record { task = j .task; registers = jointRegisters (j .faulted) (j .pairs) (j .packed) (p .registers) (c .registers) }
 unfolding join jointOf
-join-joint cells p c = go (firstFault (faultOf (p .task .status)) (faultOf (c .task .status)))
+join-joint program p c = go (firstFault (faultOf (p .task .status)) (faultOf (c .task .status)))
   where
     b : ℕ
     b = getD (p .task .forks) (p .task .depth - 1) zeroFork .continuation
 
-    go : (o : Option ℕ) → joinedBy o cells b p c ≡ record { task = jointBy o cells b (p .task) (c .task) .task; registers = jointRegisters (jointBy o cells b (p .task) (c .task) .faulted) (jointBy o cells b (p .task) (c .task) .pairs) (jointBy o cells b (p .task) (c .task) .packed) (p .registers) (c .registers) }
+    go : (o : Option ℕ) → joinedBy o program b p c ≡ record { task = jointBy o program b (p .task) (c .task) .task; registers = jointRegisters (jointBy o program b (p .task) (c .task) .faulted) (jointBy o program b (p .task) (c .task) .pairs) (jointBy o program b (p .task) (c .task) .packed) (p .registers) (c .registers) }
     go none = refl
     go (some n) = refl
 
 -- of a faulted one no pair is copied
-pub faulted-pairs : (cells : List ℕ) (p c : Task) {j : Joint} → j ≡ jointOf cells p c → j .faulted ≡ true → j .pairs ≡ 0
+pub faulted-pairs : (program : Program) (p c : Task) {j : Joint} → j ≡ jointOf program p c → j .faulted ≡ true → j .pairs ≡ 0
 unfolding jointOf
-faulted-pairs cells p c {j} e f =
+faulted-pairs program p c {j} e f =
     ap (λ (o : Joint). o .pairs) e ∙ go (firstFault (faultOf (p .status)) (faultOf (c .status))) (sym (ap (λ (o : Joint). o .faulted) e) ∙ f)
   where
     b : ℕ
     b = getD (p .forks) (p .depth - 1) zeroFork .continuation
 
-    go : (o : Option ℕ) → jointBy o cells b p c .faulted ≡ true → jointBy o cells b p c .pairs ≡ 0
+    go : (o : Option ℕ) → jointBy o program b p c .faulted ≡ true → jointBy o program b p c .pairs ≡ 0
     go none h = clash h refl
     go (some n) h = refl

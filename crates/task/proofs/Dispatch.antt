@@ -6,29 +6,34 @@ use native.Mathlib.Omega.{arith}
 use lib.IntN.{ℤ}
 use lib.ListN.{getD}
 use Rattle.image.specs.declared.Instruction.{Instruction}
+use Rattle.image.specs.Program.{Program}
+use Rattle.image.specs.Questions.{mostInstructions}
 use Rattle.image.proofs.Accepted.{accepted}
 use Rattle.task.specs.declared.Value.{Value}
 use Rattle.task.specs.declared.Fork.{Fork}
 use Rattle.task.specs.declared.Active.{Active}
-use Rattle.task.specs.Step.{unknown, opcodes}
-use Rattle.task.specs.Execute.{Ready, countedActive, faults, executedAs, executed}
+use Rattle.task.specs.declared.Kind.the-variants.{Faults}
+use Rattle.task.specs.Choices.{Choices}
+use Rattle.task.specs.Effect.{unknown, opcodes, effectOf}
+use Rattle.task.specs.Execute.{Ready, countedActive, ending, handed, executed}
 use Rattle.task.proofs.Opcodes.{no-opcode}
 
 module _ (cells : List ℕ) {s v : Value} {t n : Active} (e : n ≡ countedActive t) (r : Ready cells s v t) where
-  pub counted-pc : n .pc < 1024
+  pub counted-pc : n .pc < mostInstructions
   counted-pc = rw e (omega (arith, r .pc-below, accepted cells (r .accepted-program) .few-instructions))
 
   pub counted-depth : n .depth ≤ 6
   counted-depth = rw e (r .depth-most)
 
-module _ (cells : List ℕ) (words : List ℤ) (interval : ℕ) (x : Instruction) (s v : Value) (t : Active) (l : List Fork) {n : Active}
+module _ (program : Program) (words : List ℤ) (choices : Choices) (x : Instruction) (s v : Value) (t : Active) (l : List Fork) {n : Active}
     (e : n ≡ countedActive t) where
-  pub sends : (m : ℕ) → x .opcode ≡ m → executedAs cells words interval s v n l (getD opcodes m unknown) ≡ executed cells words interval x s v t l
+  pub sends : (m : ℕ) → x .opcode ≡ m
+      → handed program choices n (effectOf program words choices s v n l (getD opcodes m unknown)) ≡ executed program words choices x s v t l
   unfolding executed
   sends m k = rw (e, k)
 
   -- any other number than 1 to 15
-  pub sends-nowhere : (1 ≤ x .opcode → 15 < x .opcode) → faults 8 ≡ executed cells words interval x s v t l
+  pub sends-nowhere : (1 ≤ x .opcode → 15 < x .opcode) → ending (Faults 8) ≡ executed program words choices x s v t l
   unfolding executed
   sends-nowhere h = rw (other (x .opcode) h)
     where

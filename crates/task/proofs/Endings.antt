@@ -1,11 +1,11 @@
 -- How a formed task that is not running has ended its side or the job.
 use mathlib.Core.Path.{_≡_, refl}
 use mathlib.Core.Bool.{true, false, _&&_}
-use mathlib.Core.List.{List}
 use Prim.Native.Nat.{ℕ, _<_}
 use lib.Dec.{eqb, ltb, leb}
 use borrow.Author.Tests.{eqb-true, ltb-true, leb-true}
 use Rattle.image.proofs.Booleans.{clash, both-true}
+use Rattle.image.specs.Program.{Program}
 use Rattle.task.specs.declared.Status.{Status}
 use Rattle.task.specs.declared.Status.the-variants.{Vacant, Running, Waiting, Halted, Faulted}
 use Rattle.task.specs.declared.Task.{Task}
@@ -31,7 +31,7 @@ rests t e =
     let p = both-true (eqb (t .pc) 0) (eqb (t .counter) 0) e in
     (eqb-true (t .pc) 0 (p .0), eqb-true (t .counter) 0 (p .1))
 
-module _ (cells : List ℕ) (D h : ℕ) (f : Frame) (x : Formed cells D h f) (idle : running f ≡ false) where
+module _ (program : Program) (D h : ℕ) (f : Frame) (x : Formed program D h f) (idle : running f ≡ false) where
   ending-by : (s : Status) → f .task .status ≡ s → statusFits f s ≡ true → isRunning s ≡ false → Ending f × Rests (f .task)
   ending-by Vacant e fit r = clash fit refl
   ending-by Running e fit r = clash refl r

@@ -1,80 +1,87 @@
--- One instruction carried out on small values, and applied to the frame as it was before, is `step`.
+-- What the machine makes of a frame with what `execute` hands it is `step`.
 use mathlib.Core.Path.{_≡_, refl}
 use mathlib.Core.Bool.{Bool, true, false}
 use mathlib.Core.List.{List}
 use Prim.Native.Nat.{ℕ}
-use lib.IntN.{ℤ, pos}
+use lib.IntN.{ℤ}
 use lib.Dec.{eqb}
-use lib.ListN.{getD}
+use lib.ListN.{set}
 use borrow.Author.Tests.{eqb-true}
-use Rattle.int64.specs.Equal.{eqZ}
 use Rattle.image.specs.declared.Instruction.{Instruction}
-use Rattle.image.specs.Layout.{instructionOf}
-use Rattle.agreement.specs.Plain.{Stepped, one}
+use Rattle.image.specs.Program.{Program}
+use Rattle.agreement.specs.Plain.{Stepped, one, two}
 use Rattle.task.specs.declared.Value.{Value}
+use Rattle.task.specs.declared.Status.the-variants.{Waiting, Halted, Faulted}
 use Rattle.task.specs.declared.Active.{Active}
+use Rattle.task.specs.declared.Task.{Task}
 use Rattle.task.specs.declared.Frame.{Frame}
+use Rattle.task.specs.declared.Kind.{Kind}
+use Rattle.task.specs.declared.Kind.the-variants.{Stores, Goes, Waits, Halts, Faults, Forks}
 use Rattle.task.specs.declared.Executed.{Executed}
-use Rattle.task.specs.Values.{integerOf, labelOf, recordOf}
-use Rattle.task.specs.Step.{register, operand, counted, withTask, asked, promotes, enteredBy, entered, jumpedIf, metBy, Op, move, plus, minus, times, divide, modulo, less, equal, word, ifJump, jralloc, fork, jump, halt, meet, unknown, opcodes, carriedOut, step}
-use Rattle.task.specs.Execute.{activeOf, countedActive, required, entersBy, enters, branchedBy, metAt, executedAs, executed, applied, selected}
+use Rattle.task.specs.Frames.{zeros}
+use Rattle.task.specs.Values.{recordOf}
+use Rattle.task.specs.Choices.{Choices}
+use Rattle.task.specs.Effect.{Effect, stores, continues, enters, forks, waits, halts, faults, effectOf}
+use Rattle.task.specs.Step.{register, operand, opOf, activeOf, counted, movedTo, ended, side, withTask, promotes, enteredBy, entered, applied, step}
+use Rattle.task.specs.Execute.{countedActive, enteringBy, entering, handed, executed, selected}
 
-module _ (cells : List ℕ) (words : List ℤ) (interval : ℕ) where
-  module _ (f : Frame) (x : Instruction) where
-    -- the frame, and the numbers of its task, that have counted the instruction
-    abbrev g : Frame
-    g = withTask (counted (f .task)) f
+-- ---- What the machine makes of the frame as it was before the instruction
 
-    abbrev a : Active
-    a = countedActive (activeOf (f .task))
+-- the task goes on, at the instruction and with the counter that are left
+abbrev pub after : Executed → Task → Task
+after e t = movedTo (e .pc) (e .counter) (counted t)
 
-    -- a question answered with no is a fault of the frame
-    asks : (b : Bool) (n : ℕ) {after : Stepped Frame} (e : Executed) → after ≡ applied f x e → asked g b n after ≡ applied f x (required b n e)
-    unfolding asked required
-    asks true n e h = h
-    asks false n e h = refl
+-- the sides of a fork: the child starts at pc, counter 0
+abbrev pub parentSide : Executed → Task → Task
+parentSide e t = side (recordOf (e .value)) (e .pc) (e .counter) (counted t)
 
-    enters-block : (b : ℕ) → one (withTask (entered cells interval b (g .task)) g) ≡ applied f x (enters cells interval b a)
-    enters-block b = go (promotes cells interval b (a .counter) (a .places))
-      where
-        go : (t : Bool) → one (withTask (enteredBy t cells b (g .task)) g) ≡ applied f x (entersBy t cells b a)
-        go true = refl
-        go false = refl
+abbrev pub childSide : ℕ → Executed → Task → Task
+childSide pc e t = movedTo pc 0 (parentSide e t)
 
-    branches : (b : Bool) (v : Value) → jumpedIf b cells interval v g ≡ applied f x (branchedBy b cells interval v a)
-    branches true v = asks _ 34 _ (enters-block (labelOf v))
-    branches false v = refl
+-- by its kind: the value goes to r; the registers stay; a fault's are 16 integers 0; the child has the parent's registers
+abbrev pub madeBy : Kind → Frame → ℕ → Executed → Stepped Frame
+madeBy Stores f r e = one (record { task = after e (f .task); registers = set (f .registers) r (record { value = e .value }) })
+madeBy Goes f r e = one (withTask (after e (f .task)) f)
+madeBy Waits f r e = one (withTask (ended Waiting (counted (f .task))) f)
+madeBy Halts f r e = one (withTask (ended Halted (counted (f .task))) f)
+madeBy (Faults n) f r e = one (record { task = ended (Faulted n) (counted (f .task)); registers = zeros })
+madeBy (Forks pc) f r e = two (withTask (parentSide e (f .task)) f) (withTask (childSide pc e (f .task)) f)
 
-    carried : (s v : Value) (op : Op)
-        → carriedOut cells words interval (x .r) s v g op ≡ applied f x (executedAs cells words interval s v a (f .task .forks) op)
-    carried s v move = refl
-    carried s v plus = asks _ 31 _ refl
-    carried s v minus = asks _ 31 _ refl
-    carried s v times = asks _ 31 _ refl
-    carried s v divide = asks _ 31 _ (asks _ 32 _ refl)
-    carried s v modulo = asks _ 31 _ (asks _ 32 _ refl)
-    carried s v less = asks _ 31 _ refl
-    carried s v equal = asks _ 31 _ refl
-    carried s v word = asks _ 31 _ (asks _ 33 _ refl)
-    carried s v ifJump = asks _ 31 _ (branches (eqZ (integerOf s) (pos 0)) v)
-    carried s v jralloc = asks _ 35 _ refl
-    carried s v fork = asks _ 36 _ (asks _ 34 _ (asks _ 37 _ refl))
-    carried s v jump = branches true v
-    carried s v halt = asks _ 38 _ refl
-    carried s v meet = asks _ 36 _ (meets (eqb (recordOf v .depth) (f .task .depth)))
-      where
-        meets : (b : Bool) → one (withTask (metBy b cells interval (recordOf v) (g .task)) g) ≡ applied f x (metAt b cells interval (recordOf v) a)
-        meets true = enters-block (recordOf v .continuation)
-        meets false = refl
-    carried s v unknown = refl
+abbrev pub made : Frame → Instruction → Executed → Stepped Frame
+made f x e = madeBy (e .kind) f (x .r) e
 
-  -- every frame
-  pub step-executed : (f : Frame) → let x = instructionOf cells (f .task .pc) in
-      step cells words interval f ≡ applied f x (executed cells words interval x (register f (x .s)) (operand f x) (activeOf (f .task)) (f .task .forks))
-  unfolding step executed
-  step-executed f =
-      let x = instructionOf cells (f .task .pc) in
-      carried f x (register f (x .s)) (operand f x) (getD opcodes (x .opcode) unknown)
+-- ---- It is what the effect makes of it
+
+module _ (program : Program) (choices : Choices) (f : Frame) (x : Instruction) where
+  -- the frame, and the numbers of its task, that have counted the instruction
+  abbrev g : Frame
+  g = withTask (counted (f .task)) f
+
+  abbrev t : Active
+  t = countedActive (activeOf (f .task))
+
+  makes : (e : Effect) → applied program choices (x .r) g e ≡ made f x (handed program choices t e)
+  makes (stores v) = refl
+  makes continues = refl
+  makes (enters b) = go (promotes program choices b (t .counter) (t .places))
+    where
+      go : (z : Bool) → one (withTask (enteredBy z program b (g .task)) g) ≡ made f x (enteringBy program choices z b t)
+      go true = refl
+      go false = refl
+  makes (forks k b) = refl
+  makes waits = refl
+  makes halts = refl
+  makes (faults n) = refl
+
+-- every frame
+pub step-executed : (program : Program) (words : List ℤ) (choices : Choices) (f : Frame) → let x = program .instruction (f .task .pc) in
+    step program words choices f
+    ≡ made f x (executed program words choices x (register f (x .s)) (operand f x) (activeOf (f .task)) (f .task .forks))
+unfolding step executed
+step-executed program words choices f =
+    let x = program .instruction (f .task .pc) in
+    makes program choices f x
+    (effectOf program words choices (register f (x .s)) (operand f x) (countedActive (activeOf (f .task))) (f .task .forks) (opOf x))
 
 -- the operand is read from the registers once: for another kind than 1 what was read does not count
 pub selected-is : (f : Frame) (x : Instruction) (held : Value) → (x .kind ≡ 1 → held ≡ register f (x .operand)) → selected x held ≡ operand f x

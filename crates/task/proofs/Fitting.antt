@@ -13,7 +13,7 @@ use borrow.Author.Tests.{eqb-true, eq-eqb, leb-true, le-leb}
 use Rattle.image.proofs.Booleans.{clash, both-true}
 use Rattle.task.specs.declared.Fork.{Fork}
 use Rattle.task.specs.Frames.{zeroFork}
-use Rattle.task.specs.Step.{belong, fits}
+use Rattle.task.specs.Effect.{belong, fits}
 use Rattle.task.proofs.Facts.{both-from}
 
 pub record Fits (k : Fork) (depth : ℕ) (forks : List Fork) : Type 0 where

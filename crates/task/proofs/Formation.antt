@@ -8,7 +8,7 @@ use native.Mathlib.Omega.{arith}
 use lib.Dec.{eqb, ltb}
 use lib.ListN.{length, getD, List·getD-eq-default}
 use borrow.Author.Tests.{eqb-true, ltb-true, eq-eqb, lt-ltb}
-use Rattle.image.specs.Layout.{blockCount, instructionCount, blockOf}
+use Rattle.image.specs.Program.{Program}
 use Rattle.image.proofs.Booleans.{both-true}
 use Rattle.task.specs.declared.Register.{Register}
 use Rattle.task.specs.declared.Frame.{Frame}
@@ -18,15 +18,15 @@ use Rattle.task.specs.Formed.{isTarget, valueFits, registersFit, forkFit
 use Rattle.task.proofs.Facts.{both-from, below-or-not, every-at, every-from, constant-at}
 
 -- a live task's frame: 2 ^ h places in a job of 2 ^ D
-pub record Formed (cells : List ℕ) (D h : ℕ) (f : Frame) : Type 0 where
+pub record Formed (program : Program) (D h : ℕ) (f : Frame) : Type 0 where
   pub registers-full : length (f .registers) ≡ 16
   pub forks-full : length (f .task .forks) ≡ 6
   pub has-places : f .task .places ≡ 2 ^ h
   pub has-depth : f .task .depth + h ≡ D
-  pub pc-below : f .task .pc < instructionCount cells
+  pub pc-below : f .task .pc < program .instructions
   pub status-fits : statusFits f (f .task .status) ≡ true
-  pub forks-fit : (i : ℕ) → i < 6 → forkFits cells (ltb i (f .task .depth)) (getD (f .task .forks) i zeroFork) ≡ true
-  pub values-fit : (i : ℕ) → valueFits cells (register f i) ≡ true
+  pub forks-fit : (i : ℕ) → i < 6 → forkFits program (ltb i (f .task .depth)) (getD (f .task .forks) i zeroFork) ≡ true
+  pub values-fit : (i : ℕ) → valueFits program (register f i) ≡ true
 
 -- a number of the fault list
 abbrev pub Listed : ℕ → Type 0
@@ -35,51 +35,51 @@ Listed n = (31 ≤ n) × (n ≤ 38)
 -- ---- registers
 
 -- past the sixteenth a register reads as the integer 0
-pub all-fit : (cells : List ℕ) (f : Frame) → length (f .registers) ≡ 16 → ((i : ℕ) → i < 16 → valueFits cells (register f i) ≡ true)
-    → (i : ℕ) → valueFits cells (register f i) ≡ true
-all-fit cells f full h i = ⊎-elim
+pub all-fit : (program : Program) (f : Frame) → length (f .registers) ≡ 16 → ((i : ℕ) → i < 16 → valueFits program (register f i) ≡ true)
+    → (i : ℕ) → valueFits program (register f i) ≡ true
+all-fit program f full h i = ⊎-elim
     (λ (z : i < 16). h i z)
-    (λ (z : 16 ≤ i). ap (λ (k : Register). valueFits cells (k .value)) (List·getD-eq-default (f .registers) zeroRegister {n = i} (omega arith)))
+    (λ (z : 16 ≤ i). ap (λ (k : Register). valueFits program (k .value)) (List·getD-eq-default (f .registers) zeroRegister {n = i} (omega arith)))
     (below-or-not i 16)
 
-pub zeros-fit : (cells : List ℕ) (i : ℕ) → valueFits cells (getD zeros i zeroRegister .value) ≡ true
-zeros-fit cells i = ap (λ (k : Register). valueFits cells (k .value)) (constant-at 16 i zeroRegister)
+pub zeros-fit : (program : Program) (i : ℕ) → valueFits program (getD zeros i zeroRegister .value) ≡ true
+zeros-fit program i = ap (λ (k : Register). valueFits program (k .value)) (constant-at 16 i zeroRegister)
 
-pub target-below : (cells : List ℕ) (b : ℕ) → isTarget cells b ≡ true → b < blockCount cells
+pub target-below : (program : Program) (b : ℕ) → isTarget program b ≡ true → b < program .blocks
 unfolding isTarget
-target-below cells b h = ltb-true b (blockCount cells) (both-true (ltb b (blockCount cells)) _ h .0)
+target-below program b h = ltb-true b (program .blocks) (both-true (ltb b (program .blocks)) _ h .0)
 
-pub target-from : (cells : List ℕ) (b : ℕ) → b < blockCount cells → eqb (blockOf cells b .annotation) 2 ≡ true → isTarget cells b ≡ true
+pub target-from : (program : Program) (b : ℕ) → b < program .blocks → eqb (program .block b .annotation) 2 ≡ true → isTarget program b ≡ true
 unfolding isTarget
-target-from cells b h e = both-from (lt-ltb b (blockCount cells) h) e
+target-from program b h e = both-from (lt-ltb b (program .blocks) h) e
 
 -- ---- the whole test
 
-module _ (cells : List ℕ) (D h : ℕ) (f : Frame) where
-  pub formed-is : formed cells D h f ≡ true → Formed cells D h f
+module _ (program : Program) (D h : ℕ) (f : Frame) where
+  pub formed-is : formed program D h f ≡ true → Formed program D h f
   unfolding formed
   formed-is e =
       let a = both-true (isFull f) _ e in
       let l = both-true (eqb (length (f .registers)) 16) (eqb (length (f .task .forks)) 6) (a .0) in
       let b = both-true (eqb (f .task .places) (2 ^ h)) _ (a .1) in
       let c = both-true (eqb (f .task .depth + h) D) _ (b .1) in
-      let d = both-true (ltb (f .task .pc) (instructionCount cells)) _ (c .1) in
+      let d = both-true (ltb (f .task .pc) (program .instructions)) _ (c .1) in
       let s = both-true (statusFits f (f .task .status)) _ (d .1) in
-      let k = both-true (forksFit cells (f .task)) (registersFit cells f) (s .1) in
+      let k = both-true (forksFit program (f .task)) (registersFit program f) (s .1) in
       let full = eqb-true (length (f .registers)) 16 (l .0) in
       record {
         registers-full = full;
         forks-full = eqb-true (length (f .task .forks)) 6 (l .1);
         has-places = eqb-true (f .task .places) (2 ^ h) (b .0);
         has-depth = eqb-true (f .task .depth + h) D (c .0);
-        pc-below = ltb-true (f .task .pc) (instructionCount cells) (d .0);
+        pc-below = ltb-true (f .task .pc) (program .instructions) (d .0);
         status-fits = s .0;
         forks-fit = λ i p.
-            every-at (λ i. forkFits cells (ltb i (f .task .depth)) (getD (f .task .forks) i zeroFork)) 6 0 (k .0) i (omega arith) (omega arith);
-        values-fit = all-fit cells f full (λ i p. every-at (λ i. valueFits cells (register f i)) 16 0 (k .1) i (omega arith) (omega arith));
+            every-at (λ i. forkFits program (ltb i (f .task .depth)) (getD (f .task .forks) i zeroFork)) 6 0 (k .0) i (omega arith) (omega arith);
+        values-fit = all-fit program f full (λ i p. every-at (λ i. valueFits program (register f i)) 16 0 (k .1) i (omega arith) (omega arith));
       }
 
-  pub is-formed : Formed cells D h f → formed cells D h f ≡ true
+  pub is-formed : Formed program D h f → formed program D h f ≡ true
   unfolding formed
   is-formed x =
       both-from (both-from (eq-eqb _ _ (x .registers-full)) (eq-eqb _ _ (x .forks-full)))
@@ -88,5 +88,5 @@ module _ (cells : List ℕ) (D h : ℕ) (f : Frame) where
       (both-from (lt-ltb _ _ (x .pc-below))
       (both-from (x .status-fits)
       (both-from
-      (every-from (λ i. forkFits cells (ltb i (f .task .depth)) (getD (f .task .forks) i zeroFork)) 6 0 (λ k p q. x .forks-fit k (omega arith)))
-      (every-from (λ i. valueFits cells (register f i)) 16 0 (λ k p q. x .values-fit k)))))))
+      (every-from (λ i. forkFits program (ltb i (f .task .depth)) (getD (f .task .forks) i zeroFork)) 6 0 (λ k p q. x .forks-fit k (omega arith)))
+      (every-from (λ i. valueFits program (register f i)) 16 0 (λ k p q. x .values-fit k)))))))

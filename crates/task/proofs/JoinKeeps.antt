@@ -8,7 +8,7 @@ use native.Mathlib.Omega.{arith}
 use lib.Dec.{ltb, leb}
 use lib.ListN.{length, getD, length-set}
 use borrow.Author.Tests.{leb-true, le-leb, lt-ltb}
-use Rattle.image.specs.Layout.{blockCount, instructionCount}
+use Rattle.image.specs.Layout.{blockCount, instructionCount, programOf}
 use Rattle.image.proofs.Booleans.{both-true}
 use Rattle.image.proofs.Accepted.{Accepted}
 use Rattle.task.specs.declared.Register.{Register}
@@ -60,7 +60,7 @@ first-listed (some n) c x y = x
 
 -- ---- the join
 
-module _ (cells : List ℕ) (ok : Accepted cells) (D : ℕ) (room : D ≤ 6) (h : ℕ) (p c : Frame) (x : Formed cells D h p) (y : Formed cells D h c)
+module _ (cells : List ℕ) (ok : Accepted cells) (D : ℕ) (room : D ≤ 6) (h : ℕ) (p c : Frame) (x : Formed (programOf cells) D h p) (y : Formed (programOf cells) D h c)
     (below : h < D) where
   -- the fork that is closed is the parent's innermost
   innermost : p .task .depth - 1 < 6
@@ -70,8 +70,8 @@ module _ (cells : List ℕ) (ok : Accepted cells) (D : ℕ) (room : D ≤ 6) (h 
   one-more = omega (arith, x .has-depth)
 
   outward-formed : (s : Status) (pc : ℕ) (l : List Register) → length l ≡ 16 → pc < instructionCount cells
-      → statusFits (outward s pc l (p .task) (c .task)) s ≡ true → ((i : ℕ) → valueFits cells (getD l i zeroRegister .value) ≡ true)
-      → Formed cells D (suc h) (outward s pc l (p .task) (c .task))
+      → statusFits (outward s pc l (p .task) (c .task)) s ≡ true → ((i : ℕ) → valueFits (programOf cells) (getD l i zeroRegister .value) ≡ true)
+      → Formed (programOf cells) D (suc h) (outward s pc l (p .task) (c .task))
   outward-formed s pc l full at fit values = record {
     registers-full = full;
     forks-full = simp length-set (x .forks-full);
@@ -79,29 +79,29 @@ module _ (cells : List ℕ) (ok : Accepted cells) (D : ℕ) (room : D ≤ 6) (h 
     has-depth = omega (arith, x .has-depth);
     pc-below = at;
     status-fits = fit;
-    forks-fit = closed-fits cells (p .task .forks) (p .task .depth - 1) innermost (x .forks-full) (rw one-more (x .forks-fit));
+    forks-fit = closed-fits (programOf cells) (p .task .forks) (p .task .depth - 1) innermost (x .forks-full) (rw one-more (x .forks-fit));
     values-fit = values;
   }
 
-  continues : (b : ℕ) → b < blockCount cells → Formed cells D (suc h) (joinedBy none cells b p c)
+  continues : (b : ℕ) → b < blockCount cells → Formed (programOf cells) D (suc h) (joinedBy none (programOf cells) b p c)
   continues b q =
       let label = ok .block b q .label-below in
       outward-formed Running _ _ (length-copied (c .registers) _ _ (p .registers) ∙ x .registers-full) (ok .block _ label .first-below) refl
-      (copied-keeps (λ r. valueFits cells (r .value) ≡ true) (c .registers) (y .values-fit) _ _ (p .registers) (x .values-fit))
+      (copied-keeps (λ r. valueFits (programOf cells) (r .value) ≡ true) (c .registers) (y .values-fit) _ _ (p .registers) (x .values-fit))
 
-  stops : (b n : ℕ) → Listed n → Formed cells D (suc h) (joinedBy (some n) cells b p c)
+  stops : (b n : ℕ) → Listed n → Formed (programOf cells) D (suc h) (joinedBy (some n) (programOf cells) b p c)
   unfolding every
   stops b n l =
       outward-formed (Faulted n) 0 zeros refl (ok .some-instruction)
-      (both-from (le-leb 31 n (l .0)) (both-from (le-leb n 38 (l .1)) refl)) (zeros-fit cells)
+      (both-from (le-leb 31 n (l .0)) (both-from (le-leb n 38 (l .1)) refl)) (zeros-fit (programOf cells))
 
-  target : isTarget cells (getD (p .task .forks) (p .task .depth - 1) zeroFork .continuation) ≡ true
+  target : isTarget (programOf cells) (getD (p .task .forks) (p .task .depth - 1) zeroFork .continuation) ≡ true
   target =
       let here : ltb (p .task .depth - 1) (p .task .depth) ≡ true =
       lt-ltb (p .task .depth - 1) (p .task .depth) (omega (arith, x .has-depth)) in
       rw here at (x .forks-fit (p .task .depth - 1) innermost)
 
-  pub join-formed : Formed cells D (suc h) (join cells p c)
+  pub join-formed : Formed (programOf cells) D (suc h) (join (programOf cells) p c)
   unfolding join
   join-formed =
       let fp = faultOf (p .task .status) in
@@ -111,6 +111,6 @@ module _ (cells : List ℕ) (ok : Accepted cells) (D : ℕ) (room : D ≤ 6) (h 
       b : ℕ
       b = getD (p .task .forks) (p .task .depth - 1) zeroFork .continuation
 
-      go : (o : Option ℕ) → Fault o → Formed cells D (suc h) (joinedBy o cells b p c)
-      go none l = continues b (target-below cells b target)
+      go : (o : Option ℕ) → Fault o → Formed (programOf cells) D (suc h) (joinedBy o (programOf cells) b p c)
+      go none l = continues b (target-below (programOf cells) b target)
       go (some n) l = stops b n l

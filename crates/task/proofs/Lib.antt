@@ -1,8 +1,12 @@
 -- The laws of one task: what the tests of a frame say, and what `step` and `join` keep.
 pub mod Facts
+pub mod EveryLaws
+pub mod StretchLaws
+pub mod Sizes
 pub mod Formation
 pub mod Fitting
 pub mod Forks
+pub mod Effects
 pub mod Opcodes
 pub mod StepKeeps
 pub mod JoinKeeps

@@ -9,7 +9,7 @@ use lib.ListN.{getD, List·getD-eq-default}
 use borrow.Author.Tests.{eqb-true, leb-false}
 use Rattle.image.specs.Questions.{same}
 use Rattle.image.proofs.Booleans.{clash}
-use Rattle.task.specs.Step.{Op, move, plus, minus, times, divide, modulo, less, equal, word, ifJump, jralloc, fork, jump, halt, meet, unknown, opcodes}
+use Rattle.task.specs.Effect.{Op, move, plus, minus, times, divide, modulo, less, equal, word, ifJump, jralloc, fork, jump, halt, meet, unknown, opcodes}
 use Rattle.task.specs.Formed.{every}
 use Rattle.task.proofs.Facts.{every-at}
 

@@ -1,12 +1,11 @@
 -- The computed tests of one slot's frame, for question 20: a live task's, and a vacant slot's.
 use mathlib.Core.Bool.{Bool, true, false, _&&_}
-use mathlib.Core.List.{List}
 use Prim.Native.Nat.{ℕ, zero, suc, _+_, _^_}
 use lib.Dec.{eqb, ltb, leb}
 use lib.IntN.{pos}
 use lib.ListN.{length, getD}
 use Rattle.int64.specs.Equal.{eqZ}
-use Rattle.image.specs.Layout.{blockCount, instructionCount, blockOf}
+use Rattle.image.specs.Program.{Program}
 use Rattle.task.specs.declared.Value.{Value}
 use Rattle.task.specs.declared.Value.the-variants.{Int, Label, Record}
 use Rattle.task.specs.declared.Status.{Status}
@@ -25,22 +24,22 @@ every test (suc n) i = elim (test i) [ true ↦ every test n (i + 1) | false ↦
 -- ---- Registers
 
 -- block b is a join target of the program
-unfoldable pub isTarget : List ℕ → ℕ → Bool
-isTarget cells b = ltb b (blockCount cells) && eqb (blockOf cells b .annotation) 2
+unfoldable pub isTarget : Program → ℕ → Bool
+isTarget program b = ltb b (program .blocks) && eqb (program .block b .annotation) 2
 
 -- every label of a live register is below B, every record's continuation a join target
-abbrev pub valueFits : List ℕ → Value → Bool
-valueFits cells (Int z) = true
-valueFits cells (Label b) = ltb b (blockCount cells)
-valueFits cells (Record c d) = isTarget cells c
+abbrev pub valueFits : Program → Value → Bool
+valueFits program (Int z) = true
+valueFits program (Label b) = ltb b (program .blocks)
+valueFits program (Record c d) = isTarget program c
 
 abbrev pub isZero : Value → Bool
 isZero (Int z) = eqZ z (pos 0)
 isZero (Label b) = false
 isZero (Record c d) = false
 
-abbrev pub registersFit : List ℕ → Frame → Bool
-registersFit cells f = every (λ i. valueFits cells (register f i)) 16 0
+abbrev pub registersFit : Program → Frame → Bool
+registersFit program f = every (λ i. valueFits program (register f i)) 16 0
 
 -- 16 integers 0
 abbrev pub registersZero : Frame → Bool
@@ -52,13 +51,13 @@ abbrev pub isZeroFork : Fork → Bool
 isZeroFork k = eqb (k .continuation) 0 && eqb (k .depth) 0
 
 -- an open fork names a join target; an entry that is not in use is 0
-abbrev pub forkFits : List ℕ → Bool → Fork → Bool
-forkFits cells true k = isTarget cells (k .continuation)
-forkFits cells false k = isZeroFork k
+abbrev pub forkFits : Program → Bool → Fork → Bool
+forkFits program true k = isTarget program (k .continuation)
+forkFits program false k = isZeroFork k
 
 -- the task's depth is its number of open forks
-abbrev pub forksFit : List ℕ → Task → Bool
-forksFit cells t = every (λ i. forkFits cells (ltb i (t .depth)) (getD (t .forks) i zeroFork)) 6 0
+abbrev pub forksFit : Program → Task → Bool
+forksFit program t = every (λ i. forkFits program (ltb i (t .depth)) (getD (t .forks) i zeroFork)) 6 0
 
 -- ---- Status
 
@@ -81,13 +80,13 @@ abbrev pub isFull : Frame → Bool
 isFull f = eqb (length (f .registers)) 16 && eqb (length (f .task .forks)) 6
 
 -- a live task with 2 ^ h places in a job of 2 ^ D: at depth D - h
-unfoldable pub formed : List ℕ → ℕ → ℕ → Frame → Bool
-formed cells D h f =
+unfoldable pub formed : Program → ℕ → ℕ → Frame → Bool
+formed program D h f =
     isFull f
     && (eqb (f .task .places) (2 ^ h)
     && (eqb (f .task .depth + h) D
-    && (ltb (f .task .pc) (instructionCount cells)
-    && (statusFits f (f .task .status) && (forksFit cells (f .task) && registersFit cells f)))))
+    && (ltb (f .task .pc) (program .instructions)
+    && (statusFits f (f .task .status) && (forksFit program (f .task) && registersFit program f)))))
 
 abbrev pub isVacantStatus : Status → Bool
 isVacantStatus Vacant = true

@@ -65,3 +65,7 @@ startFrame places registers = record {
   task = record { status = Running; places = places; pc = 0; counter = 0; span = 0; depth = 0; forks = noForks };
   registers = registers;
 }
+
+-- the most work that a state can show (24): no counter and no span is above it
+abbrev pub workLimit : ℕ
+workLimit = 4294967295

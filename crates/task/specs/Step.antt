@@ -1,29 +1,28 @@
--- One instruction carried out on one task (`step`), and the task that two ended sides make (`join`), in document 01's order.
-use mathlib.Core.Bool.{Bool, true, false, not, _&&_}
-use mathlib.Core.List.{List, [], _∷_}
+-- One instruction carried out on one task (`step`): what its effect makes of the task. And the task that two ended sides make (`join`).
+use mathlib.Core.Bool.{Bool, true, false, _&&_}
+use mathlib.Core.List.{List}
 use mathlib.Core.Option.{Option, none, some}
 use Prim.Native.Nat.{ℕ, zero, suc, _+_, _-_, _/_, _%_, max}
-use lib.Dec.{eqb, ltb, leb}
-use lib.IntN.{ℤ, pos, natAbs, _+ℤ_, _-ℤ_, _*ℤ_}
-use lib.Signed.{quotZ, remZ, ltZ, nonNeg}
-use lib.ListN.{length, getD, set}
+use lib.Dec.{eqb, leb}
+use lib.IntN.{ℤ}
+use lib.ListN.{getD, set}
 use mir.Syntax.{w64}
 use mir.Val.{toZ}
-use Rattle.int64.specs.Equal.{eqZ}
-use Rattle.int64.specs.Wrapped.{wrapped}
 use Rattle.image.specs.declared.Instruction.{Instruction}
-use Rattle.image.specs.Layout.{blockOf, instructionOf}
+use Rattle.image.specs.Program.{Program}
+use Rattle.agreement.specs.Plain.{Stepped, one, two}
 use Rattle.task.specs.declared.Value.{Value}
-use Rattle.task.specs.declared.Value.the-variants.{Int, Label, Record}
+use Rattle.task.specs.declared.Value.the-variants.{Int, Label}
 use Rattle.task.specs.declared.Register.{Register}
 use Rattle.task.specs.declared.Status.{Status}
 use Rattle.task.specs.declared.Status.the-variants.{Running, Waiting, Halted, Faulted}
 use Rattle.task.specs.declared.Fork.{Fork}
+use Rattle.task.specs.declared.Active.{Active}
 use Rattle.task.specs.declared.Task.{Task}
 use Rattle.task.specs.declared.Frame.{Frame}
-use Rattle.agreement.specs.Plain.{Stepped, one, two}
 use Rattle.task.specs.Frames.{zeroRegister, zeros, zeroFork, faultOf}
-use Rattle.task.specs.Values.{isInt, isLabel, isRecord, integerOf, labelOf, recordOf, truth}
+use Rattle.task.specs.Choices.{Choices}
+use Rattle.task.specs.Effect.{Effect, stores, continues, enters, forks, waits, halts, faults, Op, unknown, opcodes, effectOf}
 
 -- ---- Operands
 
@@ -38,7 +37,14 @@ operand f x = elim (eqb (x .kind) 1) [
   | false ↦ elim (eqb (x .kind) 2) [ true ↦ Label (x .operand) | false ↦ Int (toZ w64 (x .operand)) ]
 ]
 
--- ---- What an instruction leaves
+abbrev pub opOf : Instruction → Op
+opOf x = getD opcodes (x .opcode) unknown
+
+-- what an instruction looks at of a task, besides its open forks
+abbrev pub activeOf : Task → Active
+activeOf t = record { places = t .places; pc = t .pc; counter = t .counter; depth = t .depth }
+
+-- ---- What an instruction leaves of a task
 
 -- it adds 1 to the task's counter and span
 abbrev pub counted : Task → Task
@@ -71,57 +77,6 @@ onward t = movedTo (t .pc + 1) (t .counter) t
 abbrev pub ended : Status → Task → Task
 ended s t = record { status = s; places = t .places; pc = 0; counter = 0; span = t .span; depth = t .depth; forks = t .forks }
 
-abbrev pub withTask : Task → Frame → Frame
-withTask t f = record { task = t; registers = f .registers }
-
--- r := v
-abbrev pub stored : ℕ → Value → Frame → Frame
-stored r v f = record { task = onward (f .task); registers = set (f .registers) r (record { value = v }) }
-
--- a fault sets the task's registers to 16 integers 0 and ends its side
-abbrev pub faulted : ℕ → Frame → Frame
-faulted n f = record { task = ended (Faulted n) (f .task); registers = zeros }
-
--- a question inside a task: the fault n where the test fails, else what comes after it
-unfoldable pub asked : Frame → Bool → ℕ → Stepped Frame → Stepped Frame
-asked f true n after = after
-asked f false n after = one (faulted n f)
-
--- ---- Entering a block by jump, taken if-jump or join
-
--- it is promotion-ready, the interval isn't 0, the counter is at least the interval (02, request 1) and the task has two places or more
-unfoldable pub promotes : List ℕ → ℕ → ℕ → ℕ → ℕ → Bool
-promotes cells interval b counter places =
-    eqb (blockOf cells b .annotation) 1 && (not (eqb interval 0) && (leb interval counter && leb 2 places))
-
--- then the counter becomes 0 and control goes to the handler; otherwise it enters the block
-abbrev pub enteredBy : Bool → List ℕ → ℕ → Task → Task
-enteredBy true cells b t = movedTo (blockOf cells (blockOf cells b .label) .first) 0 t
-enteredBy false cells b t = movedTo (blockOf cells b .first) (t .counter) t
-
-abbrev pub entered : List ℕ → ℕ → ℕ → Task → Task
-entered cells interval b t = enteredBy (promotes cells interval b (t .counter) (t .places)) cells b t
-
--- jump target a label? (34) if-jump looks only when it jumps
-abbrev pub jumpedIf : Bool → List ℕ → ℕ → Value → Frame → Stepped Frame
-jumpedIf true cells interval v f = asked f (isLabel v) 34 (one (withTask (entered cells interval (labelOf v) (f .task)) f))
-jumpedIf false cells interval v f = one (withTask (onward (f .task)) f)
-
--- ---- Forks and joins
-
--- the n open forks from i on belong to the record k
-unfoldable pub belong : List Fork → Fork → ℕ → ℕ → Bool
-belong forks k zero i = true
-belong forks k (suc n) i =
-    elim (eqb (getD forks i zeroFork .continuation) (k .continuation) && eqb (getD forks i zeroFork .depth) (k .depth)) [
-      | true ↦ belong forks k n (i + 1)
-      | false ↦ false
-    ]
-
--- a record fits a task when its depth is not above the task's and every fork opened beyond that depth belongs to it
-unfoldable pub fits : Fork → ℕ → List Fork → Bool
-fits k depth forks = leb (k .depth) depth && belong forks k (depth - k .depth) (k .depth)
-
 -- one side of a fork: half of the places, and an open fork more, under the record
 abbrev pub side : Fork → ℕ → ℕ → Task → Task
 side k pc counter t = record {
@@ -134,73 +89,49 @@ side k pc counter t = record {
   forks = set (t .forks) (t .depth) k;
 }
 
--- the parent goes on; the child has the parent's registers and span, counter 0, and starts block b
-abbrev pub forked : List ℕ → Fork → ℕ → Frame → Stepped Frame
-forked cells k b f =
-    two (withTask (side k (f .task .pc + 1) (f .task .counter) (f .task)) f) (withTask (side k (blockOf cells b .first) 0 (f .task)) f)
+abbrev pub withTask : Task → Frame → Frame
+withTask t f = record { task = t; registers = f .registers }
 
--- the record's depth equal to the task's: go to the continuation. Otherwise the task waits
-abbrev pub metBy : Bool → List ℕ → ℕ → Fork → Task → Task
-metBy true cells interval k t = entered cells interval (k .continuation) t
-metBy false cells interval k t = ended Waiting t
+-- ---- Entering a block by jump, taken if-jump or join
 
--- ---- The instructions
+-- it is promotion-ready, the counter is due for a beat and the task has two places or more
+unfoldable pub promotes : Program → Choices → ℕ → ℕ → ℕ → Bool
+promotes program choices b counter places =
+    eqb (program .block b .annotation) 1 && (choices .due counter && leb 2 places)
 
-pub data Op : Type 0 where
-  move plus minus times divide modulo less equal word ifJump jralloc fork jump halt meet unknown : Op
+-- then the counter becomes 0 and control goes to the handler; otherwise it enters the block
+abbrev pub enteredBy : Bool → Program → ℕ → Task → Task
+enteredBy true program b t = movedTo (program .block (program .block b .label) .first) 0 t
+enteredBy false program b t = movedTo (program .block b .first) (t .counter) t
 
--- the opcodes 1 to 15, after 0
-abbrev pub opcodes : List Op
-opcodes =
-    unknown ∷ move ∷ plus ∷ minus ∷ times ∷ divide ∷ modulo ∷ less ∷ equal ∷ word ∷ ifJump ∷ jralloc ∷ fork ∷ jump ∷ halt ∷ meet ∷ []
+abbrev pub entered : Program → Choices → ℕ → Task → Task
+entered program choices b t = enteredBy (promotes program choices b (t .counter) (t .places)) program b t
 
--- what an instruction with the register r and the values s and v makes of a task that has counted it
-module _ (cells : List ℕ) (words : List ℤ) (interval : ℕ) where
-  abbrev pub carriedOut : ℕ → Value → Value → Frame → Op → Stepped Frame
-  -- 1 r := v
-  carriedOut r s v f move = one (stored r v f)
-  -- 2 to 8 r := s op v. Both operands integers? (31) Sums, differences and products keep the low 64 bits, read as signed
-  carriedOut r s v f plus = asked f (isInt s && isInt v) 31 (one (stored r (Int (wrapped (integerOf s +ℤ integerOf v))) f))
-  carriedOut r s v f minus = asked f (isInt s && isInt v) 31 (one (stored r (Int (wrapped (integerOf s -ℤ integerOf v))) f))
-  carriedOut r s v f times = asked f (isInt s && isInt v) 31 (one (stored r (Int (wrapped (integerOf s *ℤ integerOf v))) f))
-  -- divisor not 0? (32) Division goes toward zero; the least integer divided by -1 gives itself, remainder 0
-  carriedOut r s v f divide =
-      asked f (isInt s && isInt v) 31
-      (asked f (not (eqZ (integerOf v) (pos 0))) 32 (one (stored r (Int (wrapped (quotZ (integerOf s) (integerOf v)))) f)))
-  carriedOut r s v f modulo =
-      asked f (isInt s && isInt v) 31
-      (asked f (not (eqZ (integerOf v) (pos 0))) 32 (one (stored r (Int (remZ (integerOf s) (integerOf v))) f)))
-  carriedOut r s v f less = asked f (isInt s && isInt v) 31 (one (stored r (truth (ltZ (integerOf s) (integerOf v))) f))
-  carriedOut r s v f equal = asked f (isInt s && isInt v) 31 (one (stored r (truth (eqZ (integerOf s) (integerOf v))) f))
-  -- 9 r := word v of the call record. Index an integer? (31) Inside the record? (33)
-  carriedOut r s v f word =
-      asked f (isInt v) 31
-      (asked f (nonNeg (integerOf v) && ltb (natAbs (integerOf v)) (length words)) 33
-      (one (stored r (Int (getD words (natAbs (integerOf v)) (pos 0))) f)))
-  -- 10 if-jump s, v: jumps when s is 0. If-jump register an integer? (31)
-  carriedOut r s v f ifJump = asked f (isInt s) 31 (jumpedIf (eqZ (integerOf s) (pos 0)) cells interval v f)
-  -- 11 r := jralloc v: the continuation block and the task's present depth. A label of a join target? (35)
-  carriedOut r s v f jralloc =
-      asked f (isLabel v && eqb (blockOf cells (labelOf v) .annotation) 2) 35 (one (stored r (Record (labelOf v) (f .task .depth)) f))
-  -- 12 fork s, v. A record that fits? (36) A label? (34) Two places to fork? (37)
-  carriedOut r s v f fork =
-      asked f (isRecord s && fits (recordOf s) (f .task .depth) (f .task .forks)) 36
-      (asked f (isLabel v) 34 (asked f (leb 2 (f .task .places)) 37 (forked cells (recordOf s) (labelOf v) f)))
-  -- 13 jump v
-  carriedOut r s v f jump = jumpedIf true cells interval v f
-  -- 14 halt. No open fork at halt? (38)
-  carriedOut r s v f halt = asked f (eqb (f .task .depth) 0) 38 (one (withTask (ended Halted (f .task)) f))
-  -- 15 join v. A record that fits? (36)
-  carriedOut r s v f meet =
-      asked f (isRecord v && fits (recordOf v) (f .task .depth) (f .task .forks)) 36
-      (one (withTask (metBy (eqb (recordOf v .depth) (f .task .depth)) cells interval (recordOf v) (f .task)) f))
-  -- an accepted program has no other opcode (8)
-  carriedOut r s v f unknown = one (faulted 8 f)
+-- ---- An instruction
 
-  unfoldable pub step : Frame → Stepped Frame
-  step f =
-      let x = instructionOf cells (f .task .pc) in
-      carriedOut (x .r) (register f (x .s)) (operand f x) (withTask (counted (f .task)) f) (getD opcodes (x .opcode) unknown)
+module _ (program : Program) where
+  -- what an effect makes of a task that has counted the instruction, whose register is r
+  module _ (choices : Choices) where
+    abbrev pub applied : ℕ → Frame → Effect → Stepped Frame
+    applied r f (stores v) = one (record { task = onward (f .task); registers = set (f .registers) r (record { value = v }) })
+    applied r f continues = one (withTask (onward (f .task)) f)
+    applied r f (enters b) = one (withTask (entered program choices b (f .task)) f)
+    -- the child has the parent's registers and span, counter 0, and starts the block
+    applied r f (forks k b) =
+        two
+        (withTask (side k (f .task .pc + 1) (f .task .counter) (f .task)) f)
+        (withTask (side k (program .block b .first) 0 (f .task)) f)
+    applied r f waits = one (withTask (ended Waiting (f .task)) f)
+    applied r f halts = one (withTask (ended Halted (f .task)) f)
+    -- a fault sets the task's registers to 16 integers 0
+    applied r f (faults n) = one (record { task = ended (Faulted n) (f .task); registers = zeros })
+
+  unfoldable pub step : List ℤ → Choices → Frame → Stepped Frame
+  step words choices f =
+      let x = program .instruction (f .task .pc) in
+      let t = counted (f .task) in
+      applied choices (x .r) (withTask t f)
+      (effectOf program words choices (register f (x .s)) (operand f x) (activeOf t) (t .forks) (opOf x))
 
 -- ---- When both sides of a fork have ended
 
@@ -232,14 +163,14 @@ firstFault (some n) c = some n
 
 -- where one or both faulted, the joined task is itself faulted; else it has the parent's registers with the pairs of the
 -- continuation block b copied from the child's, and starts the combining block
-abbrev pub joinedBy : Option ℕ → List ℕ → ℕ → Frame → Frame → Frame
-joinedBy (some n) cells b p c = outward (Faulted n) 0 zeros (p .task) (c .task)
-joinedBy none cells b p c =
-    outward Running (blockOf cells (blockOf cells b .label) .first)
-    (copied (c .registers) (blockOf cells b .pairs) (blockOf cells b .packed) (p .registers)) (p .task) (c .task)
+abbrev pub joinedBy : Option ℕ → Program → ℕ → Frame → Frame → Frame
+joinedBy (some n) program b p c = outward (Faulted n) 0 zeros (p .task) (c .task)
+joinedBy none program b p c =
+    outward Running (program .block (program .block b .label) .first)
+    (copied (c .registers) (program .block b .pairs) (program .block b .packed) (p .registers)) (p .task) (c .task)
 
 -- the continuation is that of the parent's innermost fork
-unfoldable pub join : List ℕ → Frame → Frame → Frame
-join cells p c =
-    joinedBy (firstFault (faultOf (p .task .status)) (faultOf (c .task .status))) cells
+unfoldable pub join : Program → Frame → Frame → Frame
+join program p c =
+    joinedBy (firstFault (faultOf (p .task .status)) (faultOf (c .task .status))) program
     (getD (p .task .forks) (p .task .depth - 1) zeroFork .continuation) p c

@@ -7,7 +7,12 @@ use crate::results::store;
 ghost use mathlib.Core.Path.{_≡_};
 ghost use Prim.Native.Nat.{_<_};
 ghost use Rattle.task.specs.Values.{truth};
-ghost use Rattle.task.specs.Execute.{computed, divided, sum, difference, product, quotient, remainder, isLess, isEqual, fetched};
+ghost use lib.Signed.{remZ};
+ghost use Rattle.image.specs.Program.{Program};
+ghost use Rattle.image.specs.Questions.{mostInstructions};
+ghost use Rattle.task.specs.Choices.{Choices, towardZero};
+ghost use Rattle.task.specs.Effect.{computes, divides, sum, difference, product, isLess, isEqual, fetches};
+ghost use Rattle.task.specs.Execute.{handed};
 
 // Comparisons give 0 when true, 1 when false.
 fn truth_of(holds: bool) -> Value
@@ -21,8 +26,8 @@ fn truth_of(holds: bool) -> Value
 
 // Execute alone calls it; the shape test has put pc inside the program.
 pub fn add(s: Value, v: Value, t: Active) -> Executed
-    requires { ⌜ t .pc < 1024 ⌝ }
-    ensures { λ r. ⌜ r ≡ computed sum s v t ⌝ }
+    requires { ⌜ t .pc < mostInstructions ⌝ }
+    ensures { λ r. ⌜ ((p : Program) (c : Choices) → r ≡ handed p c t (computes sum s v)) ⌝ }
 {
     let Value::Int(a) = s else {
         return fault(31);
@@ -35,8 +40,8 @@ pub fn add(s: Value, v: Value, t: Active) -> Executed
 
 // As above.
 pub fn subtract(s: Value, v: Value, t: Active) -> Executed
-    requires { ⌜ t .pc < 1024 ⌝ }
-    ensures { λ r. ⌜ r ≡ computed difference s v t ⌝ }
+    requires { ⌜ t .pc < mostInstructions ⌝ }
+    ensures { λ r. ⌜ ((p : Program) (c : Choices) → r ≡ handed p c t (computes difference s v)) ⌝ }
 {
     let Value::Int(a) = s else {
         return fault(31);
@@ -49,8 +54,8 @@ pub fn subtract(s: Value, v: Value, t: Active) -> Executed
 
 // As above.
 pub fn multiply(s: Value, v: Value, t: Active) -> Executed
-    requires { ⌜ t .pc < 1024 ⌝ }
-    ensures { λ r. ⌜ r ≡ computed product s v t ⌝ }
+    requires { ⌜ t .pc < mostInstructions ⌝ }
+    ensures { λ r. ⌜ ((p : Program) (c : Choices) → r ≡ handed p c t (computes product s v)) ⌝ }
 {
     let Value::Int(a) = s else {
         return fault(31);
@@ -63,8 +68,8 @@ pub fn multiply(s: Value, v: Value, t: Active) -> Executed
 
 // As above.
 pub fn divide(s: Value, v: Value, t: Active) -> Executed
-    requires { ⌜ t .pc < 1024 ⌝ }
-    ensures { λ r. ⌜ r ≡ divided quotient s v t ⌝ }
+    requires { ⌜ t .pc < mostInstructions ⌝ }
+    ensures { λ r. ⌜ ((p : Program) (c : Choices) → r ≡ handed p c t (divides towardZero s v)) ⌝ }
 {
     let Value::Int(a) = s else {
         return fault(31);
@@ -80,8 +85,8 @@ pub fn divide(s: Value, v: Value, t: Active) -> Executed
 
 // As above.
 pub fn modulo(s: Value, v: Value, t: Active) -> Executed
-    requires { ⌜ t .pc < 1024 ⌝ }
-    ensures { λ r. ⌜ r ≡ divided remainder s v t ⌝ }
+    requires { ⌜ t .pc < mostInstructions ⌝ }
+    ensures { λ r. ⌜ ((p : Program) (c : Choices) → r ≡ handed p c t (divides remZ s v)) ⌝ }
 {
     let Value::Int(a) = s else {
         return fault(31);
@@ -97,8 +102,8 @@ pub fn modulo(s: Value, v: Value, t: Active) -> Executed
 
 // As above.
 pub fn less(s: Value, v: Value, t: Active) -> Executed
-    requires { ⌜ t .pc < 1024 ⌝ }
-    ensures { λ r. ⌜ r ≡ computed isLess s v t ⌝ }
+    requires { ⌜ t .pc < mostInstructions ⌝ }
+    ensures { λ r. ⌜ ((p : Program) (c : Choices) → r ≡ handed p c t (computes isLess s v)) ⌝ }
 {
     let Value::Int(a) = s else {
         return fault(31);
@@ -111,8 +116,8 @@ pub fn less(s: Value, v: Value, t: Active) -> Executed
 
 // As above.
 pub fn equal(s: Value, v: Value, t: Active) -> Executed
-    requires { ⌜ t .pc < 1024 ⌝ }
-    ensures { λ r. ⌜ r ≡ computed isEqual s v t ⌝ }
+    requires { ⌜ t .pc < mostInstructions ⌝ }
+    ensures { λ r. ⌜ ((p : Program) (c : Choices) → r ≡ handed p c t (computes isEqual s v)) ⌝ }
 {
     let Value::Int(a) = s else {
         return fault(31);
@@ -125,8 +130,8 @@ pub fn equal(s: Value, v: Value, t: Active) -> Executed
 
 // Word v of the call record, counted from 0.
 pub fn fetch(words: &[i64], v: Value, t: Active) -> Executed
-    requires { ⌜ t .pc < 1024 ⌝ }
-    ensures { λ r. ⌜ r ≡ fetched (now (words .entry)) v t ⌝ }
+    requires { ⌜ t .pc < mostInstructions ⌝ }
+    ensures { λ r. ⌜ ((p : Program) (c : Choices) → r ≡ handed p c t (fetches (now (words .entry)) v)) ⌝ }
 {
     let Value::Int(index) = v else {
         return fault(31);

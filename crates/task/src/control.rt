@@ -7,29 +7,33 @@ use crate::results::end;
 use crate::results::fault;
 use crate::results::go;
 use crate::results::store;
+use image::layout;
 ghost use mathlib.Core.Path.{_≡_};
 ghost use mathlib.Core.Bool.{true};
 ghost use Prim.Native.Nat.{_<_};
-ghost use Rattle.image.specs.Layout.{blockCount, blockOf};
-ghost use Rattle.image.specs.Questions.{programNo};
+ghost use Rattle.image.specs.Program.{Program};
+ghost use Rattle.image.specs.Layout.{blockCount, blockOf, programOf};
+ghost use Rattle.image.specs.Questions.{mostInstructions, programNo};
+ghost use Rattle.task.specs.Choices.{Choices, chosen};
+ghost use Rattle.task.specs.Effect.{jumps, branches, allocates, finishes};
 ghost use Rattle.task.specs.Step.{promotes};
 ghost use Rattle.task.specs.Formed.{valueFits};
-ghost use Rattle.task.specs.Execute.{enters, jumped, branched, allocated, halted};
+ghost use Rattle.task.specs.Execute.{entering, handed};
 
-// The first instruction of block b.
+// The first instruction of block b. This crate alone calls it, with a block of an accepted program.
 pub fn first_of(cells: &[u64], b: usize) -> u16
     requires { ⌜ (programNo (now cells) ≡ 0) × (b < blockCount (now cells)) ⌝ }
     ensures { λ r. ⌜ r ≡ blockOf (now (cells .entry)) b .first ⌝ }
 {
-    cells[2 + 6 * b] as u16
+    layout::first_of(cells, b) as u16
 }
 
 // Whether control goes to the handler of block b instead.
 fn is_promoted(cells: &[u64], interval: u64, b: usize, t: Active) -> bool
     requires { ⌜ (programNo (now cells) ≡ 0) × (b < blockCount (now cells)) ⌝ }
-    ensures { λ r. ⌜ r ≡ promotes (now (cells .entry)) interval b (t .counter) (t .places) ⌝ }
+    ensures { λ r. ⌜ r ≡ promotes (programOf (now (cells .entry))) (chosen interval) b (t .counter) (t .places) ⌝ }
 {
-    if cells[2 + 6 * b + 1] != 1 {
+    if layout::annotation_of(cells, b) != 1 {
         return false;
     }
     if interval == 0 {
@@ -41,14 +45,14 @@ fn is_promoted(cells: &[u64], interval: u64, b: usize, t: Active) -> bool
     2 <= t.places
 }
 
-// Entering block b by jump, taken if-jump or join.
+// Entering block b by jump, taken if-jump or join. This crate alone calls it, as above.
 pub fn enter(cells: &[u64], interval: u64, b: u32, t: Active) -> Executed
     requires { ⌜ (programNo (now cells) ≡ 0) × (b < blockCount (now cells)) ⌝ }
-    ensures { λ r. ⌜ r ≡ enters (now (cells .entry)) interval b t ⌝ }
+    ensures { λ r. ⌜ r ≡ entering (programOf (now (cells .entry))) (chosen interval) b t ⌝ }
 {
     let block = b as usize;
     if is_promoted(cells, interval, block, t) {
-        let handler = cells[2 + 6 * block + 3] as usize;
+        let handler = layout::label_of(cells, block) as usize;
         return go(first_of(cells, handler), 0);
     }
     go(first_of(cells, block), t.counter)
@@ -56,8 +60,8 @@ pub fn enter(cells: &[u64], interval: u64, b: u32, t: Active) -> Executed
 
 // This crate alone calls it, with an accepted program and a value whose label the shape test has put inside it.
 pub fn jump(cells: &[u64], interval: u64, v: Value, t: Active) -> Executed
-    requires { ⌜ (programNo (now cells) ≡ 0) × (valueFits (now cells) v ≡ true) ⌝ }
-    ensures { λ r. ⌜ r ≡ jumped (now (cells .entry)) interval v t ⌝ }
+    requires { ⌜ (programNo (now cells) ≡ 0) × (valueFits (programOf (now cells)) v ≡ true) ⌝ }
+    ensures { λ r. ⌜ r ≡ handed (programOf (now (cells .entry))) (chosen interval) t (jumps v) ⌝ }
 {
     let Value::Label(b) = v else {
         return fault(34);
@@ -65,10 +69,10 @@ pub fn jump(cells: &[u64], interval: u64, v: Value, t: Active) -> Executed
     enter(cells, interval, b, t)
 }
 
-// If-jump looks at its target only when it jumps.
+// If-jump looks at its target only when it jumps. Execute alone calls it, as above; the shape test has put pc inside the program.
 pub fn branch(cells: &[u64], interval: u64, s: Value, v: Value, t: Active) -> Executed
-    requires { ⌜ (programNo (now cells) ≡ 0) × (valueFits (now cells) v ≡ true) × (t .pc < 1024) ⌝ }
-    ensures { λ r. ⌜ r ≡ branched (now (cells .entry)) interval s v t ⌝ }
+    requires { ⌜ (programNo (now cells) ≡ 0) × (valueFits (programOf (now cells)) v ≡ true) × (t .pc < mostInstructions) ⌝ }
+    ensures { λ r. ⌜ r ≡ handed (programOf (now (cells .entry))) (chosen interval) t (branches s v) ⌝ }
 {
     let Value::Int(a) = s else {
         return fault(31);
@@ -79,22 +83,22 @@ pub fn branch(cells: &[u64], interval: u64, s: Value, v: Value, t: Active) -> Ex
     go(t.pc + 1, t.counter)
 }
 
-// A record: the continuation block and the task's present depth.
+// A record: the continuation block and the task's present depth. As above.
 pub fn allocate(cells: &[u64], v: Value, t: Active) -> Executed
-    requires { ⌜ (programNo (now cells) ≡ 0) × (valueFits (now cells) v ≡ true) × (t .pc < 1024) ⌝ }
-    ensures { λ r. ⌜ r ≡ allocated (now (cells .entry)) v t ⌝ }
+    requires { ⌜ (programNo (now cells) ≡ 0) × (valueFits (programOf (now cells)) v ≡ true) × (t .pc < mostInstructions) ⌝ }
+    ensures { λ r. ⌜ ((c : Choices) → r ≡ handed (programOf (now (cells .entry))) c t (allocates (programOf (now (cells .entry))) v t)) ⌝ }
 {
     let Value::Label(b) = v else {
         return fault(35);
     };
-    if cells[2 + 6 * (b as usize) + 1] != 2 {
+    if layout::annotation_of(cells, b as usize) != 2 {
         return fault(35);
     }
     store(Value::Record(b, t.depth), t)
 }
 
 pub fn halt(t: Active) -> Executed
-    ensures { λ r. ⌜ r ≡ halted t ⌝ }
+    ensures { λ r. ⌜ ((p : Program) (c : Choices) → r ≡ handed p c t (finishes t)) ⌝ }
 {
     if t.depth != 0 {
         return fault(38);

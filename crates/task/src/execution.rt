@@ -23,11 +23,15 @@ use crate::results::store;
 use image::Instruction;
 ghost use mathlib.Core.Path.{_≡_};
 ghost use Prim.Native.Nat.{_<_};
+ghost use Rattle.image.specs.Layout.{programOf};
+ghost use Rattle.image.specs.Questions.{mostBlocks};
+ghost use Rattle.task.specs.Choices.{chosen};
 ghost use Rattle.task.specs.Execute.{Ready, selected, executed};
 
-// The value of operand v, where `held` is the value of the register that an operand of kind 1 names. The program has been accepted.
+// The value of operand v, where `held` is the value of the register that an operand of kind 1 names. The machine's loop calls it, with an
+// instruction of an accepted program.
 pub fn operand(x: Instruction, held: Value) -> Value
-    requires { ⌜ (x .kind ≡ 2 → x .operand < 128) ⌝ }
+    requires { ⌜ (x .kind ≡ 2 → x .operand < mostBlocks) ⌝ }
     ensures { λ r. ⌜ r ≡ selected x held ⌝ }
 {
     if x.kind == 1 {
@@ -51,7 +55,7 @@ pub fn execute(
     forks: [Fork; 6],
 ) -> Executed
     requires { ⌜ Ready (now cells) s v active ⌝ }
-    ensures { λ r. ⌜ r ≡ executed (now (cells .entry)) (now (words .entry)) interval x s v active forks ⌝ }
+    ensures { λ r. ⌜ r ≡ executed (programOf (now (cells .entry))) (now (words .entry)) (chosen interval) x s v active forks ⌝ }
 {
     let t = count(active);
     let opcode = x.opcode;

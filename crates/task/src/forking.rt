@@ -11,10 +11,12 @@ use crate::results::fault;
 ghost use mathlib.Core.Path.{_≡_};
 ghost use mathlib.Core.Bool.{true};
 ghost use Prim.Native.Nat.{_-_, _<_, _≤_};
-ghost use Rattle.image.specs.Questions.{programNo};
-ghost use Rattle.task.specs.Step.{belong, fits};
+ghost use Rattle.image.specs.Layout.{programOf};
+ghost use Rattle.image.specs.Questions.{mostInstructions, programNo};
+ghost use Rattle.task.specs.Choices.{Choices, chosen};
+ghost use Rattle.task.specs.Effect.{belong, fits, splits, meets};
 ghost use Rattle.task.specs.Formed.{valueFits};
-ghost use Rattle.task.specs.Execute.{forked, met};
+ghost use Rattle.task.specs.Execute.{handed};
 
 // Whether the open forks beyond the record's depth belong to it.
 fn all_belong(forks: [Fork; 6], under: Fork, depth: u32) -> bool
@@ -46,10 +48,11 @@ fn does_fit(under: Fork, depth: u32, forks: [Fork; 6]) -> bool
     all_belong(forks, under, depth)
 }
 
-// Both sides gain an open fork under s, which the caller opens.
+// Both sides gain an open fork under s, which the machine opens. Execute alone calls it, with an accepted program; the shape test has put
+// pc and v's label inside it, and the depth below 7.
 pub fn fork(cells: &[u64], s: Value, v: Value, t: Active, forks: [Fork; 6]) -> Executed
-    requires { ⌜ (programNo (now cells) ≡ 0) × (valueFits (now cells) v ≡ true) × (t .pc < 1024) × (t .depth ≤ 6) ⌝ }
-    ensures { λ r. ⌜ r ≡ forked (now (cells .entry)) s v t forks ⌝ }
+    requires { ⌜ (programNo (now cells) ≡ 0) × (valueFits (programOf (now cells)) v ≡ true) × (t .pc < mostInstructions) × (t .depth ≤ 6) ⌝ }
+    ensures { λ r. ⌜ ((c : Choices) → r ≡ handed (programOf (now (cells .entry))) c t (splits s v t forks)) ⌝ }
 {
     let Value::Record(continuation, depth) = s else {
         return fault(36);
@@ -76,10 +79,10 @@ pub fn fork(cells: &[u64], s: Value, v: Value, t: Active, forks: [Fork; 6]) -> E
     }
 }
 
-// The record's depth equal to the task's: to the continuation. Otherwise the task waits.
+// The record's depth equal to the task's: to the continuation. Otherwise the task waits. As above.
 pub fn meet(cells: &[u64], interval: u64, v: Value, t: Active, forks: [Fork; 6]) -> Executed
-    requires { ⌜ (programNo (now cells) ≡ 0) × (valueFits (now cells) v ≡ true) × (t .depth ≤ 6) ⌝ }
-    ensures { λ r. ⌜ r ≡ met (now (cells .entry)) interval v t forks ⌝ }
+    requires { ⌜ (programNo (now cells) ≡ 0) × (valueFits (programOf (now cells)) v ≡ true) × (t .depth ≤ 6) ⌝ }
+    ensures { λ r. ⌜ r ≡ handed (programOf (now (cells .entry))) (chosen interval) t (meets v t forks) ⌝ }
 {
     let Value::Record(continuation, depth) = v else {
         return fault(36);

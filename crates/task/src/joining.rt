@@ -7,6 +7,7 @@ use crate::control::first_of;
 use image::layout::block_of;
 ghost use mathlib.Core.Path.{_≡_};
 ghost use Prim.Native.Nat.{_+_, _≤_, _<_, max};
+ghost use Rattle.image.specs.Layout.{programOf};
 ghost use Rattle.task.specs.Frames.{faultOf};
 ghost use Rattle.task.specs.Step.{firstFault, outwardTask};
 ghost use Rattle.task.specs.Execute.{Joinable, statusBy, jointOf};
@@ -57,7 +58,7 @@ fn close(status: Status, pc: u16, p: Task, c: Task) -> Task
 // What two ended sides come to, but for the registers: those the machine changes in place. It ensures `Joinable`.
 pub fn joined(cells: &[u64], p: Task, c: Task) -> Joint
     requires { ⌜ Joinable (now cells) p c ⌝ }
-    ensures { λ r. ⌜ r ≡ jointOf (now (cells .entry)) p c ⌝ }
+    ensures { λ r. ⌜ r ≡ jointOf (programOf (now (cells .entry))) p c ⌝ }
 {
     let ours = p.status;
     let theirs = c.status;

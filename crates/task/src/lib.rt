@@ -1,11 +1,12 @@
 // Values, task records, a task record with its registers, and what one instruction makes of a task.
 
-pub mod arithmetic;
-pub mod control;
+mod arithmetic;
+mod control;
 pub mod execution;
-pub mod forking;
+mod forking;
 pub mod joining;
-pub mod results;
+mod results;
+pub mod running;
 
 pub enum Value {
     Int(i64),

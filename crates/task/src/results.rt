@@ -5,11 +5,14 @@ use crate::Kind;
 use crate::Value;
 ghost use mathlib.Core.Path.{_≡_};
 ghost use Prim.Native.Nat.{_<_};
-ghost use Rattle.task.specs.Execute.{countedActive, stores, goes, ends, faults};
+ghost use Rattle.image.specs.Questions.{mostInstructions};
+ghost use Rattle.task.specs.declared.Kind.the-variants.{Faults};
+ghost use Rattle.task.specs.Frames.{workLimit};
+ghost use Rattle.task.specs.Execute.{countedActive, storing, going, ending};
 
 // An instruction adds 1 to the counter. The machine ensures that the work is below its limit, and the counter is at most the work.
 pub fn count(t: Active) -> Active
-    requires { ⌜ t .counter < 4294967295 ⌝ }
+    requires { ⌜ t .counter < workLimit ⌝ }
     ensures { λ r. ⌜ r ≡ countedActive t ⌝ }
 {
     let mut n = t;
@@ -19,8 +22,8 @@ pub fn count(t: Active) -> Active
 
 // This crate alone calls it; the shape test has put pc inside the program.
 pub fn store(v: Value, t: Active) -> Executed
-    requires { ⌜ t .pc < 1024 ⌝ }
-    ensures { λ r. ⌜ r ≡ stores v t ⌝ }
+    requires { ⌜ t .pc < mostInstructions ⌝ }
+    ensures { λ r. ⌜ r ≡ storing v t ⌝ }
 {
     Executed {
         kind: Kind::Stores,
@@ -31,7 +34,7 @@ pub fn store(v: Value, t: Active) -> Executed
 }
 
 pub fn go(pc: u16, counter: u32) -> Executed
-    ensures { λ r. ⌜ r ≡ goes pc counter ⌝ }
+    ensures { λ r. ⌜ r ≡ going pc counter ⌝ }
 {
     Executed {
         kind: Kind::Goes,
@@ -43,7 +46,7 @@ pub fn go(pc: u16, counter: u32) -> Executed
 
 // The task does not run on.
 pub fn end(kind: Kind) -> Executed
-    ensures { λ r. ⌜ r ≡ ends kind ⌝ }
+    ensures { λ r. ⌜ r ≡ ending kind ⌝ }
 {
     Executed {
         kind,
@@ -54,7 +57,7 @@ pub fn end(kind: Kind) -> Executed
 }
 
 pub fn fault(number: u8) -> Executed
-    ensures { λ r. ⌜ r ≡ faults number ⌝ }
+    ensures { λ r. ⌜ r ≡ ending (Faults number) ⌝ }
 {
     end(Kind::Faults(number))
 }

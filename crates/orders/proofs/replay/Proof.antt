@@ -7,7 +7,7 @@ use Rattle.machine.specs.declared.Machine.{Machine}
 use Rattle.machine.specs.Starting.{empty}
 use Rattle.machine.specs.Slots.{Sized}
 use Rattle.machine.proofs.Picked.{pick-accepts, pick-refused, picked-one}
-use Rattle.codes.proofs.Sizes.{length-by}
+use Rattle.task.proofs.Sizes.{length-by}
 use Rattle.image.specs.Doors.{unlessRefused}
 use Rattle.orders.specs.Demand.{startOn, played}
 use Rattle.orders.specs.Replay.{jobOf}

@@ -3,7 +3,7 @@ use mathlib.Core.Path.{_≡_, sym, ap, _∙_}
 use Prim.Native.Nat.{_+_, _-_, _≤_}
 use native.Mathlib.Omega.{arith}
 use lib.ListN.{getD}
-use Rattle.image.specs.Layout.{blockCount, instructionCount}
+use Rattle.image.specs.Layout.{blockCount, instructionCount, programOf}
 use Rattle.image.specs.Questions.{firstNo, lastInBlock, instructionRecordNo, instructionNo}
 use Rattle.image.proofs.Asked.{begins, goes-on, decides, no-more}
 use Rattle.image.proofs.Marking.{mark-told}
@@ -45,7 +45,7 @@ ask-instruction-requires c κs =
     let l = c .before .before .before .loop in
     let held = c .before .before .before .before .instructions-held .ensures in (
       limited-by (blockCount cells) (start .args .limits .now) (start .args .largest .now) (start .pre .0),
-      mark-told (lastInBlock cells (l .i))
+      mark-told (lastInBlock (programOf cells) (l .i))
           (getD (start .args .marks .now) (l .i + 1) 0) (start .pre .3 .ended (l .i) (omega (arith, held .0))) .1,
     )
 
@@ -57,7 +57,7 @@ returns c =
     let held = c .before .before .before .before .before .before .instructions-held .ensures in
     let no = c .before .ask-instruction .ensures ∙ asked-by cells (start .args .marks .now) (blockCount cells) (start .args .limits .now)
     (start .args .largest .now) (start .pre .0) (start .pre .3) (l .i) (omega (arith, held .0))
-    (c .before .before .before .instruction-of .result) ∙ ap (instructionRecordNo (blockCount cells) (lastInBlock cells (l .i)))
+    (c .before .before .before .instruction-of .result) ∙ ap (instructionRecordNo (blockCount cells) (lastInBlock (programOf cells) (l .i)))
     (c .before .before .before .instruction-of .ensures) ∙ asked-held cells (l .i)
     (held .1 (l .i) (c .before .before .before .before .loop-test .taken)) in
     no ∙ sym (l .inv .1 ∙ decides (instructionNo cells) (instructionCount cells) (l .i) (omega (arith, held .0)) (λ e. c .if1 .taken (no ∙ e)))
@@ -76,7 +76,7 @@ loop-again c =
     let held = c .before .before .before .before .before .before .instructions-held .ensures in
     let no = c .before .ask-instruction .ensures ∙ asked-by cells (start .args .marks .now) (blockCount cells) (start .args .limits .now)
     (start .args .largest .now) (start .pre .0) (start .pre .3) (l .i) (omega (arith, held .0))
-    (c .before .before .before .instruction-of .result) ∙ ap (instructionRecordNo (blockCount cells) (lastInBlock cells (l .i)))
+    (c .before .before .before .instruction-of .result) ∙ ap (instructionRecordNo (blockCount cells) (lastInBlock (programOf cells) (l .i)))
     (c .before .before .before .instruction-of .ensures) ∙ asked-held cells (l .i)
     (held .1 (l .i) (c .before .before .before .before .loop-test .taken)) in
     (omega arith, l .inv .1 ∙ goes-on (instructionNo cells) (instructionCount cells) (l .i) (omega (arith, held .0)) (sym no ∙ c .if1 .left))

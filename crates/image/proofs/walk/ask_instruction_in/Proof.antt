@@ -3,7 +3,7 @@ use mathlib.Core.Path.{ap, _∙_}
 use Prim.Native.Nat.{_+_}
 use native.Mathlib.Omega.{arith}
 use lib.ListN.{getD}
-use Rattle.image.specs.Layout.{blocksIn, instructionIn, cellsIn}
+use Rattle.image.specs.Layout.{blocksIn, instructionIn, cellsIn, programOf}
 use Rattle.image.specs.Questions.{lastInBlock, instructionRecordNo}
 use Rattle.image.proofs.Counts.{counted}
 use Rattle.image.proofs.Header.{header, instruction-asked, cells-in-instructions}
@@ -34,7 +34,7 @@ ask-instruction-requires c κs =
     let i = start .args .i in
     let below = cells-in-instructions image in (
       limited-by (blocksIn image) (start .args .limits .now) (start .args .largest .now) (start .pre .1),
-      mark-told (lastInBlock (cellsIn image) i)
+      mark-told (lastInBlock (programOf (cellsIn image)) i)
           (getD (start .args .marks .now) (i + 1) 0) (start .pre .2 .ended i (omega (arith, start .pre .3, below))) .1,
     )
 
@@ -46,7 +46,7 @@ returns c =
     c .ask-instruction .ensures
     ∙ asked-by (cellsIn image) (start .args .marks .now) (blocksIn image) (start .args .limits .now) (start .args .largest .now) (start .pre .1)
     (start .pre .2) i (omega (arith, start .pre .3, cells-in-instructions image)) (c .before .before .instruction-in .result)
-    ∙ ap (instructionRecordNo (blocksIn image) (lastInBlock (cellsIn image) i)) (c .before .before .instruction-in .ensures ∙ ap (instructionIn image) (start .pre .4))
+    ∙ ap (instructionRecordNo (blocksIn image) (lastInBlock (programOf (cellsIn image)) i)) (c .before .before .instruction-in .ensures ∙ ap (instructionIn image) (start .pre .4))
     ∙ instruction-asked image (header image (start .pre .0)) i (start .pre .3)
 
 pub ask-instruction-in-spec : {M : Type 1} → statement M

@@ -2,7 +2,7 @@
 use mathlib.Core.Path.{_≡_, sym, ap, _∙_}
 use Rattle.machine.specs.Slots.{Sized}
 use Rattle.machine.specs.Picking.{pickNo}
-use Rattle.codes.proofs.Sizes.{length-by}
+use Rattle.task.proofs.Sizes.{length-by}
 use Rattle.machine.proofs.Picked.{pick-accepts, pick-refused, picked-one}
 use borrow.Author.Needs.{needs}
 use Rattle.machine.proofs.Machine.pick.Statement.{statement}

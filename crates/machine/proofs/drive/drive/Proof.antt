@@ -10,7 +10,7 @@ use lib.ListN.{length, getD, set, length-set}
 use lib.Pow.{pow-pos}
 use lib.Seq.{getD-set-same, getD-set-other}
 use borrow.Author.Tests.{ltb-true, not-true, not-false}
-use Rattle.agreement.specs.Facts.{clash, both-true}
+use Rattle.agreement.proofs.Facts.{clash, both-true}
 use Rattle.agreement.specs.Plain.{one}
 use Rattle.agreement.specs.Slots.{due}
 use Rattle.machine.specs.Running.{Run}
@@ -25,10 +25,10 @@ use Rattle.task.specs.declared.Task.{Task}
 use Rattle.task.specs.Frames.{running, isRunning, noTask, zeros, zeroRegister}
 use Rattle.task.specs.Step.{copied, movedTo, step}
 use Rattle.task.proofs.Copying.{copies-first, copies-none}
-use Rattle.codes.proofs.StretchLaws.{length-reads}
+use Rattle.task.proofs.StretchLaws.{length-reads}
 use Rattle.machine.specs.declared.Machine.{Machine}
 use Rattle.machine.specs.Picking.{issued}
-use Rattle.codes.proofs.Sizes.{length-by}
+use Rattle.task.proofs.Sizes.{length-by}
 use Rattle.task.specs.Execute.{after}
 use Rattle.machine.proofs.RankLaws.{rank-power}
 use Rattle.machine.proofs.Carrying.{stand}

@@ -4,7 +4,7 @@ use lib.ListN.{length}
 use borrow.Author.Tests.{lt-ltb, le-ltb, not-true, not-false}
 use Rattle.machine.specs.Ending.{isEnd}
 use Rattle.machine.specs.Picking.{slotNo}
-use Rattle.codes.proofs.Sizes.{length-by}
+use Rattle.task.proofs.Sizes.{length-by}
 use Rattle.machine.proofs.SlotLaws.{task-there, no-task-beyond}
 use borrow.Author.Needs.{needs}
 use Rattle.machine.proofs.pick.ask_slot.Statement.{statement}

@@ -4,7 +4,7 @@ use Prim.Native.Nat.{_-_, _*_, _≤_}
 use lib.ListN.{length}
 use lib.Seq.{sets, length-sets}
 use Rattle.task.specs.Frames.{zeroRegister, zeros}
-use Rattle.codes.specs.Stretches.{reads}
+use Rattle.task.specs.Stretches.{reads}
 use Rattle.machine.proofs.Copying.{copied-none, copied-next, copied-all}
 use borrow.Author.Needs.{needs}
 use native.Mathlib.Omega.{arith}

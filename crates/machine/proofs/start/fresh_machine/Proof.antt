@@ -4,7 +4,7 @@ use Prim.Native.Nat.{ℕ, _-_, _≤_}
 use lib.ListN.{getD}
 use lib.Seq.{sets}
 use Rattle.task.specs.Frames.{zeroRegister, integers}
-use Rattle.codes.specs.Stretches.{reads}
+use Rattle.task.specs.Stretches.{reads}
 use Rattle.machine.specs.Starting.{empty, fresh}
 use Rattle.machine.proofs.Filling.{filled-more, filled-none}
 use mir.Syntax.{w64}

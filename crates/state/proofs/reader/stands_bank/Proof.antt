@@ -7,7 +7,7 @@ use borrow.Author.Needs.{needs}
 use borrow.Author.Tests.{not-true, not-false}
 use native.Mathlib.Omega.{arith}
 use Rattle.task.specs.Formed.{every}
-use Rattle.codes.proofs.EveryLaws.{every-goes-on, every-stops, every-ends}
+use Rattle.task.proofs.EveryLaws.{every-goes-on, every-stops, every-ends}
 use Rattle.state.specs.Reading.{standsValue, registerPlace}
 use Rattle.state.proofs.reader.stands_bank.Statement.{statement}
 use Rattle.state.proofs.reader.stands_bank.Tie as tie

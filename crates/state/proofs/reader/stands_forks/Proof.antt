@@ -6,7 +6,7 @@ use mathlib.Core.List.{List}
 use borrow.Author.Tests.{not-true, not-false}
 use native.Mathlib.Omega.{arith}
 use Rattle.task.specs.Formed.{every}
-use Rattle.codes.proofs.EveryLaws.{every-goes-on, every-stops, every-ends}
+use Rattle.task.proofs.EveryLaws.{every-goes-on, every-stops, every-ends}
 use Rattle.state.specs.Reading.{standsFork}
 use Rattle.state.proofs.reader.stands_forks.Statement.{statement}
 use Rattle.state.proofs.reader.stands_forks.Tie as tie

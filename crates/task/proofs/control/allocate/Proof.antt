@@ -1,10 +1,8 @@
 -- `allocate` meets its contract.
-use mathlib.Core.Path.{_∙_}
-use Rattle.task.proofs.Computing.{given}
+use mathlib.Core.Path.{_∙_, sym}
 use Rattle.image.proofs.Accepted.{accepted}
-use Rattle.task.proofs.Entering.{label-fits, no-label, no-join-target, allocates}
+use Rattle.task.proofs.Entering.{label-fits, no-label, no-join-target, gives-record}
 use borrow.Author.Needs.{needs}
-use native.Mathlib.Omega.{arith}
 use Rattle.task.proofs.control.allocate.Statement.{statement}
 use Rattle.task.proofs.control.allocate.Tie as tie
 
@@ -15,37 +13,37 @@ fault-requires : tie.Need-fault-requires
 fault-requires c κs = search needs
 
 returns : tie.Need-returns
-returns c = c .fault .ensures ∙ no-label (c .before .before .before .args .cells .now) (c .before .before .before .args .v) (c .before .before .before .args .t) (c .before .match .keys2)
+returns c = λ k.
+    let a = c .before .before .before .args in
+    c .fault .ensures ∙ no-label k (a .cells .now) (a .v) (a .t) (c .before .match .keys2)
 
-cast-if1 : tie.Need-cast-if1
-cast-if1 c = search needs
+cast-annotation-of : tie.Need-cast-annotation-of
+cast-annotation-of c = search needs
 
-mul-if1 : tie.Need-mul-if1
-mul-if1 c = search needs
-
-add-if1 : tie.Need-add-if1
-add-if1 c = search needs
-
-add-if1-2 : tie.Need-add-if1-2
-add-if1-2 c = search needs
-
-mul-if1-2 : tie.Need-mul-if1-2
-mul-if1-2 c = search needs
-
-shared-slice-read-if1 : tie.Need-shared-slice-read-if1
-shared-slice-read-if1 c = let k = accepted (c .before .before .before .before .before .args .cells .now) (c .before .before .before .before .before .pre .0) in let h = label-fits (c .before .before .before .before .before .args .cells .now) (c .before .before .v .given .1) (c .before .before .before .before .before .pre .1) in let b = k .block _ h in omega (arith, b .is-stored)
+annotation-of-requires : tie.Need-annotation-of-requires
+annotation-of-requires c κs = 
+    let a = c .before .before .before .before in
+    accepted (a .args .cells .now) (a .pre .0) .block _ (label-fits (a .args .cells .now) (c .before .v .given .1) (a .pre .1)) .is-stored
 
 fault-requires-2 : tie.Need-fault-requires-2
 fault-requires-2 c κs = search needs
 
 returns-2 : tie.Need-returns-2
-returns-2 c = c .fault2 .ensures ∙ no-join-target (c .before .before .before .before .before .before .before .args .cells .now) (c .before .before .before .before .before .before .before .args .v) (c .before .before .before .before .before .before .before .args .t) (c .before .before .before .before .v .given .1) (c .before .if1 .taken)
+returns-2 c = λ k.
+    let a = c .before .before .before .before .before .before .before .args in
+    c .fault2 .ensures
+    ∙ no-join-target k (a .cells .now) (a .v) (a .t) (c .before .before .before .before .v .given .1)
+    (λ e. c .before .if1 .taken (c .before .before .annotation-of .ensures ∙ e))
 
 store-requires : tie.Need-store-requires
 store-requires c κs = search needs
 
 returns-3 : tie.Need-returns-3
-returns-3 c = c .store .ensures ∙ allocates (c .before .before .before .before .before .before .before .args .cells .now) (c .before .before .before .before .before .before .before .args .v) (c .before .before .before .before .before .before .before .args .t) (c .before .before .before .before .v .given .1) (c .before .if1 .left)
+returns-3 c = λ k.
+    let a = c .before .before .before .before .before .before .before .args in
+    c .store .ensures
+    ∙ gives-record k (a .cells .now) (a .v) (a .t) (c .before .before .before .before .v .given .1)
+    (sym (c .before .before .annotation-of .ensures) ∙ c .before .if1 .left)
 
 pub allocate-spec : {M : Type 1} → statement M
 allocate-spec =
@@ -54,12 +52,8 @@ allocate-spec =
     enum-known-v
     fault-requires
     returns
-    cast-if1
-    mul-if1
-    add-if1
-    add-if1-2
-    mul-if1-2
-    shared-slice-read-if1
+    cast-annotation-of
+    annotation-of-requires
     fault-requires-2
     returns-2
     store-requires

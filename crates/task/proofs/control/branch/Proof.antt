@@ -1,7 +1,7 @@
 -- `branch` meets its contract.
 use mathlib.Core.Path.{_∙_}
 use Rattle.task.proofs.Computing.{given}
-use Rattle.task.proofs.Entering.{tests-other, branches, falls-through}
+use Rattle.task.proofs.Entering.{tests-other, takes-branch, falls-through}
 use borrow.Author.Needs.{needs}
 use Rattle.task.proofs.control.branch.Statement.{statement}
 use Rattle.task.proofs.control.branch.Tie as tie
@@ -22,7 +22,7 @@ jump-requires : tie.Need-jump-requires
 jump-requires c κs = search needs
 
 returns-2 : tie.Need-returns-2
-returns-2 c = c .jump .ensures ∙ branches (c .before .before .before .before .before .before .before .args .cells .now) (c .before .before .before .before .before .before .before .args .interval) (c .before .before .before .before .before .before .before .args .v) (c .before .before .before .before .before .before .before .args .t) (c .before .before .before .before .before .before .before .args .s) (c .before .before .before .before .s .given .1) (search needs) (c .before .before .equal .ensures) (c .before .if1 .taken)
+returns-2 c = c .jump .ensures ∙ takes-branch (c .before .before .before .before .before .before .before .args .cells .now) (c .before .before .before .before .before .before .before .args .interval) (c .before .before .before .before .before .before .before .args .v) (c .before .before .before .before .before .before .before .args .t) (c .before .before .before .before .before .before .before .args .s) (c .before .before .before .before .s .given .1) (search needs) (c .before .before .equal .ensures) (c .before .if1 .taken)
 
 add-go : tie.Need-add-go
 add-go c = search needs

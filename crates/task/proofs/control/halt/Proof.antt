@@ -1,6 +1,6 @@
 -- `halt` meets its contract.
 use borrow.Author.Tests.{eq-eqb, ne-eqb}
-use Rattle.task.specs.Execute.{required}
+use Rattle.task.specs.Effect.{asked}
 use borrow.Author.Needs.{needs}
 use Rattle.task.proofs.control.halt.Statement.{statement}
 use Rattle.task.proofs.control.halt.Tie as tie
@@ -9,15 +9,15 @@ fault-requires : tie.Need-fault-requires
 fault-requires c κs = search needs
 
 returns : tie.Need-returns
-unfolding required
-returns c = rw (ne-eqb _ _ (c .before .if1 .taken)) (c .fault .ensures)
+unfolding asked
+returns c = λ p k. rw (ne-eqb _ _ (c .before .if1 .taken)) (c .fault .ensures)
 
 end-requires : tie.Need-end-requires
 end-requires c κs = search needs
 
 returns-2 : tie.Need-returns-2
-unfolding required
-returns-2 c = rw (eq-eqb _ _ (c .before .if1 .left)) (c .end .ensures)
+unfolding asked
+returns-2 c = λ p k. rw (eq-eqb _ _ (c .before .if1 .left)) (c .end .ensures)
 
 pub halt-spec : {M : Type 1} → statement M
 halt-spec = tie.close (tie.spec fault-requires returns end-requires returns-2)

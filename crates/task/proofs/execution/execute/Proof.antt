@@ -1,5 +1,7 @@
 -- `execute` meets its contract.
 use mathlib.Core.Path.{_∙_}
+use Rattle.image.specs.Layout.{programOf}
+use Rattle.task.specs.Choices.{chosen}
 use Rattle.task.proofs.Dispatch.{counted-pc, counted-depth, sends, sends-nowhere, past}
 use borrow.Author.Needs.{needs}
 use Rattle.task.proofs.execution.execute.Statement.{statement}
@@ -57,52 +59,118 @@ fault-requires : tie.Need-fault-requires
 fault-requires c κs = search needs
 
 returns : tie.Need-returns
-returns c = c .store .ensures ∙ sends (c .before .before .before .before .args .cells .now) (c .before .before .before .before .args .words .now) (c .before .before .before .before .args .interval) (c .before .before .before .before .args .x) (c .before .before .before .before .args .s) (c .before .before .before .before .args .v) (c .before .before .before .before .args .active) (c .before .before .before .before .args .forks) (c .before .before .count .ensures) 1 (c .before .match .keys1)
+returns c =
+    let a = c .before .before .before .before .args in
+    c .store .ensures
+    ∙ sends (programOf (a .cells .now)) (a .words .now) (chosen (a .interval)) (a .x) (a .s) (a .v) (a .active) (a .forks)
+    (c .before .before .count .ensures) 1 (c .before .match .keys1)
 
 returns-2 : tie.Need-returns-2
-returns-2 c = c .add .ensures ∙ sends (c .before .before .before .before .args .cells .now) (c .before .before .before .before .args .words .now) (c .before .before .before .before .args .interval) (c .before .before .before .before .args .x) (c .before .before .before .before .args .s) (c .before .before .before .before .args .v) (c .before .before .before .before .args .active) (c .before .before .before .before .args .forks) (c .before .before .count .ensures) 2 (c .before .match .keys2)
+returns-2 c =
+    let a = c .before .before .before .before .args in
+    c .add .ensures (programOf (a .cells .now)) (chosen (a .interval))
+    ∙ sends (programOf (a .cells .now)) (a .words .now) (chosen (a .interval)) (a .x) (a .s) (a .v) (a .active) (a .forks)
+    (c .before .before .count .ensures) 2 (c .before .match .keys2)
 
 returns-3 : tie.Need-returns-3
-returns-3 c = c .subtract .ensures ∙ sends (c .before .before .before .before .args .cells .now) (c .before .before .before .before .args .words .now) (c .before .before .before .before .args .interval) (c .before .before .before .before .args .x) (c .before .before .before .before .args .s) (c .before .before .before .before .args .v) (c .before .before .before .before .args .active) (c .before .before .before .before .args .forks) (c .before .before .count .ensures) 3 (c .before .match .keys3)
+returns-3 c =
+    let a = c .before .before .before .before .args in
+    c .subtract .ensures (programOf (a .cells .now)) (chosen (a .interval))
+    ∙ sends (programOf (a .cells .now)) (a .words .now) (chosen (a .interval)) (a .x) (a .s) (a .v) (a .active) (a .forks)
+    (c .before .before .count .ensures) 3 (c .before .match .keys3)
 
 returns-4 : tie.Need-returns-4
-returns-4 c = c .multiply .ensures ∙ sends (c .before .before .before .before .args .cells .now) (c .before .before .before .before .args .words .now) (c .before .before .before .before .args .interval) (c .before .before .before .before .args .x) (c .before .before .before .before .args .s) (c .before .before .before .before .args .v) (c .before .before .before .before .args .active) (c .before .before .before .before .args .forks) (c .before .before .count .ensures) 4 (c .before .match .keys4)
+returns-4 c =
+    let a = c .before .before .before .before .args in
+    c .multiply .ensures (programOf (a .cells .now)) (chosen (a .interval))
+    ∙ sends (programOf (a .cells .now)) (a .words .now) (chosen (a .interval)) (a .x) (a .s) (a .v) (a .active) (a .forks)
+    (c .before .before .count .ensures) 4 (c .before .match .keys4)
 
 returns-5 : tie.Need-returns-5
-returns-5 c = c .divide .ensures ∙ sends (c .before .before .before .before .args .cells .now) (c .before .before .before .before .args .words .now) (c .before .before .before .before .args .interval) (c .before .before .before .before .args .x) (c .before .before .before .before .args .s) (c .before .before .before .before .args .v) (c .before .before .before .before .args .active) (c .before .before .before .before .args .forks) (c .before .before .count .ensures) 5 (c .before .match .keys5)
+returns-5 c =
+    let a = c .before .before .before .before .args in
+    c .divide .ensures (programOf (a .cells .now)) (chosen (a .interval))
+    ∙ sends (programOf (a .cells .now)) (a .words .now) (chosen (a .interval)) (a .x) (a .s) (a .v) (a .active) (a .forks)
+    (c .before .before .count .ensures) 5 (c .before .match .keys5)
 
 returns-6 : tie.Need-returns-6
-returns-6 c = c .modulo .ensures ∙ sends (c .before .before .before .before .args .cells .now) (c .before .before .before .before .args .words .now) (c .before .before .before .before .args .interval) (c .before .before .before .before .args .x) (c .before .before .before .before .args .s) (c .before .before .before .before .args .v) (c .before .before .before .before .args .active) (c .before .before .before .before .args .forks) (c .before .before .count .ensures) 6 (c .before .match .keys6)
+returns-6 c =
+    let a = c .before .before .before .before .args in
+    c .modulo .ensures (programOf (a .cells .now)) (chosen (a .interval))
+    ∙ sends (programOf (a .cells .now)) (a .words .now) (chosen (a .interval)) (a .x) (a .s) (a .v) (a .active) (a .forks)
+    (c .before .before .count .ensures) 6 (c .before .match .keys6)
 
 returns-7 : tie.Need-returns-7
-returns-7 c = c .less .ensures ∙ sends (c .before .before .before .before .args .cells .now) (c .before .before .before .before .args .words .now) (c .before .before .before .before .args .interval) (c .before .before .before .before .args .x) (c .before .before .before .before .args .s) (c .before .before .before .before .args .v) (c .before .before .before .before .args .active) (c .before .before .before .before .args .forks) (c .before .before .count .ensures) 7 (c .before .match .keys7)
+returns-7 c =
+    let a = c .before .before .before .before .args in
+    c .less .ensures (programOf (a .cells .now)) (chosen (a .interval))
+    ∙ sends (programOf (a .cells .now)) (a .words .now) (chosen (a .interval)) (a .x) (a .s) (a .v) (a .active) (a .forks)
+    (c .before .before .count .ensures) 7 (c .before .match .keys7)
 
 returns-8 : tie.Need-returns-8
-returns-8 c = c .equal .ensures ∙ sends (c .before .before .before .before .args .cells .now) (c .before .before .before .before .args .words .now) (c .before .before .before .before .args .interval) (c .before .before .before .before .args .x) (c .before .before .before .before .args .s) (c .before .before .before .before .args .v) (c .before .before .before .before .args .active) (c .before .before .before .before .args .forks) (c .before .before .count .ensures) 8 (c .before .match .keys8)
+returns-8 c =
+    let a = c .before .before .before .before .args in
+    c .equal .ensures (programOf (a .cells .now)) (chosen (a .interval))
+    ∙ sends (programOf (a .cells .now)) (a .words .now) (chosen (a .interval)) (a .x) (a .s) (a .v) (a .active) (a .forks)
+    (c .before .before .count .ensures) 8 (c .before .match .keys8)
 
 returns-9 : tie.Need-returns-9
-returns-9 c = c .fetch .ensures ∙ sends (c .before .before .before .before .args .cells .now) (c .before .before .before .before .args .words .now) (c .before .before .before .before .args .interval) (c .before .before .before .before .args .x) (c .before .before .before .before .args .s) (c .before .before .before .before .args .v) (c .before .before .before .before .args .active) (c .before .before .before .before .args .forks) (c .before .before .count .ensures) 9 (c .before .match .keys9)
+returns-9 c =
+    let a = c .before .before .before .before .args in
+    c .fetch .ensures (programOf (a .cells .now)) (chosen (a .interval))
+    ∙ sends (programOf (a .cells .now)) (a .words .now) (chosen (a .interval)) (a .x) (a .s) (a .v) (a .active) (a .forks)
+    (c .before .before .count .ensures) 9 (c .before .match .keys9)
 
 returns-10 : tie.Need-returns-10
-returns-10 c = c .branch .ensures ∙ sends (c .before .before .before .before .args .cells .now) (c .before .before .before .before .args .words .now) (c .before .before .before .before .args .interval) (c .before .before .before .before .args .x) (c .before .before .before .before .args .s) (c .before .before .before .before .args .v) (c .before .before .before .before .args .active) (c .before .before .before .before .args .forks) (c .before .before .count .ensures) 10 (c .before .match .keys10)
+returns-10 c =
+    let a = c .before .before .before .before .args in
+    c .branch .ensures
+    ∙ sends (programOf (a .cells .now)) (a .words .now) (chosen (a .interval)) (a .x) (a .s) (a .v) (a .active) (a .forks)
+    (c .before .before .count .ensures) 10 (c .before .match .keys10)
 
 returns-11 : tie.Need-returns-11
-returns-11 c = c .allocate .ensures ∙ sends (c .before .before .before .before .args .cells .now) (c .before .before .before .before .args .words .now) (c .before .before .before .before .args .interval) (c .before .before .before .before .args .x) (c .before .before .before .before .args .s) (c .before .before .before .before .args .v) (c .before .before .before .before .args .active) (c .before .before .before .before .args .forks) (c .before .before .count .ensures) 11 (c .before .match .keys11)
+returns-11 c =
+    let a = c .before .before .before .before .args in
+    c .allocate .ensures (chosen (a .interval))
+    ∙ sends (programOf (a .cells .now)) (a .words .now) (chosen (a .interval)) (a .x) (a .s) (a .v) (a .active) (a .forks)
+    (c .before .before .count .ensures) 11 (c .before .match .keys11)
 
 returns-12 : tie.Need-returns-12
-returns-12 c = c .fork .ensures ∙ sends (c .before .before .before .before .args .cells .now) (c .before .before .before .before .args .words .now) (c .before .before .before .before .args .interval) (c .before .before .before .before .args .x) (c .before .before .before .before .args .s) (c .before .before .before .before .args .v) (c .before .before .before .before .args .active) (c .before .before .before .before .args .forks) (c .before .before .count .ensures) 12 (c .before .match .keys12)
+returns-12 c =
+    let a = c .before .before .before .before .args in
+    c .fork .ensures (chosen (a .interval))
+    ∙ sends (programOf (a .cells .now)) (a .words .now) (chosen (a .interval)) (a .x) (a .s) (a .v) (a .active) (a .forks)
+    (c .before .before .count .ensures) 12 (c .before .match .keys12)
 
 returns-13 : tie.Need-returns-13
-returns-13 c = c .jump .ensures ∙ sends (c .before .before .before .before .args .cells .now) (c .before .before .before .before .args .words .now) (c .before .before .before .before .args .interval) (c .before .before .before .before .args .x) (c .before .before .before .before .args .s) (c .before .before .before .before .args .v) (c .before .before .before .before .args .active) (c .before .before .before .before .args .forks) (c .before .before .count .ensures) 13 (c .before .match .keys13)
+returns-13 c =
+    let a = c .before .before .before .before .args in
+    c .jump .ensures
+    ∙ sends (programOf (a .cells .now)) (a .words .now) (chosen (a .interval)) (a .x) (a .s) (a .v) (a .active) (a .forks)
+    (c .before .before .count .ensures) 13 (c .before .match .keys13)
 
 returns-14 : tie.Need-returns-14
-returns-14 c = c .halt .ensures ∙ sends (c .before .before .before .before .args .cells .now) (c .before .before .before .before .args .words .now) (c .before .before .before .before .args .interval) (c .before .before .before .before .args .x) (c .before .before .before .before .args .s) (c .before .before .before .before .args .v) (c .before .before .before .before .args .active) (c .before .before .before .before .args .forks) (c .before .before .count .ensures) 14 (c .before .match .keys14)
+returns-14 c =
+    let a = c .before .before .before .before .args in
+    c .halt .ensures (programOf (a .cells .now)) (chosen (a .interval))
+    ∙ sends (programOf (a .cells .now)) (a .words .now) (chosen (a .interval)) (a .x) (a .s) (a .v) (a .active) (a .forks)
+    (c .before .before .count .ensures) 14 (c .before .match .keys14)
 
 returns-15 : tie.Need-returns-15
-returns-15 c = c .meet .ensures ∙ sends (c .before .before .before .before .args .cells .now) (c .before .before .before .before .args .words .now) (c .before .before .before .before .args .interval) (c .before .before .before .before .args .x) (c .before .before .before .before .args .s) (c .before .before .before .before .args .v) (c .before .before .before .before .args .active) (c .before .before .before .before .args .forks) (c .before .before .count .ensures) 15 (c .before .match .keys15)
+returns-15 c =
+    let a = c .before .before .before .before .args in
+    c .meet .ensures
+    ∙ sends (programOf (a .cells .now)) (a .words .now) (chosen (a .interval)) (a .x) (a .s) (a .v) (a .active) (a .forks)
+    (c .before .before .count .ensures) 15 (c .before .match .keys15)
 
 returns-16 : tie.Need-returns-16
-returns-16 c = let k = c .before .match .rest in c .fault .ensures ∙ sends-nowhere (c .before .before .before .before .args .cells .now) (c .before .before .before .before .args .words .now) (c .before .before .before .before .args .interval) (c .before .before .before .before .args .x) (c .before .before .before .before .args .s) (c .before .before .before .before .args .v) (c .before .before .before .before .args .active) (c .before .before .before .before .args .forks) (c .before .before .count .ensures) (λ least. past 15 (past 14 (past 13 (past 12 (past 11 (past 10 (past 9 (past 8 (past 7 (past 6 (past 5 (past 4 (past 3 (past 2 (past 1 least (k .0 .0 .0 .0 .0 .0 .0 .0 .0 .0 .0 .0 .0 .0 .1)) (k .0 .0 .0 .0 .0 .0 .0 .0 .0 .0 .0 .0 .0 .1)) (k .0 .0 .0 .0 .0 .0 .0 .0 .0 .0 .0 .0 .1)) (k .0 .0 .0 .0 .0 .0 .0 .0 .0 .0 .0 .1)) (k .0 .0 .0 .0 .0 .0 .0 .0 .0 .0 .1)) (k .0 .0 .0 .0 .0 .0 .0 .0 .0 .1)) (k .0 .0 .0 .0 .0 .0 .0 .0 .1)) (k .0 .0 .0 .0 .0 .0 .0 .1)) (k .0 .0 .0 .0 .0 .0 .1)) (k .0 .0 .0 .0 .0 .1)) (k .0 .0 .0 .0 .1)) (k .0 .0 .0 .1)) (k .0 .0 .1)) (k .0 .1)) (k .1))
+returns-16 c =
+    let a = c .before .before .before .before .args in
+    let k = c .before .match .rest in
+    c .fault .ensures
+    ∙ sends-nowhere (programOf (a .cells .now)) (a .words .now) (chosen (a .interval)) (a .x) (a .s) (a .v) (a .active) (a .forks)
+    (c .before .before .count .ensures)
+    (λ least. past 15 (past 14 (past 13 (past 12 (past 11 (past 10 (past 9 (past 8 (past 7 (past 6 (past 5 (past 4 (past 3 (past 2 (past 1 least (k .0 .0 .0 .0 .0 .0 .0 .0 .0 .0 .0 .0 .0 .0 .1)) (k .0 .0 .0 .0 .0 .0 .0 .0 .0 .0 .0 .0 .0 .1)) (k .0 .0 .0 .0 .0 .0 .0 .0 .0 .0 .0 .0 .1)) (k .0 .0 .0 .0 .0 .0 .0 .0 .0 .0 .0 .1)) (k .0 .0 .0 .0 .0 .0 .0 .0 .0 .0 .1)) (k .0 .0 .0 .0 .0 .0 .0 .0 .0 .1)) (k .0 .0 .0 .0 .0 .0 .0 .0 .1)) (k .0 .0 .0 .0 .0 .0 .0 .1)) (k .0 .0 .0 .0 .0 .0 .1)) (k .0 .0 .0 .0 .0 .1)) (k .0 .0 .0 .0 .1)) (k .0 .0 .0 .1)) (k .0 .0 .1)) (k .0 .1)) (k .1))
 
 pub execute-spec : {M : Type 1} → statement M
 execute-spec =

@@ -1,6 +1,6 @@
 -- `does_fit` meets its contract.
 use borrow.Author.Tests.{le-leb, lt-leb}
-use Rattle.task.specs.Step.{fits}
+use Rattle.task.specs.Effect.{fits}
 use borrow.Author.Needs.{needs}
 use Rattle.task.proofs.forking.does_fit.Statement.{statement}
 use Rattle.task.proofs.forking.does_fit.Tie as tie

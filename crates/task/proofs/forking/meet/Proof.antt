@@ -1,9 +1,9 @@
--- `meet` meets its contract.
+-- `meet` meets-there its contract.
 use mathlib.Core.Path.{_∙_}
 use borrow.Author.Tests.{not-true, not-false}
 use Rattle.task.proofs.Computing.{given}
 use Rattle.task.proofs.Entering.{continuation-fits}
-use Rattle.task.proofs.Belonging.{meet-other, meet-unfit, meets, waits-on}
+use Rattle.task.proofs.Belonging.{meet-other, meet-unfit, meets-there, waits-on}
 use borrow.Author.Needs.{needs}
 use Rattle.task.proofs.forking.meet.Statement.{statement}
 use Rattle.task.proofs.forking.meet.Tie as tie
@@ -30,7 +30,7 @@ enter-requires : tie.Need-enter-requires
 enter-requires c κs = (c .before .before .before .before .before .before .before .before .pre .0, continuation-fits (c .before .before .before .before .before .before .before .before .args .cells .now) (c .before .before .before .before .before .v .given .1) (c .before .before .before .before .before .before .before .before .pre .1))
 
 returns-3 : tie.Need-returns-3
-returns-3 c = c .enter .ensures ∙ meets (c .before .before .before .before .before .before .before .before .before .args .cells .now) (c .before .before .before .before .before .before .before .before .before .args .interval) (c .before .before .before .before .before .before .before .before .before .args .v) (c .before .before .before .before .before .before .before .before .before .args .t) (c .before .before .before .before .before .before .before .before .before .args .forks) (c .before .before .before .before .before .before .v .given .1) (c .before .before .before .before .does-fit .ensures) (not-false (c .before .before .before .before .does-fit .result) (c .before .before .before .if1 .left)) (c .before .if2 .taken)
+returns-3 c = c .enter .ensures ∙ meets-there (c .before .before .before .before .before .before .before .before .before .args .cells .now) (c .before .before .before .before .before .before .before .before .before .args .interval) (c .before .before .before .before .before .before .before .before .before .args .v) (c .before .before .before .before .before .before .before .before .before .args .t) (c .before .before .before .before .before .before .before .before .before .args .forks) (c .before .before .before .before .before .before .v .given .1) (c .before .before .before .before .does-fit .ensures) (not-false (c .before .before .before .before .does-fit .result) (c .before .before .before .if1 .left)) (c .before .if2 .taken)
 
 end-requires : tie.Need-end-requires
 end-requires c κs = search needs

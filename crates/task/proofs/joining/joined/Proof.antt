@@ -1,4 +1,5 @@
 -- `joined` meets its contract.
+use Rattle.image.specs.Layout.{programOf}
 use Rattle.image.proofs.Accepted.{accepted}
 use Rattle.task.proofs.Copying.{joins-faulted, joins-running}
 use borrow.Author.Needs.{needs}
@@ -15,7 +16,7 @@ close-requires : tie.Need-close-requires
 close-requires c κs = search needs
 
 returns : tie.Need-returns
-returns c = joins-faulted (c .before .before .before .before .before .before .args .cells .now) (c .before .before .before .before .before .before .args .p) (c .before .before .before .before .before .before .args .c) (c .before .before .before .before .joined-status .ensures) (c .before .before .status .given .1) (c .close .ensures)
+returns c = joins-faulted (programOf (c .before .before .before .before .before .before .args .cells .now)) (c .before .before .before .before .before .before .args .p) (c .before .before .before .before .before .before .args .c) (c .before .before .before .before .joined-status .ensures) (c .before .before .status .given .1) (c .close .ensures)
 
 sub-at : tie.Need-sub-at
 sub-at c = search needs
@@ -42,7 +43,7 @@ close-requires-2 : tie.Need-close-requires-2
 close-requires-2 c κs = search needs
 
 returns-2 : tie.Need-returns-2
-returns-2 c = joins-running (c .before .before .before .before .before .before .before .before .before .before .args .cells .now) (c .before .before .before .before .before .before .before .before .before .before .args .p) (c .before .before .before .before .before .before .before .before .before .before .args .c) (c .before .before .before .before .before .before .before .before .joined-status .ensures) (c .before .before .before .before .before .before .before .match .keys2) (c .before .before .block-of .ensures) (c .before .first-of .ensures) (c .close2 .ensures)
+returns-2 c = joins-running (programOf (c .before .before .before .before .before .before .before .before .before .before .args .cells .now)) (c .before .before .before .before .before .before .before .before .before .before .args .p) (c .before .before .before .before .before .before .before .before .before .before .args .c) (c .before .before .before .before .before .before .before .before .joined-status .ensures) (c .before .before .before .before .before .before .before .match .keys2) (c .before .before .block-of .ensures) (c .before .first-of .ensures) (c .close2 .ensures)
 
 pub joined-spec : {M : Type 1} → statement M
 joined-spec =

@@ -1,0 +1,20 @@
+-- The proof, in its order.
+pub mod Facts
+pub mod PlainLaws
+pub mod SlotLaws
+pub mod PickLaws
+pub mod EveryFrame
+pub mod Trees
+pub mod TreeLaws
+pub mod EvalLaws
+pub mod Laws
+pub mod Holds
+pub mod HoldsLaws
+pub mod Halves
+pub mod Moves
+pub mod OrderLaws
+pub mod DemandLaws
+pub mod CompleteLaws
+pub mod PlacesLaws
+pub mod ShapeLaws
+pub mod RunningLaws

@@ -1,3 +1,0 @@
--- What the contracts of `codes` cite.
-pub mod Stretches
-pub mod Codes

@@ -1,0 +1,4 @@
+pub mod GradeLaws
+pub mod SlotWise
+pub mod TiledLaws
+pub mod CodeLaws

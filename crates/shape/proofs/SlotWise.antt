@@ -1,0 +1,82 @@
+-- One slot's tests by what the code knows of it: its task record, and the grade of its registers.
+use Prim.Native.Nat.{ℕ, _+_, _-_, _^_, _<_}
+use mathlib.Core.Path.{_≡_, ap}
+use mathlib.Core.Bool.{Bool, true, false, _&&_}
+use mathlib.Core.List.{List}
+use native.Mathlib.Omega.{arith}
+use lib.Dec.{eqb, ltb, leb}
+use lib.ListN.{length, getD, set}
+use lib.Seq.{getD-set-same, getD-set-other}
+use borrow.Author.Tests.{eq-eqb, lt-ltb, le-ltb}
+use Rattle.agreement.proofs.Facts.{by-order}
+use Rattle.image.specs.Layout.{instructionCount}
+use Rattle.task.specs.declared.Register.{Register}
+use Rattle.task.specs.declared.Task.{Task}
+use Rattle.task.specs.declared.Frame.{Frame}
+use Rattle.task.specs.Frames.{zeroFork, vacant, running}
+use Rattle.task.specs.Formed.{every, isZeroFork, forkFits, forksFit, atRest, isVacantStatus, statusFits, formed, isVacant}
+use Rattle.task.proofs.Formation.{Formed, formed-is}
+use Rattle.task.proofs.Vacancy.{vacant-is}
+use Rattle.shape.specs.Codes.{Graded, framed, code, codeOf}
+use Rattle.task.proofs.EveryLaws.{every-alike, never}
+
+-- what holds of each element before k, and of the one stored at k, holds before k + 1
+pub below-set : (P : ℕ → ℕ → Type 0) (l : List ℕ) (k v : ℕ) → k < length l → ((j : ℕ) → j < k → P j (getD l j 0)) → P k v
+    → (j : ℕ) → j < k + 1 → P j (getD (set l k v) j 0)
+below-set P l k v inside before here j h =
+    by-order j k
+    (λ (b : j < k). rw (getD-set-other l k j v 0 (λ e. omega arith)) (before j b))
+    (λ (e : j ≡ k). rw (e, getD-set-same l k v 0 inside) here)
+    (λ (a : k < j). absurd (omega arith))
+
+-- at depth 0 no entry is in use
+closed : (cells : List ℕ) (t : Task) → t .depth ≡ 0 → forksFit cells t ≡ every (λ i. isZeroFork (getD (t .forks) i zeroFork)) 6 0
+closed cells t e =
+    every-alike (λ i. forkFits cells (ltb i (t .depth)) (getD (t .forks) i zeroFork)) (λ i. isZeroFork (getD (t .forks) i zeroFork)) 6 0
+    (λ k p q. rw (le-ltb k (t .depth) (omega arith)))
+
+module _ (cells : List ℕ) (t : Task) (registers : List Register) (n : ℕ) (g : Graded cells registers n) (full : length (t .forks) ≡ 6) where
+  -- what is left of the test of a live task once all before its forks has passed
+  pub formed-but-forks : (D h : ℕ) → t .places ≡ 2 ^ h → t .depth + h ≡ D → t .pc < instructionCount cells
+      → statusFits (framed t registers) (t .status) ≡ true
+      → formed cells D h (framed t registers) ≡ forksFit cells t && leb n 1
+  unfolding formed
+  formed-but-forks D h p d c s =
+      rw (
+        eq-eqb (length registers) 16 (g .sixteen),
+        eq-eqb (length (t .forks)) 6 full,
+        eq-eqb (t .places) (2 ^ h) p,
+        eq-eqb (t .depth + h) D d,
+        lt-ltb (t .pc) (instructionCount cells) c,
+        s,
+        g .all-fit,
+      )
+
+  -- and of a vacant slot's
+  pub vacant-but-forks : isVacantStatus (t .status) ≡ true → t .places ≡ 0 → t .span ≡ 0 → t .depth ≡ 0 → atRest t ≡ true
+      → isVacant (framed t registers) ≡ forksFit cells t && eqb n 0
+  unfolding isVacant
+  vacant-but-forks v p s d r =
+      rw (
+        eq-eqb (length registers) 16 (g .sixteen),
+        eq-eqb (length (t .forks)) 6 full,
+        v,
+        eq-eqb (t .places) 0 p,
+        eq-eqb (t .span) 0 s,
+        eq-eqb (t .depth) 0 d,
+        r,
+        closed cells t d,
+        g .all-zero,
+      )
+
+pub code-is : (cells : List ℕ) (D : ℕ) (f : Frame) (v l r : Bool) (h : ℕ) → isVacant f ≡ v → D - f .task .depth ≡ h → formed cells D h f ≡ l
+    → running f ≡ r → codeOf cells D f ≡ code v l r h
+code-is cells D f v l r h p q s u = rw (p, q, s, u)
+
+-- a frame that lacks something of a live one
+pub unformed : (cells : List ℕ) (D h : ℕ) (f : Frame) → (Formed cells D h f → ⊥) → formed cells D h f ≡ false
+unformed cells D h f n = never (formed cells D h f) (λ t. n (formed-is cells D h f t))
+
+-- a frame that differs from the vacant one in something
+pub not-vacant : {A : Type 0} (of : Frame → A) (f : Frame) → (of f ≡ of vacant → ⊥) → isVacant f ≡ false
+not-vacant of f n = never (isVacant f) (λ v. n (ap of (vacant-is f v)))

@@ -1,0 +1,92 @@
+-- The working numbers of the shape test's code: what 16 registers come to, and what a slot comes to. Only the parts of the code cite
+-- these; that a state's codes pass just where the state does is a law.
+use mathlib.Core.Path.{_≡_}
+use mathlib.Core.Bool.{Bool, true, false, not, _&&_, _||_}
+use mathlib.Core.List.{List}
+use Prim.Native.Nat.{ℕ, zero, suc, _+_, _*_, _-_, _^_, _≤_, _<_}
+use lib.Dec.{eqb, leb}
+use lib.ListN.{length, getD}
+use Rattle.image.specs.Layout.{programCells, blockCount}
+use Rattle.task.specs.declared.Value.{Value}
+use Rattle.task.specs.declared.Register.{Register}
+use Rattle.task.specs.declared.Task.{Task}
+use Rattle.task.specs.declared.Frame.{Frame}
+use Rattle.task.specs.Frames.{zeroRegister, noTask, running}
+use Rattle.task.specs.Formed.{every, valueFits, isZero, isVacant, formed}
+use Rattle.task.specs.Stretches.{reads}
+
+-- the buffer has the annotation of each block
+abbrev pub Stored : List ℕ → Type 0
+Stored cells = (blockCount cells ≤ 128) × (length cells ≡ programCells)
+
+-- ---- Registers
+
+-- a value's grade: 0 the integer 0, 1 another value that fits the program, 2 one that does not
+abbrev pub grade : Bool → Bool → ℕ
+grade true fits = 0
+grade false true = 1
+grade false false = 2
+
+abbrev pub gradeOf : List ℕ → Value → ℕ
+gradeOf cells v = grade (isZero v) (valueFits cells v)
+
+-- n is the worst grade of 16 registers: it tells whether all are 0, and whether all fit
+pub record Graded (cells : List ℕ) (registers : List Register) (n : ℕ) : Type 0 where
+  pub sixteen : length registers ≡ 16
+  pub all-zero : every (λ i. isZero (getD registers i zeroRegister .value)) 16 0 ≡ eqb n 0
+  pub all-fit : every (λ i. valueFits cells (getD registers i zeroRegister .value)) 16 0 ≡ leb n 1
+
+-- each slot's grade
+abbrev pub GradedSlots : List ℕ → List Register → List ℕ → Type 0
+GradedSlots cells bank grades = (k : ℕ) → k < 64 → Graded cells (reads zeroRegister bank (16 * k) 16) (getD grades k 0)
+
+-- ---- Slots
+
+abbrev pub framed : Task → List Register → Frame
+framed t registers = record { task = t; registers = registers }
+
+-- a slot's code: 0 vacant, h + 1 a running task of 2 ^ h places, h + 9 another task of 2 ^ h places, 255 what no slot may hold
+abbrev pub code : Bool → Bool → Bool → ℕ → ℕ
+code true live runs h = 0
+code false false runs h = 255
+code false true true h = h + 1
+code false true false h = h + 9
+
+-- in a job of 2 ^ D places
+abbrev pub codeOf : List ℕ → ℕ → Frame → ℕ
+codeOf cells D f = code (isVacant f) (formed cells D (D - f .task .depth) f) (running f) (D - f .task .depth)
+
+-- each slot's code, whatever registers have its grade
+abbrev pub CodedTasks : List ℕ → ℕ → List Task → List ℕ → List ℕ → Type 0
+CodedTasks cells D tasks grades codes =
+    (k : ℕ) → k < 64 → (registers : List Register) → Graded cells registers (getD grades k 0)
+    → getD codes k 0 ≡ codeOf cells D (framed (getD tasks k noTask) registers)
+
+-- ---- The test over codes
+
+-- a task of 2 ^ h places
+abbrev pub stands : ℕ → ℕ → Bool
+stands c h = eqb c (h + 1) || eqb c (h + 9)
+
+-- the n slots from a on are vacant
+abbrev pub clear : List ℕ → ℕ → ℕ → Bool
+clear codes n a = every (λ i. eqb (getD codes i 0) 0) n a
+
+-- of two sides of 2 ^ h places each, not both have ended
+abbrev pub goesOn : List ℕ → ℕ → ℕ → Bool
+goesOn codes h b = not (eqb (getD codes b 0) (h + 9) && eqb (getD codes (b + 2 ^ h) 0) (h + 9))
+
+-- the 2 ^ h slots from b on are one task's, or two halves of which not both have ended
+unfoldable pub tiled : List ℕ → ℕ → ℕ → Bool
+tiled codes zero b = elim (stands (getD codes b 0) zero) [ true ↦ clear codes (2 ^ zero - 1) (b + 1) | false ↦ false ]
+tiled codes (suc h) b = elim (stands (getD codes b 0) (suc h)) [
+  | true ↦ clear codes (2 ^ suc h - 1) (b + 1)
+  | false ↦ elim (tiled codes h b) [
+    | true ↦ elim (tiled codes h (b + 2 ^ h)) [ true ↦ goesOn codes h b | false ↦ false ]
+    | false ↦ false
+  ]
+]
+
+-- all slots of a job of 2 ^ D places are tiled, and all others vacant
+abbrev pub tree : List ℕ → ℕ → Bool
+tree codes D = tiled codes D 0 && clear codes (64 - 2 ^ D) (2 ^ D)

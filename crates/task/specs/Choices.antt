@@ -1,0 +1,27 @@
+-- What a machine may choose: when a counter is due for a beat, and how integers are divided. Document 02's requests change these, and
+-- nothing else of an instruction; two machines are compared by comparing their choices.
+use mathlib.Core.Bool.{Bool, not, _&&_}
+use Prim.Native.Nat.{ℕ}
+use lib.Dec.{eqb, leb}
+use lib.IntN.{ℤ}
+use lib.Signed.{quotZ, remZ}
+use Rattle.int64.specs.Wrapped.{wrapped}
+
+pub record Choices : Type 0 where
+  -- is a counter due for a beat?
+  pub due : ℕ → Bool
+  -- of two integers, the second not 0
+  pub quotient : ℤ → ℤ → ℤ
+  pub remainder : ℤ → ℤ → ℤ
+
+-- with an interval of 0 never; otherwise when the counter is at least the interval (02, request 1)
+abbrev pub dueAt : ℕ → ℕ → Bool
+dueAt interval counter = not (eqb interval 0) && leb interval counter
+
+-- division goes toward zero; the least integer divided by -1 gives itself, remainder 0
+abbrev pub towardZero : ℤ → ℤ → ℤ
+towardZero a b = wrapped (quotZ a b)
+
+-- the engine's, for a job with this interval
+abbrev pub chosen : ℕ → Choices
+chosen interval = record { due = dueAt interval; quotient = towardZero; remainder = remZ }
