@@ -3,11 +3,11 @@ use crate::Block;
 use crate::Instruction;
 ghost use mathlib.Core.Path.{_≡_};
 ghost use mathlib.Core.List.{_++_};
-ghost use Prim.Native.Nat.{_+_, _≤_};
+ghost use Prim.Native.Nat.{_+_, _<_, _≤_};
 ghost use lib.ListN.{length};
 ghost use lib.Seq.{sets};
 ghost use Rattle.int64.specs.Little.{bytesOf};
-ghost use Rattle.image.specs.Layout.{blockIn, blockBytes, blockFrom, blockCell, blockOf, blockCells, instructionIn, instructionBytes, instructionFrom, instructionCell, instructionOf, instructionCells};
+ghost use Rattle.image.specs.Layout.{blockCount, instructionCount, blockIn, blockBytes, blockFrom, blockCell, blockOf, blockCells, instructionIn, instructionBytes, instructionFrom, instructionCell, instructionOf, instructionCells};
 
 // The block whose cells begin at `at`. The crate itself calls it, with the place of a block that the buffer has.
 pub fn block_from(cells: &[u64], at: usize) -> Block
@@ -30,6 +30,22 @@ pub fn block_of(cells: &[u64], b: usize) -> Block
     ensures { λ r. ⌜ r ≡ blockOf (now (cells .entry)) b ⌝ }
 {
     block_from(cells, 2 + 6 * b)
+}
+
+// The numbers of blocks and of instructions. Our crates alone call them, with the buffer of an accepted program.
+pub fn block_count(cells: &[u64]) -> u64
+    requires { ⌜ 1 < length (now cells) ⌝ }
+    ensures { λ r. ⌜ r ≡ blockCount (now (cells .entry)) ⌝ }
+{
+    cells[0]
+}
+
+// As above.
+pub fn instruction_count(cells: &[u64]) -> u64
+    requires { ⌜ 1 < length (now cells) ⌝ }
+    ensures { λ r. ⌜ r ≡ instructionCount (now (cells .entry)) ⌝ }
+{
+    cells[1]
 }
 
 // The fields of block b that control looks at, each by itself. `task` and `shape` alone call them, with a block of an accepted program.

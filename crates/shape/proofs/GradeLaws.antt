@@ -9,6 +9,7 @@ use lib.ListN.{length, getD, set, replicate, length-set, getD-replicate}
 use lib.Seq.{getD-set-same, getD-set-other}
 use borrow.Author.Tests.{eqb-true, eq-eqb, leb-true, le-leb}
 use Rattle.agreement.proofs.Facts.{by-order}
+use Rattle.image.specs.Program.{Program}
 use Rattle.task.specs.declared.Value.{Value}
 use Rattle.task.specs.declared.Value.the-variants.{Int, Label, Record}
 use Rattle.task.specs.declared.Register.{Register}
@@ -102,15 +103,15 @@ grade-fit : (f : Bool) → grade false f ≤ 1 → f ≡ true
 grade-fit true h = refl
 grade-fit false h = absurd (omega arith)
 
-module _ (cells : List ℕ) where
-  grade-fits : (v : Value) → gradeOf cells v ≤ 1 → valueFits cells v ≡ true
+module _ (program : Program) where
+  grade-fits : (v : Value) → gradeOf program v ≤ 1 → valueFits program v ≡ true
   grade-fits (Int z) h = refl
-  grade-fits (Label b) h = grade-fit (valueFits cells (Label b)) h
-  grade-fits (Record b d) h = grade-fit (valueFits cells (Record b d)) h
+  grade-fits (Label b) h = grade-fit (valueFits program (Label b)) h
+  grade-fits (Record b d) h = grade-fit (valueFits program (Record b d)) h
 
   -- the register's grade at a place of the bank
   abbrev pub gradeAt : List Register → ℕ → ℕ
-  gradeAt bank i = gradeOf cells (getD bank i zeroRegister .value)
+  gradeAt bank i = gradeOf program (getD bank i zeroRegister .value)
 
   module _ (bank : List Register) (k c : ℕ) (w : Worst (gradeAt bank) 1024 k c) (h : k < 64) where
     abbrev registers : List Register
@@ -119,14 +120,14 @@ module _ (cells : List ℕ) where
     abbrev value : ℕ → Value
     value j = getD registers j zeroRegister .value
 
-    here : (j : ℕ) → j < 16 → gradeOf cells (value j) ≡ gradeAt bank (16 * k + j)
-    here j p = ap (λ (x : Register). gradeOf cells (x .value)) (getD-reads zeroRegister bank (16 * k) 16 j p)
+    here : (j : ℕ) → j < 16 → gradeOf program (value j) ≡ gradeAt bank (16 * k + j)
+    here j p = ap (λ (x : Register). gradeOf program (x .value)) (getD-reads zeroRegister bank (16 * k) 16 j p)
 
     -- c is at most n just where each register's grade is
-    worst-each : (n : ℕ) → c ≤ n → (j : ℕ) → j < 16 → gradeOf cells (value j) ≤ n
+    worst-each : (n : ℕ) → c ≤ n → (j : ℕ) → j < 16 → gradeOf program (value j) ≤ n
     worst-each n p j q = let a = w .above (16 * k + j) (omega arith) (omega arith) (omega arith) in rw (here j q) (omega arith)
 
-    each-worst : (n : ℕ) → ((j : ℕ) → j < 16 → gradeOf cells (value j) ≤ n) → c ≤ n
+    each-worst : (n : ℕ) → ((j : ℕ) → j < 16 → gradeOf program (value j) ≤ n) → c ≤ n
     each-worst n all =
         w .least n
         (λ j p q r.
@@ -138,7 +139,7 @@ module _ (cells : List ℕ) where
     zeroAt i = isZero (value i)
 
     abbrev fitAt : ℕ → Bool
-    fitAt i = valueFits cells (value i)
+    fitAt i = valueFits program (value i)
 
     all-zero-least : every zeroAt 16 0 ≡ true → c ≤ 0
     all-zero-least e = each-worst 0 (λ j q. zero-grade (zeroAt j) (fitAt j) (every-at zeroAt 16 0 e j (omega arith) (omega arith)))
@@ -146,7 +147,7 @@ module _ (cells : List ℕ) where
     all-fit-least : every fitAt 16 0 ≡ true → c ≤ 1
     all-fit-least e = each-worst 1 (λ j q. fit-grade (zeroAt j) (fitAt j) (every-at fitAt 16 0 e j (omega arith) (omega arith)))
 
-    worst-graded : Graded cells (reads zeroRegister bank (16 * k) 16) c
+    worst-graded : Graded program (reads zeroRegister bank (16 * k) 16) c
     worst-graded = record {
       sixteen = length-reads zeroRegister bank (16 * k) 16;
       all-zero =
@@ -161,5 +162,5 @@ module _ (cells : List ℕ) where
     }
 
   pub worst-is-grade : (bank : List Register) (grades : List ℕ) (i : ℕ) → i ≡ 1024 → WorstSlots (gradeAt bank) i grades
-      → GradedSlots cells bank grades
+      → GradedSlots program bank grades
   worst-is-grade bank grades i e all k h = worst-graded bank k (getD grades k 0) (rw e at (all .1 k h)) h

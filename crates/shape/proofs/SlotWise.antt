@@ -9,7 +9,7 @@ use lib.ListN.{length, getD, set}
 use lib.Seq.{getD-set-same, getD-set-other}
 use borrow.Author.Tests.{eq-eqb, lt-ltb, le-ltb}
 use Rattle.agreement.proofs.Facts.{by-order}
-use Rattle.image.specs.Layout.{instructionCount}
+use Rattle.image.specs.Program.{Program}
 use Rattle.task.specs.declared.Register.{Register}
 use Rattle.task.specs.declared.Task.{Task}
 use Rattle.task.specs.declared.Frame.{Frame}
@@ -30,16 +30,16 @@ below-set P l k v inside before here j h =
     (λ (a : k < j). absurd (omega arith))
 
 -- at depth 0 no entry is in use
-closed : (cells : List ℕ) (t : Task) → t .depth ≡ 0 → forksFit cells t ≡ every (λ i. isZeroFork (getD (t .forks) i zeroFork)) 6 0
-closed cells t e =
-    every-alike (λ i. forkFits cells (ltb i (t .depth)) (getD (t .forks) i zeroFork)) (λ i. isZeroFork (getD (t .forks) i zeroFork)) 6 0
+closed : (program : Program) (t : Task) → t .depth ≡ 0 → forksFit program t ≡ every (λ i. isZeroFork (getD (t .forks) i zeroFork)) 6 0
+closed program t e =
+    every-alike (λ i. forkFits program (ltb i (t .depth)) (getD (t .forks) i zeroFork)) (λ i. isZeroFork (getD (t .forks) i zeroFork)) 6 0
     (λ k p q. rw (le-ltb k (t .depth) (omega arith)))
 
-module _ (cells : List ℕ) (t : Task) (registers : List Register) (n : ℕ) (g : Graded cells registers n) (full : length (t .forks) ≡ 6) where
+module _ (program : Program) (t : Task) (registers : List Register) (n : ℕ) (g : Graded program registers n) (full : length (t .forks) ≡ 6) where
   -- what is left of the test of a live task once all before its forks has passed
-  pub formed-but-forks : (D h : ℕ) → t .places ≡ 2 ^ h → t .depth + h ≡ D → t .pc < instructionCount cells
+  pub formed-but-forks : (D h : ℕ) → t .places ≡ 2 ^ h → t .depth + h ≡ D → t .pc < program .instructions
       → statusFits (framed t registers) (t .status) ≡ true
-      → formed cells D h (framed t registers) ≡ forksFit cells t && leb n 1
+      → formed program D h (framed t registers) ≡ forksFit program t && leb n 1
   unfolding formed
   formed-but-forks D h p d c s =
       rw (
@@ -47,14 +47,14 @@ module _ (cells : List ℕ) (t : Task) (registers : List Register) (n : ℕ) (g 
         eq-eqb (length (t .forks)) 6 full,
         eq-eqb (t .places) (2 ^ h) p,
         eq-eqb (t .depth + h) D d,
-        lt-ltb (t .pc) (instructionCount cells) c,
+        lt-ltb (t .pc) (program .instructions) c,
         s,
         g .all-fit,
       )
 
   -- and of a vacant slot's
   pub vacant-but-forks : isVacantStatus (t .status) ≡ true → t .places ≡ 0 → t .span ≡ 0 → t .depth ≡ 0 → atRest t ≡ true
-      → isVacant (framed t registers) ≡ forksFit cells t && eqb n 0
+      → isVacant (framed t registers) ≡ forksFit program t && eqb n 0
   unfolding isVacant
   vacant-but-forks v p s d r =
       rw (
@@ -65,17 +65,17 @@ module _ (cells : List ℕ) (t : Task) (registers : List Register) (n : ℕ) (g 
         eq-eqb (t .span) 0 s,
         eq-eqb (t .depth) 0 d,
         r,
-        closed cells t d,
+        closed program t d,
         g .all-zero,
       )
 
-pub code-is : (cells : List ℕ) (D : ℕ) (f : Frame) (v l r : Bool) (h : ℕ) → isVacant f ≡ v → D - f .task .depth ≡ h → formed cells D h f ≡ l
-    → running f ≡ r → codeOf cells D f ≡ code v l r h
-code-is cells D f v l r h p q s u = rw (p, q, s, u)
+pub code-is : (program : Program) (D : ℕ) (f : Frame) (v l r : Bool) (h : ℕ) → isVacant f ≡ v → D - f .task .depth ≡ h → formed program D h f ≡ l
+    → running f ≡ r → codeOf program D f ≡ code v l r h
+code-is program D f v l r h p q s u = rw (p, q, s, u)
 
 -- a frame that lacks something of a live one
-pub unformed : (cells : List ℕ) (D h : ℕ) (f : Frame) → (Formed cells D h f → ⊥) → formed cells D h f ≡ false
-unformed cells D h f n = never (formed cells D h f) (λ t. n (formed-is cells D h f t))
+pub unformed : (program : Program) (D h : ℕ) (f : Frame) → (Formed program D h f → ⊥) → formed program D h f ≡ false
+unformed program D h f n = never (formed program D h f) (λ t. n (formed-is program D h f t))
 
 -- a frame that differs from the vacant one in something
 pub not-vacant : {A : Type 0} (of : Frame → A) (f : Frame) → (of f ≡ of vacant → ⊥) → isVacant f ≡ false

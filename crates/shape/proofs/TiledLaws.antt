@@ -8,7 +8,7 @@ use lib.Dec.{eqb}
 use lib.Pow.{pow-mono}
 use lib.ListN.{getD}
 use borrow.Author.Tests.{eq-eqb, ne-eqb}
-use Rattle.shape.specs.Codes.{stands, clear, goesOn, tiled, tree}
+use Rattle.shape.specs.Codes.{stands, clear, notBothEnded, tiled, tree}
 
 pub tiled-whole : (codes : List ℕ) (h b : ℕ) → stands (getD codes b 0) h ≡ true → tiled codes h b ≡ clear codes (2 ^ h - 1) (b + 1)
 unfolding tiled
@@ -29,7 +29,7 @@ module _ (codes : List ℕ) (b : ℕ) where
     unfolding tiled
     tiled-upper-fails l u = rw (tiled, split, l, u)
 
-    pub tiled-halves : tiled codes h b ≡ true → tiled codes h (b + 2 ^ h) ≡ true → tiled codes (suc h) b ≡ goesOn codes h b
+    pub tiled-halves : tiled codes h b ≡ true → tiled codes h (b + 2 ^ h) ≡ true → tiled codes (suc h) b ≡ notBothEnded codes h b
     unfolding tiled
     tiled-halves l u = rw (tiled, split, l, u)
 
@@ -63,7 +63,7 @@ module _ (codes : List ℕ) (h b c : ℕ) (read : c ≡ getD codes b 0) where
       upper-fails-way u = rw e (sym (tiled-upper-fails codes b g split l (sym upper-at ∙ u)))
 
       module _ (u : tiled codes g (b + p) ≡ true) where
-        halves : tiled codes h b ≡ goesOn codes g b
+        halves : tiled codes h b ≡ notBothEnded codes g b
         halves = rw e (tiled-halves codes b g split l (sym upper-at ∙ u))
 
         pub parent-goes-on-way : (c ≡ h + 8 → ⊥) → true ≡ tiled codes h b

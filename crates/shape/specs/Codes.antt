@@ -7,6 +7,7 @@ use Prim.Native.Nat.{ℕ, zero, suc, _+_, _*_, _-_, _^_, _≤_, _<_}
 use lib.Dec.{eqb, leb}
 use lib.ListN.{length, getD}
 use Rattle.image.specs.Layout.{programCells, blockCount}
+use Rattle.image.specs.Program.{Program}
 use Rattle.task.specs.declared.Value.{Value}
 use Rattle.task.specs.declared.Register.{Register}
 use Rattle.task.specs.declared.Task.{Task}
@@ -27,18 +28,18 @@ grade true fits = 0
 grade false true = 1
 grade false false = 2
 
-abbrev pub gradeOf : List ℕ → Value → ℕ
-gradeOf cells v = grade (isZero v) (valueFits cells v)
+abbrev pub gradeOf : Program → Value → ℕ
+gradeOf program v = grade (isZero v) (valueFits program v)
 
 -- n is the worst grade of 16 registers: it tells whether all are 0, and whether all fit
-pub record Graded (cells : List ℕ) (registers : List Register) (n : ℕ) : Type 0 where
+pub record Graded (program : Program) (registers : List Register) (n : ℕ) : Type 0 where
   pub sixteen : length registers ≡ 16
   pub all-zero : every (λ i. isZero (getD registers i zeroRegister .value)) 16 0 ≡ eqb n 0
-  pub all-fit : every (λ i. valueFits cells (getD registers i zeroRegister .value)) 16 0 ≡ leb n 1
+  pub all-fit : every (λ i. valueFits program (getD registers i zeroRegister .value)) 16 0 ≡ leb n 1
 
 -- each slot's grade
-abbrev pub GradedSlots : List ℕ → List Register → List ℕ → Type 0
-GradedSlots cells bank grades = (k : ℕ) → k < 64 → Graded cells (reads zeroRegister bank (16 * k) 16) (getD grades k 0)
+abbrev pub GradedSlots : Program → List Register → List ℕ → Type 0
+GradedSlots program bank grades = (k : ℕ) → k < 64 → Graded program (reads zeroRegister bank (16 * k) 16) (getD grades k 0)
 
 -- ---- Slots
 
@@ -53,14 +54,14 @@ code false true true h = h + 1
 code false true false h = h + 9
 
 -- in a job of 2 ^ D places
-abbrev pub codeOf : List ℕ → ℕ → Frame → ℕ
-codeOf cells D f = code (isVacant f) (formed cells D (D - f .task .depth) f) (running f) (D - f .task .depth)
+abbrev pub codeOf : Program → ℕ → Frame → ℕ
+codeOf program D f = code (isVacant f) (formed program D (D - f .task .depth) f) (running f) (D - f .task .depth)
 
 -- each slot's code, whatever registers have its grade
-abbrev pub CodedTasks : List ℕ → ℕ → List Task → List ℕ → List ℕ → Type 0
-CodedTasks cells D tasks grades codes =
-    (k : ℕ) → k < 64 → (registers : List Register) → Graded cells registers (getD grades k 0)
-    → getD codes k 0 ≡ codeOf cells D (framed (getD tasks k noTask) registers)
+abbrev pub CodedTasks : Program → ℕ → List Task → List ℕ → List ℕ → Type 0
+CodedTasks program D tasks grades codes =
+    (k : ℕ) → k < 64 → (registers : List Register) → Graded program registers (getD grades k 0)
+    → getD codes k 0 ≡ codeOf program D (framed (getD tasks k noTask) registers)
 
 -- ---- The test over codes
 
@@ -73,8 +74,8 @@ abbrev pub clear : List ℕ → ℕ → ℕ → Bool
 clear codes n a = every (λ i. eqb (getD codes i 0) 0) n a
 
 -- of two sides of 2 ^ h places each, not both have ended
-abbrev pub goesOn : List ℕ → ℕ → ℕ → Bool
-goesOn codes h b = not (eqb (getD codes b 0) (h + 9) && eqb (getD codes (b + 2 ^ h) 0) (h + 9))
+abbrev pub notBothEnded : List ℕ → ℕ → ℕ → Bool
+notBothEnded codes h b = not (eqb (getD codes b 0) (h + 9) && eqb (getD codes (b + 2 ^ h) 0) (h + 9))
 
 -- the 2 ^ h slots from b on are one task's, or two halves of which not both have ended
 unfoldable pub tiled : List ℕ → ℕ → ℕ → Bool
@@ -82,7 +83,7 @@ tiled codes zero b = elim (stands (getD codes b 0) zero) [ true ↦ clear codes 
 tiled codes (suc h) b = elim (stands (getD codes b 0) (suc h)) [
   | true ↦ clear codes (2 ^ suc h - 1) (b + 1)
   | false ↦ elim (tiled codes h b) [
-    | true ↦ elim (tiled codes h (b + 2 ^ h)) [ true ↦ goesOn codes h b | false ↦ false ]
+    | true ↦ elim (tiled codes h (b + 2 ^ h)) [ true ↦ notBothEnded codes h b | false ↦ false ]
     | false ↦ false
   ]
 ]

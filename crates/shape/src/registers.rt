@@ -1,8 +1,10 @@
 // The registers of each slot, in one pass over the bank: whether all are 0, and whether all fit the program.
+use image::layout;
 use task::Register;
 use task::Value;
 ghost use mathlib.Core.Path.{_≡_};
 ghost use Prim.Native.Nat.{ℕ, _≤_};
+ghost use Rattle.image.specs.Layout.{programOf};
 ghost use Rattle.task.specs.Formed.{isTarget, valueFits, isZero};
 ghost use Rattle.shape.specs.Codes.{Stored, gradeOf, GradedSlots};
 
@@ -10,22 +12,22 @@ ghost use Rattle.shape.specs.Codes.{Stored, gradeOf, GradedSlots};
 // test, and has put the program's questions and the one on the buffer's length, which ensure `Stored`.
 pub fn is_target(cells: &[u64], b: u32) -> bool
     requires { ⌜ Stored (now cells) ⌝ }
-    ensures { λ r. ⌜ r ≡ isTarget (now (cells .entry)) b ⌝ }
+    ensures { λ r. ⌜ r ≡ isTarget (programOf (now (cells .entry))) b ⌝ }
 {
-    if cells[0] <= b as u64 {
+    if layout::block_count(cells) <= b as u64 {
         return false;
     }
-    cells[2 + 6 * (b as usize) + 1] == 2
+    layout::annotation_of(cells, b as usize) == 2
 }
 
 // Every label below B, every record's continuation a join target.
 fn value_fits(cells: &[u64], v: Value) -> bool
     requires { ⌜ Stored (now cells) ⌝ }
-    ensures { λ r. ⌜ r ≡ valueFits (now (cells .entry)) v ⌝ }
+    ensures { λ r. ⌜ r ≡ valueFits (programOf (now (cells .entry))) v ⌝ }
 {
     match v {
         Value::Int(_) => true,
-        Value::Label(b) => (b as u64) < cells[0],
+        Value::Label(b) => (b as u64) < layout::block_count(cells),
         Value::Record(b, _) => is_target(cells, b),
     }
 }
@@ -43,7 +45,7 @@ fn is_zero(v: Value) -> bool
 // 0 the integer 0, 1 another value that fits, 2 one that does not.
 fn grade_of(cells: &[u64], v: Value) -> u8
     requires { ⌜ Stored (now cells) ⌝ }
-    ensures { λ r. ⌜ r ≡ gradeOf (now (cells .entry)) v ⌝ }
+    ensures { λ r. ⌜ r ≡ gradeOf (programOf (now (cells .entry))) v ⌝ }
 {
     if is_zero(v) {
         return 0;
@@ -66,7 +68,7 @@ fn larger(a: u8, b: u8) -> u8
 // The worst grade of each slot's 16 registers. `machine` alone calls it, in the shape test; `Stored`: as above.
 pub fn grade_slots(cells: &[u64], bank: [Register; 1024]) -> [u8; 64]
     requires { ⌜ Stored (now cells) ⌝ }
-    ensures { λ r. ⌜ GradedSlots (now (cells .entry)) bank r ⌝ }
+    ensures { λ r. ⌜ GradedSlots (programOf (now (cells .entry))) bank r ⌝ }
 {
     let mut grades = [0u8; 64];
     let mut i: usize = 0;

@@ -1,19 +1,21 @@
 // The code of each slot, by its task record and the grade of its registers.
 use crate::tasks;
 use crate::tiling;
+use image::layout;
 use task::Register;
 use task::Task;
 use task::running::is_running;
 ghost use mathlib.Core.Path.{_≡_};
 ghost use mathlib.Core.List.{List};
 ghost use Prim.Native.Nat.{_-_, _≤_};
+ghost use Rattle.image.specs.Layout.{programOf};
 ghost use Rattle.task.specs.Formed.{formed, isVacant};
 ghost use Rattle.shape.specs.Codes.{Stored, Graded, framed, codeOf, CodedTasks};
 
 // A live task of 2 ^ h places in a job of 2 ^ rank, with registers of this grade.
 fn is_formed(cells: &[u64], rank: usize, h: usize, t: Task, grade: u8) -> bool
     requires { ⌜ Stored (now cells) × (h ≤ 6) ⌝ }
-    ensures { λ r. ⌜ ((registers : List Register) → Graded (now (cells .entry)) registers grade → r ≡ formed (now (cells .entry)) rank h (framed t registers)) ⌝ }
+    ensures { λ r. ⌜ ((registers : List Register) → Graded (programOf (now (cells .entry))) registers grade → r ≡ formed (programOf (now (cells .entry))) rank h (framed t registers)) ⌝ }
 {
     if t.places != tiling::power(h) {
         return false;
@@ -21,7 +23,7 @@ fn is_formed(cells: &[u64], rank: usize, h: usize, t: Task, grade: u8) -> bool
     if (t.depth as usize) + h != rank {
         return false;
     }
-    if cells[1] <= t.pc as u64 {
+    if layout::instruction_count(cells) <= t.pc as u64 {
         return false;
     }
     if !tasks::status_fits(t, grade == 0) {
@@ -37,7 +39,7 @@ fn is_formed(cells: &[u64], rank: usize, h: usize, t: Task, grade: u8) -> bool
 // A slot without a task. At depth 0 forks_fit asks that every entry is 0.
 fn is_vacant(cells: &[u64], t: Task, grade: u8) -> bool
     requires { ⌜ Stored (now cells) ⌝ }
-    ensures { λ r. ⌜ ((registers : List Register) → Graded (now (cells .entry)) registers grade → r ≡ isVacant (framed t registers)) ⌝ }
+    ensures { λ r. ⌜ ((registers : List Register) → Graded (programOf (now (cells .entry))) registers grade → r ≡ isVacant (framed t registers)) ⌝ }
 {
     let s = t.status;
     if !tasks::is_vacant_status(s) {
@@ -76,7 +78,7 @@ fn height(rank: usize, depth: u32) -> usize
 // 0 vacant, h + 1 a running task of 2 ^ h places, h + 9 another task, 255 what no slot may hold.
 fn code_of(cells: &[u64], rank: usize, t: Task, grade: u8) -> u8
     requires { ⌜ Stored (now cells) × (rank ≤ 6) ⌝ }
-    ensures { λ r. ⌜ ((registers : List Register) → Graded (now (cells .entry)) registers grade → r ≡ codeOf (now (cells .entry)) rank (framed t registers)) ⌝ }
+    ensures { λ r. ⌜ ((registers : List Register) → Graded (programOf (now (cells .entry))) registers grade → r ≡ codeOf (programOf (now (cells .entry))) rank (framed t registers)) ⌝ }
 {
     if is_vacant(cells, t, grade) {
         return 0;
@@ -95,7 +97,7 @@ fn code_of(cells: &[u64], rank: usize, t: Task, grade: u8) -> u8
 // The code of each slot. `machine` alone calls it, with a rank that it has found to be at most 6; `Stored`: as in registers.rt.
 pub fn code_slots(cells: &[u64], rank: usize, tasks: [Task; 64], grades: [u8; 64]) -> [u8; 64]
     requires { ⌜ Stored (now cells) × (rank ≤ 6) ⌝ }
-    ensures { λ r. ⌜ CodedTasks (now (cells .entry)) rank tasks grades r ⌝ }
+    ensures { λ r. ⌜ CodedTasks (programOf (now (cells .entry))) rank tasks grades r ⌝ }
 {
     let mut codes = [0u8; 64];
     let mut k: usize = 0;

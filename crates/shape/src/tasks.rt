@@ -9,6 +9,7 @@ ghost use mathlib.Core.List.{List};
 ghost use Prim.Native.Nat.{ℕ};
 ghost use lib.Dec.{ltb};
 ghost use lib.ListN.{length, getD};
+ghost use Rattle.image.specs.Layout.{programOf};
 ghost use Rattle.task.specs.Frames.{zeroFork, noTask};
 ghost use Rattle.task.specs.Formed.{every, within, registersZero, forkFits, atRest, isVacantStatus, statusFits};
 ghost use Rattle.shape.specs.Codes.{Stored, framed};
@@ -18,7 +19,7 @@ ghost use Rattle.shape.specs.Codes.{Stored, framed};
 // An open fork names a join target; an entry that is not in use is 0.
 fn fork_fits(cells: &[u64], is_open: bool, fork: Fork) -> bool
     requires { ⌜ Stored (now cells) ⌝ }
-    ensures { λ r. ⌜ r ≡ forkFits (now (cells .entry)) is_open fork ⌝ }
+    ensures { λ r. ⌜ r ≡ forkFits (programOf (now (cells .entry))) is_open fork ⌝ }
 {
     if is_open {
         return registers::is_target(cells, fork.continuation);
@@ -32,7 +33,7 @@ fn fork_fits(cells: &[u64], is_open: bool, fork: Fork) -> bool
 // The entries of a task at this depth: each of its open forks, and 0 past them. This crate alone calls it; `Stored`: as in registers.rt.
 pub fn forks_fit(cells: &[u64], depth: u32, forks: [Fork; 6]) -> bool
     requires { ⌜ Stored (now cells) ⌝ }
-    ensures { λ r. ⌜ (r ≡ every (λ i. forkFits (now (cells .entry)) (ltb i depth) (getD forks i zeroFork)) 6 0) × (length forks ≡ 6) ⌝ }
+    ensures { λ r. ⌜ (r ≡ every (λ i. forkFits (programOf (now (cells .entry))) (ltb i depth) (getD forks i zeroFork)) 6 0) × (length forks ≡ 6) ⌝ }
 {
     let used = depth as usize;
     let mut i: usize = 0;

@@ -1,4 +1,5 @@
 -- `code_of` meets its contract.
+use Rattle.image.specs.Layout.{programOf}
 use mathlib.Core.Path.{refl, sym, _∙_}
 use mathlib.Core.Bool.{true, false}
 use borrow.Author.Tests.{not-true, not-false}
@@ -12,7 +13,7 @@ is-vacant-requires : tie.Need-is-vacant-requires
 is-vacant-requires c κs = search needs
 
 returns : tie.Need-returns
-returns c = λ registers g. sym (code-is (c .before .before .before .args .cells .now) (c .before .before .before .args .rank) (framed (c .before .before .before .args .t) registers) true _ _ _ (sym (c .before .is-vacant .ensures registers g) ∙ c .if1 .taken) refl refl refl)
+returns c = λ registers g. sym (code-is (programOf (c .before .before .before .args .cells .now)) (c .before .before .before .args .rank) (framed (c .before .before .before .args .t) registers) true _ _ _ (sym (c .before .is-vacant .ensures registers g) ∙ c .if1 .taken) refl refl refl)
 
 height-requires : tie.Need-height-requires
 height-requires c κs = search needs
@@ -21,7 +22,7 @@ is-formed-requires : tie.Need-is-formed-requires
 is-formed-requires c κs = search needs
 
 returns-2 : tie.Need-returns-2
-returns-2 c = λ registers g. sym (code-is (c .before .before .before .before .before .before .args .cells .now) (c .before .before .before .before .before .before .args .rank) (framed (c .before .before .before .before .before .before .args .t) registers) false false _ _ (sym (c .before .before .before .before .is-vacant .ensures registers g) ∙ c .before .before .before .if1 .left) (sym (c .before .before .height .ensures)) (sym (c .before .is-formed .ensures registers g) ∙ not-true (c .before .is-formed .result) (c .if2 .taken)) refl)
+returns-2 c = λ registers g. sym (code-is (programOf (c .before .before .before .before .before .before .args .cells .now)) (c .before .before .before .before .before .before .args .rank) (framed (c .before .before .before .before .before .before .args .t) registers) false false _ _ (sym (c .before .before .before .before .is-vacant .ensures registers g) ∙ c .before .before .before .if1 .left) (sym (c .before .before .height .ensures)) (sym (c .before .is-formed .ensures registers g) ∙ not-true (c .before .is-formed .result) (c .if2 .taken)) refl)
 
 is-running-requires : tie.Need-is-running-requires
 is-running-requires c κs = search needs
@@ -33,7 +34,7 @@ add-result : tie.Need-add-result
 add-result c = search needs
 
 returns-3 : tie.Need-returns-3
-returns-3 c = λ registers g. sym (code-is (c .before .before .before .before .before .before .before .before .args .cells .now) (c .before .before .before .before .before .before .before .before .args .rank) (framed (c .before .before .before .before .before .before .before .before .args .t) registers) false true true _ (sym (c .before .before .before .before .before .before .is-vacant .ensures registers g) ∙ c .before .before .before .before .before .if1 .left) (sym (c .before .before .before .before .height .ensures)) (sym (c .before .before .before .is-formed .ensures registers g) ∙ not-false (c .before .before .before .is-formed .result) (c .before .before .if2 .left)) (sym (c .before .is-running .ensures) ∙ c .if3 .taken))
+returns-3 c = λ registers g. sym (code-is (programOf (c .before .before .before .before .before .before .before .before .args .cells .now)) (c .before .before .before .before .before .before .before .before .args .rank) (framed (c .before .before .before .before .before .before .before .before .args .t) registers) false true true _ (sym (c .before .before .before .before .before .before .is-vacant .ensures registers g) ∙ c .before .before .before .before .before .if1 .left) (sym (c .before .before .before .before .height .ensures)) (sym (c .before .before .before .is-formed .ensures registers g) ∙ not-false (c .before .before .before .is-formed .result) (c .before .before .if2 .left)) (sym (c .before .is-running .ensures) ∙ c .if3 .taken))
 
 cast-result-2 : tie.Need-cast-result-2
 cast-result-2 c = search needs
@@ -42,7 +43,7 @@ add-result-2 : tie.Need-add-result-2
 add-result-2 c = search needs
 
 returns-4 : tie.Need-returns-4
-returns-4 c = λ registers g. sym (code-is (c .before .before .before .before .before .before .before .before .args .cells .now) (c .before .before .before .before .before .before .before .before .args .rank) (framed (c .before .before .before .before .before .before .before .before .args .t) registers) false true false _ (sym (c .before .before .before .before .before .before .is-vacant .ensures registers g) ∙ c .before .before .before .before .before .if1 .left) (sym (c .before .before .before .before .height .ensures)) (sym (c .before .before .before .is-formed .ensures registers g) ∙ not-false (c .before .before .before .is-formed .result) (c .before .before .if2 .left)) (sym (c .before .is-running .ensures) ∙ c .if3 .left))
+returns-4 c = λ registers g. sym (code-is (programOf (c .before .before .before .before .before .before .before .before .args .cells .now)) (c .before .before .before .before .before .before .before .before .args .rank) (framed (c .before .before .before .before .before .before .before .before .args .t) registers) false true false _ (sym (c .before .before .before .before .before .before .is-vacant .ensures registers g) ∙ c .before .before .before .before .before .if1 .left) (sym (c .before .before .before .before .height .ensures)) (sym (c .before .before .before .is-formed .ensures registers g) ∙ not-false (c .before .before .before .is-formed .result) (c .before .before .if2 .left)) (sym (c .before .is-running .ensures) ∙ c .if3 .left))
 
 pub code-of-spec : {M : Type 1} → statement M
 code-of-spec =

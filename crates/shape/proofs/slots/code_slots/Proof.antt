@@ -1,4 +1,5 @@
 -- `code_slots` meets its contract.
+use Rattle.image.specs.Layout.{programOf}
 use mathlib.Core.Path.{_≡_, refl, _∙_}
 use mathlib.Core.List.{List}
 use Prim.Native.Nat.{ℕ, _-_, _<_, _≤_}
@@ -13,7 +14,7 @@ use Rattle.shape.proofs.slots.code_slots.Statement.{statement}
 use Rattle.shape.proofs.slots.code_slots.Tie as tie
 
 abbrev Inv-loop : tie.InvT-loop
-Inv-loop cells rank tasks grades codes₀ k₀ codes k = (k ≤ 64) × (length codes ≡ 64) × ((j : ℕ) → j < k → (registers : List Register) → Graded cells registers (getD grades j 0) → getD codes j 0 ≡ codeOf cells rank (framed (getD tasks j noTask) registers))
+Inv-loop cells rank tasks grades codes₀ k₀ codes k = (k ≤ 64) × (length codes ≡ 64) × ((j : ℕ) → j < k → (registers : List Register) → Graded (programOf cells) registers (getD grades j 0) → getD codes j 0 ≡ codeOf (programOf cells) rank (framed (getD tasks j noTask) registers))
 
 abbrev μ-loop : tie.MeasureT-loop
 μ-loop cells rank tasks grades codes₀ k₀ codes k = 64 - k
@@ -43,7 +44,7 @@ loop-less : tie.Need-loop-less Inv-loop μ-loop
 loop-less c = omega arith
 
 loop-again : tie.Need-loop-again Inv-loop μ-loop
-loop-again c = (omega arith, length-set (c .before .before .before .loop .codes) (c .before .before .before .loop .k) (c .code-of .result) ∙ c .before .before .before .loop .inv .1, below-set (λ (j v : ℕ). (registers : List Register) → Graded (c .before .before .before .before .before .args .cells .now) registers (getD (c .before .before .before .before .before .args .t4) j 0) → v ≡ codeOf (c .before .before .before .before .before .args .cells .now) (c .before .before .before .before .before .args .rank) (framed (getD (c .before .before .before .before .before .args .t3) j noTask) registers)) (c .before .before .before .loop .codes) (c .before .before .before .loop .k) (c .code-of .result) (omega (arith, c .before .before .before .loop .inv .1)) (c .before .before .before .loop .inv .2) (c .code-of .ensures))
+loop-again c = (omega arith, length-set (c .before .before .before .loop .codes) (c .before .before .before .loop .k) (c .code-of .result) ∙ c .before .before .before .loop .inv .1, below-set (λ (j v : ℕ). (registers : List Register) → Graded (programOf (c .before .before .before .before .before .args .cells .now)) registers (getD (c .before .before .before .before .before .args .t4) j 0) → v ≡ codeOf (programOf (c .before .before .before .before .before .args .cells .now)) (c .before .before .before .before .before .args .rank) (framed (getD (c .before .before .before .before .before .args .t3) j noTask) registers)) (c .before .before .before .loop .codes) (c .before .before .before .loop .k) (c .code-of .result) (omega (arith, c .before .before .before .loop .inv .1)) (c .before .before .before .loop .inv .2) (c .code-of .ensures))
 
 returns : tie.Need-returns Inv-loop μ-loop
 returns c = λ j h. c .before .loop .inv .2 j (omega arith)

@@ -1,4 +1,5 @@
 -- `is_vacant` meets its contract.
+use Rattle.image.specs.Layout.{programOf}
 use mathlib.Core.Path.{sym, ap, _∙_}
 use lib.Dec.{eqb}
 use borrow.Author.Tests.{not-true, not-false}
@@ -37,10 +38,10 @@ forks-fit-requires : tie.Need-forks-fit-requires
 forks-fit-requires c κs = search needs
 
 returns-6 : tie.Need-returns-6
-returns-6 c = λ registers g. sym (vacant-but-forks (c .before .before .before .before .before .before .before .before .before .before .before .before .before .before .args .cells .now) (c .before .before .before .before .before .before .before .before .before .before .before .before .before .before .args .t) registers (c .before .before .before .before .before .before .before .before .before .before .before .before .before .before .args .grade) g (c .before .forks-fit .ensures .1) (sym (c .before .before .before .before .before .before .before .before .before .before .before .before .is-vacant-status .ensures) ∙ not-false (c .before .before .before .before .before .before .before .before .before .before .before .before .is-vacant-status .result) (c .before .before .before .before .before .before .before .before .before .before .before .if1 .left)) (c .before .before .before .before .before .before .before .before .before .if2 .left) (c .before .before .before .before .before .before .before .if3 .left) (c .before .before .before .before .before .if4 .left) (sym (c .before .before .before .before .is-at-rest .ensures) ∙ not-false (c .before .before .before .before .is-at-rest .result) (c .before .before .before .if5 .left)) ∙ ap (λ b. b && eqb (c .before .before .before .before .before .before .before .before .before .before .before .before .before .before .args .grade) 0) (sym (c .before .forks-fit .ensures .0) ∙ not-true (c .before .forks-fit .result) (c .if6 .taken)))
+returns-6 c = λ registers g. sym (vacant-but-forks (programOf (c .before .before .before .before .before .before .before .before .before .before .before .before .before .before .args .cells .now)) (c .before .before .before .before .before .before .before .before .before .before .before .before .before .before .args .t) registers (c .before .before .before .before .before .before .before .before .before .before .before .before .before .before .args .grade) g (c .before .forks-fit .ensures .1) (sym (c .before .before .before .before .before .before .before .before .before .before .before .before .is-vacant-status .ensures) ∙ not-false (c .before .before .before .before .before .before .before .before .before .before .before .before .is-vacant-status .result) (c .before .before .before .before .before .before .before .before .before .before .before .if1 .left)) (c .before .before .before .before .before .before .before .before .before .if2 .left) (c .before .before .before .before .before .before .before .if3 .left) (c .before .before .before .before .before .if4 .left) (sym (c .before .before .before .before .is-at-rest .ensures) ∙ not-false (c .before .before .before .before .is-at-rest .result) (c .before .before .before .if5 .left)) ∙ ap (λ b. b && eqb (c .before .before .before .before .before .before .before .before .before .before .before .before .before .before .args .grade) 0) (sym (c .before .forks-fit .ensures .0) ∙ not-true (c .before .forks-fit .result) (c .if6 .taken)))
 
 returns-7 : tie.Need-returns-7
-returns-7 c = λ registers g. sym (vacant-but-forks (c .before .before .before .before .before .before .before .before .before .before .before .before .before .before .args .cells .now) (c .before .before .before .before .before .before .before .before .before .before .before .before .before .before .args .t) registers (c .before .before .before .before .before .before .before .before .before .before .before .before .before .before .args .grade) g (c .before .forks-fit .ensures .1) (sym (c .before .before .before .before .before .before .before .before .before .before .before .before .is-vacant-status .ensures) ∙ not-false (c .before .before .before .before .before .before .before .before .before .before .before .before .is-vacant-status .result) (c .before .before .before .before .before .before .before .before .before .before .before .if1 .left)) (c .before .before .before .before .before .before .before .before .before .if2 .left) (c .before .before .before .before .before .before .before .if3 .left) (c .before .before .before .before .before .if4 .left) (sym (c .before .before .before .before .is-at-rest .ensures) ∙ not-false (c .before .before .before .before .is-at-rest .result) (c .before .before .before .if5 .left)) ∙ ap (λ b. b && eqb (c .before .before .before .before .before .before .before .before .before .before .before .before .before .before .args .grade) 0) (sym (c .before .forks-fit .ensures .0) ∙ not-false (c .before .forks-fit .result) (c .if6 .left)))
+returns-7 c = λ registers g. sym (vacant-but-forks (programOf (c .before .before .before .before .before .before .before .before .before .before .before .before .before .before .args .cells .now)) (c .before .before .before .before .before .before .before .before .before .before .before .before .before .before .args .t) registers (c .before .before .before .before .before .before .before .before .before .before .before .before .before .before .args .grade) g (c .before .forks-fit .ensures .1) (sym (c .before .before .before .before .before .before .before .before .before .before .before .before .is-vacant-status .ensures) ∙ not-false (c .before .before .before .before .before .before .before .before .before .before .before .before .is-vacant-status .result) (c .before .before .before .before .before .before .before .before .before .before .before .if1 .left)) (c .before .before .before .before .before .before .before .before .before .if2 .left) (c .before .before .before .before .before .before .before .if3 .left) (c .before .before .before .before .before .if4 .left) (sym (c .before .before .before .before .is-at-rest .ensures) ∙ not-false (c .before .before .before .before .is-at-rest .result) (c .before .before .before .if5 .left)) ∙ ap (λ b. b && eqb (c .before .before .before .before .before .before .before .before .before .before .before .before .before .before .args .grade) 0) (sym (c .before .forks-fit .ensures .0) ∙ not-false (c .before .forks-fit .result) (c .if6 .left)))
 
 pub is-vacant-spec : {M : Type 1} → statement M
 is-vacant-spec =
