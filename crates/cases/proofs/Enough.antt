@@ -27,7 +27,7 @@ use Rattle.machine.specs.declared.End.the-variants.{NotEnded, Halt, Fault}
 use Rattle.machine.specs.Slots.{at}
 use Rattle.machine.specs.Ending.{endOf, jobEnded}
 use Rattle.machine.specs.Starting.{placesAllowed, intervalAllowed, startNo, startNoBy}
-use Rattle.machine.specs.Picking.{workLimit}
+use Rattle.task.specs.Frames.{workLimit}
 use Rattle.machine.proofs.StartLaws.{fresh-fits}
 use Rattle.orders.specs.Demand.{Job, Accepted, startOn, played, evaluation, Ends}
 use Rattle.orders.specs.Complete.{Complete}

@@ -16,7 +16,7 @@ use Rattle.machine.specs.declared.End.{End}
 use Rattle.machine.specs.declared.End.the-variants.{NotEnded, Halt, Fault}
 use Rattle.machine.specs.Ending.{endOf, jobEnded}
 use Rattle.machine.specs.Starting.{placesAllowed, intervalAllowed}
-use Rattle.machine.specs.Picking.{workLimit}
+use Rattle.task.specs.Frames.{workLimit}
 use Rattle.orders.specs.Demand.{Job, evaluation}
 use Rattle.orders.proofs.Plays.{modelOfJob, freshJob}
 use Rattle.cases.specs.Cases.{Given, Held, held, Case, jobOf, ordersOf}

@@ -8,6 +8,8 @@ use Prim.Native.String as text
 use Prim.Native.String.{String}
 use lib.Dec.{eqb}
 use lib.IntN.{ℤ}
+use Rattle.task.specs.Choices.{chosen}
+use Rattle.image.specs.Layout.{programOf}
 use Rattle.image.specs.Doors.{imageNo, readNo, rewriteNo, writeNo}
 use Rattle.agreement.specs.Plain.{Stepped, one, two}
 use Rattle.task.specs.declared.Frame.{Frame}
@@ -79,7 +81,7 @@ answer (writeBytes program lent) = steps.writtenNo program lent
 answer (startBytes program places interval registers words lent) = steps.startedNo program places interval registers words lent
 answer (pickBytes program words slot state) = steps.pickedNo program words slot state
 answer (runBytes program words state lent) = steps.ranNo program words state lent
-answer (issue program words interval f) = faultIn (step program words interval f)
+answer (issue program words interval f) = faultIn (step (programOf program) words (chosen interval) f)
 
 -- ---- All that a run answers
 

@@ -9,7 +9,7 @@ use lib.IntN.{ℤ}
 use lib.ListN.{length}
 use lib.Seq.{sets}
 use borrow.Author.Tests.{eq-eqb, ne-eqb, eqb-true}
-use Rattle.image.specs.Layout.{programCells, cellsIn}
+use Rattle.image.specs.Layout.{programCells, cellsIn, programOf}
 use Rattle.image.specs.Questions.{programNo}
 use Rattle.machine.specs.declared.Machine.{Machine}
 use Rattle.machine.specs.declared.Driven.{Driven}
@@ -45,7 +45,7 @@ module _ (bytes : List ℕ) (accepted : jobNo bytes ≡ 0) where
     its-state = e ∙ (λ i. fresh (q i) (r i) (s i))
 
     -- what the loop asks of a fresh start
-    pub fresh-ready : (programNo cells ≡ 0) × (length cells ≡ programCells) × (shape cells m ≡ true) × (0 < m .places)
+    pub fresh-ready : (programNo cells ≡ 0) × (length cells ≡ programCells) × (shape (programOf cells) m ≡ true) × (0 < m .places)
     fresh-ready =
         let x : Fits (j .cells) (j .interval) (j .places) m = subst⁻¹ (Fits (j .cells) (j .interval) (j .places)) its-state (fresh-fits start) in (
           ap programNo p ∙ start .allowed .program,

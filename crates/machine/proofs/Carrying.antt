@@ -5,6 +5,8 @@ use mathlib.Core.List.{List}
 use Prim.Native.Nat.{ℕ, _^_, _<_, _≤_}
 use native.Mathlib.Omega.{arith}
 use lib.IntN.{ℤ}
+use Rattle.task.specs.Choices.{chosen}
+use Rattle.image.specs.Layout.{programOf}
 use Rattle.agreement.specs.Plain.{one}
 use Rattle.agreement.specs.Slots.{carry}
 use Rattle.agreement.proofs.SlotLaws.{carry-one}
@@ -33,11 +35,11 @@ module _ {cells : List ℕ} {interval places : ℕ} (allowed : Allowed cells int
       stands (modelOf cells words interval places) (formsOf cells (rank places)) laws (t .0) m (t .1) k (omega (arith, laws .places-power)) runs
 
   -- it goes on: its frame is put back, and that is all
-  pub goes-on-alone : (g : Frame) → step cells words interval (at m k) ≡ one g → running g ≡ true → carry (slotsOf cells) (step cells words interval) m k ≡ put m k g
+  pub goes-on-alone : (g : Frame) → step (programOf cells) words (chosen interval) (at m k) ≡ one g → running g ≡ true → carry (slotsOf (programOf cells)) (step (programOf cells) words (chosen interval)) m k ≡ put m k g
   goes-on-alone g e r =
       let s = stand in
       let f = laws .step-one (s .height) (at m k) g (s .formed) runs e in
       let here : at (put m k g) k ≡ g = laws .put-same m k g (fits .sized) (laws .formed-fine (s .height) g f) (omega (arith, slot-fits)) in
       let p : at (put m k g) k .task .places ≡ 2 ^ s .height = ap (λ (h : Frame). h .task .places) here ∙ laws .formed-places (s .height) g f in
       let q : running (at (put m k g) k) ≡ true = ap running here ∙ r in
-      carry-one (slotsOf cells) (step cells words interval) m k g e ∙ settle-running (slotsOf cells) (g .task .depth) (put m k g) k (s .height) (s .aligned) p q
+      carry-one (slotsOf (programOf cells)) (step (programOf cells) words (chosen interval)) m k g e ∙ settle-running (slotsOf (programOf cells)) (g .task .depth) (put m k g) k (s .height) (s .aligned) p q

@@ -6,6 +6,7 @@ use mathlib.Core.List.{List}
 use native.Mathlib.Omega.{arith}
 use lib.Dec.{eqb, ltb}
 use borrow.Author.Tests.{ltb-true, ne-eqb}
+use Rattle.image.specs.Layout.{programOf}
 use Rattle.agreement.proofs.Facts.{clash, both-true}
 use Rattle.agreement.proofs.Trees.{Tree, leaf, node}
 use Rattle.agreement.proofs.Holds.{Holds}
@@ -42,12 +43,12 @@ end-test f (Faulted n) fit = end-by-fault (eqb (f .task .depth) 0) n
 
 module _ (cells : List ℕ) (D : ℕ) where
   -- the first slot of a stretch has a live task
-  first-formed : (T : Tree Frame) (m : Machine) (b h : ℕ) → Holds (slotsOf cells) (formsOf cells D) m b h T → (j : ℕ) × Formed cells D j (at m b)
+  first-formed : (T : Tree Frame) (m : Machine) (b h : ℕ) → Holds (slotsOf (programOf cells)) (formsOf cells D) m b h T → (j : ℕ) × Formed (programOf cells) D j (at m b)
   first-formed (leaf f) m b h l = (h, rw (l .here) (l .formed))
   first-formed (node x y) m b zero l = absurd l
   first-formed (node x y) m b (suc h) l = first-formed x m b h (l .0)
 
-  pub ended-is : (T : Tree Frame) (m : Machine) → Holds (slotsOf cells) (formsOf cells D) m 0 D T → jobEnded m ≡ sideEnded (slotsOf cells) m 0 0
+  pub ended-is : (T : Tree Frame) (m : Machine) → Holds (slotsOf (programOf cells)) (formsOf cells D) m 0 D T → jobEnded m ≡ sideEnded (slotsOf (programOf cells)) m 0 0
   ended-is T m l = end-test (at m 0) (at m 0 .task .status) (first-formed T m 0 D l .1 .status-fits)
 
 -- what is said of a fault's number is said of the status that has it

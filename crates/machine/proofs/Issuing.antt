@@ -8,10 +8,11 @@ use lib.Pow.{pow-pos}
 use native.Mathlib.Omega.{arith}
 use lib.IntN.{ℤ}
 use lib.ListN.{set}
+use Rattle.task.specs.Choices.{chosen}
 use Rattle.agreement.specs.Plain.{one}
 use Rattle.agreement.proofs.SlotLaws.{carry-two}
 use Rattle.image.specs.declared.Instruction.{Instruction}
-use Rattle.image.specs.Layout.{instructionOf}
+use Rattle.image.specs.Layout.{instructionOf, programOf}
 use Rattle.task.specs.declared.Value.{Value}
 use Rattle.task.specs.declared.Status.the-variants.{Waiting, Halted, Faulted}
 use Rattle.task.specs.declared.Fork.{Fork}
@@ -22,9 +23,9 @@ use Rattle.task.specs.declared.Kind.the-variants.{Stores, Goes, Waits, Halts, F
 use Rattle.task.specs.declared.Executed.{Executed}
 use Rattle.task.specs.Frames.{running, zeros}
 use Rattle.task.specs.Values.{recordOf}
-use Rattle.task.specs.Step.{register, operand, counted, movedTo, ended, withTask, side, step}
-use Rattle.task.specs.Execute.{activeOf, executed, after, parentSide, childSide, applied, appliedBy}
-use Rattle.task.proofs.Executing.{step-executed}
+use Rattle.task.specs.Step.{register, operand, activeOf, counted, movedTo, ended, withTask, side, step}
+use Rattle.task.specs.Execute.{executed}
+use Rattle.task.proofs.Executing.{after, parentSide, childSide, madeBy, made, step-executed}
 use Rattle.machine.specs.declared.Machine.{Machine}
 use Rattle.machine.specs.Slots.{at, put, ticked, slotsOf}
 use Rattle.machine.specs.Picking.{issued}
@@ -39,7 +40,7 @@ pub record Fetched (cells : List ℕ) (words : List ℤ) (m : Machine) (k : ℕ)
   pub instruction : x ≡ instructionOf cells (at m k .task .pc)
   pub left-value : s ≡ register (at m k) (x .s)
   pub right-value : v ≡ operand (at m k) x
-  pub outcome : e ≡ executed cells words (m .interval) x s v (activeOf (at m k .task)) (at m k .task .forks)
+  pub outcome : e ≡ executed (programOf cells) words (chosen (m .interval)) x s v (activeOf (at m k .task)) (at m k .task .forks)
 
 module _ {cells : List ℕ} {words : List ℤ} {m : Machine} {k : ℕ} {x : Instruction} {s v : Value} {e : Executed}
     (allowed : Allowed cells (m .interval) (m .places)) (fits : Fits cells (m .interval) (m .places) m) (below : k < m .places) (runs : running (at m k) ≡ true)
@@ -48,7 +49,7 @@ module _ {cells : List ℕ} {words : List ℤ} {m : Machine} {k : ℕ} {x : Inst
   f = at m k
 
   abbrev did : Instruction → Value → Value → Executed
-  did y a b = executed cells words (m .interval) y a b (activeOf (f .task)) (f .task .forks)
+  did y a b = executed (programOf cells) words (chosen (m .interval)) y a b (activeOf (f .task)) (f .task .forks)
 
   -- the outcome, of what the definition reads
   at-source : did x s v ≡ did (instructionOf cells (f .task .pc)) (register f (instructionOf cells (f .task .pc) .s)) (operand f (instructionOf cells (f .task .pc)))
@@ -56,13 +57,13 @@ module _ {cells : List ℕ} {words : List ℤ} {m : Machine} {k : ℕ} {x : Inst
       ap₂ (λ (a b : Value). did x a b) (got .left-value) (got .right-value)
       ∙ ap (λ (y : Instruction). did y (register f (y .s)) (operand f y)) (got .instruction)
 
-  steps : step cells words (m .interval) f ≡ applied f x e
+  steps : step (programOf cells) words (chosen (m .interval)) f ≡ made f x e
   steps =
-      step-executed cells words (m .interval) f ∙ ap (λ (o : Executed). applied f (instructionOf cells (f .task .pc)) o) (sym at-source)
-      ∙ ap₂ (λ (y : Instruction) (o : Executed). applied f y o) (sym (got .instruction)) (sym (got .outcome))
+      step-executed (programOf cells) words (chosen (m .interval)) f ∙ ap (λ (o : Executed). made f (instructionOf cells (f .task .pc)) o) (sym at-source)
+      ∙ ap₂ (λ (y : Instruction) (o : Executed). made f y o) (sym (got .instruction)) (sym (got .outcome))
 
-  steps-by : (kind : Kind) → e .kind ≡ kind → step cells words (m .interval) f ≡ appliedBy kind f (x .r) e
-  steps-by kind h = steps ∙ ap (λ (o : Kind). appliedBy o f (x .r) e) h
+  steps-by : (kind : Kind) → e .kind ≡ kind → step (programOf cells) words (chosen (m .interval)) f ≡ madeBy kind f (x .r) e
+  steps-by kind h = steps ∙ ap (λ (o : Kind). madeBy o f (x .r) e) h
 
   -- ---- the task runs on
 
@@ -77,14 +78,14 @@ module _ {cells : List ℕ} {words : List ℤ} {m : Machine} {k : ℕ} {x : Inst
 
   -- ---- its side has ended
 
-  pub waits-steps : {t : Task} → e .kind ≡ Waits → t ≡ ended Waiting (counted (f .task)) → step cells words (m .interval) f ≡ one (record { task = t; registers = f .registers })
+  pub waits-steps : {t : Task} → e .kind ≡ Waits → t ≡ ended Waiting (counted (f .task)) → step (programOf cells) words (chosen (m .interval)) f ≡ one (record { task = t; registers = f .registers })
   waits-steps h p = steps-by Waits h ∙ ap (λ (t : Task). one (withTask t f)) (sym p)
 
-  pub halts-steps : {t : Task} → e .kind ≡ Halts → t ≡ ended Halted (counted (f .task)) → step cells words (m .interval) f ≡ one (record { task = t; registers = f .registers })
+  pub halts-steps : {t : Task} → e .kind ≡ Halts → t ≡ ended Halted (counted (f .task)) → step (programOf cells) words (chosen (m .interval)) f ≡ one (record { task = t; registers = f .registers })
   halts-steps h p = steps-by Halts h ∙ ap (λ (t : Task). one (withTask t f)) (sym p)
 
   pub faults-steps : (n : ℕ) {t : Task} → e .kind ≡ Faults n → t ≡ ended (Faulted n) (counted (f .task))
-      → step cells words (m .interval) f ≡ one (record { task = t; registers = zeros })
+      → step (programOf cells) words (chosen (m .interval)) f ≡ one (record { task = t; registers = zeros })
   faults-steps n h p = steps-by (Faults n) h ∙ ap (λ (t : Task). one (record { task = t; registers = zeros })) (sym p)
 
   -- ---- it has forked
@@ -95,7 +96,7 @@ module _ {cells : List ℕ} {words : List ℤ} {m : Machine} {k : ℕ} {x : Inst
   forks-issued pc h under p q =
       let p′ : _ ≡ parentSide e (f .task) = p ∙ ap (λ (o : Fork). side o (e .pc) (e .counter) (counted (f .task))) under in
       ap ticked (q ∙ ap (λ (n : Task). put (put m k (withTask n f)) (k + n .places) (withTask (movedTo pc 0 n) f)) p′
-      ∙ sym (carry-two (slotsOf cells) (step cells words (m .interval)) m k (withTask (parentSide e (f .task)) f) (withTask (childSide pc e (f .task)) f) (steps-by (Forks pc) h)))
+      ∙ sym (carry-two (slotsOf (programOf cells)) (step (programOf cells) words (chosen (m .interval))) m k (withTask (parentSide e (f .task)) f) (withTask (childSide pc e (f .task)) f) (steps-by (Forks pc) h)))
 
   -- there is room for an open fork more, and each side gets a place
   pub forks-room : (pc : ℕ) → e .kind ≡ Forks pc → (f .task .depth < 6) × (2 ≤ f .task .places)

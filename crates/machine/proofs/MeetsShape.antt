@@ -6,6 +6,7 @@ use mathlib.Core.List.{List}
 use native.Mathlib.Omega.{arith}
 use lib.ListN.{getD}
 use borrow.Author.Tests.{lt-ltb, le-ltb}
+use Rattle.image.specs.Layout.{programOf}
 use Rattle.task.specs.Frames.{zeroRegister}
 use Rattle.task.specs.Stretches.{reads}
 use Rattle.shape.specs.Codes.{GradedSlots, codeOf, CodedTasks, tree}
@@ -17,21 +18,21 @@ use Rattle.machine.specs.Shape.{countsFit, shape}
 use Rattle.machine.proofs.CodedSlots.{codes-clear, codes-tiled}
 
 module _ (cells : List ℕ) (m : Machine) (D : ℕ) (ranked : D ≡ rank (m .places)) where
-  pub places-refused : 6 < D → false ≡ shape cells m
+  pub places-refused : 6 < D → false ≡ shape (programOf cells) m
   unfolding shape
   places-refused l = rw (← ranked, le-ltb D 7 (omega arith))
 
   module _ (small : D ≤ 6) where
-    pub interval-refused : intervalAllowed (m .interval) ≡ false → false ≡ shape cells m
+    pub interval-refused : intervalAllowed (m .interval) ≡ false → false ≡ shape (programOf cells) m
     unfolding shape
     interval-refused i = rw (← ranked, lt-ltb D 7 (omega arith), i)
 
-    module _ (allowed : intervalAllowed (m .interval) ≡ true) (grades codes : List ℕ) (graded : GradedSlots cells (m .bank) grades)
-        (coded : CodedTasks cells D (m .tasks) grades codes) where
-      each : (k : ℕ) → k < 64 → getD codes k 0 ≡ codeOf cells D (at m k)
+    module _ (allowed : intervalAllowed (m .interval) ≡ true) (grades codes : List ℕ) (graded : GradedSlots (programOf cells) (m .bank) grades)
+        (coded : CodedTasks (programOf cells) D (m .tasks) grades codes) where
+      each : (k : ℕ) → k < 64 → getD codes k 0 ≡ codeOf (programOf cells) D (at m k)
       each k h = coded k h (reads zeroRegister (m .bank) (16 * k) 16) (graded k h)
 
-      by-codes : shape cells m ≡ tree codes D && countsFit m
+      by-codes : shape (programOf cells) m ≡ tree codes D && countsFit m
       unfolding shape
       by-codes =
           let fits = power-small D small in
@@ -40,8 +41,8 @@ module _ (cells : List ℕ) (m : Machine) (D : ℕ) (ranked : D ≡ rank (m .pla
           (ap₂ _&&_ (sym (codes-tiled cells D small m codes each D 0 (omega arith) (omega arith)))
           (sym (codes-clear cells D small m codes each (64 - 2 ^ D) (2 ^ D) (omega arith)))))
 
-      pub no-tree : tree codes D ≡ false → false ≡ shape cells m
+      pub no-tree : tree codes D ≡ false → false ≡ shape (programOf cells) m
       no-tree t = sym (by-codes ∙ rw t)
 
-      pub counts-decide : tree codes D ≡ true → countsFit m ≡ shape cells m
+      pub counts-decide : tree codes D ≡ true → countsFit m ≡ shape (programOf cells) m
       counts-decide t = sym (by-codes ∙ rw t)

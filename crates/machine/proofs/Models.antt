@@ -6,12 +6,14 @@ use mathlib.Core.List.{List}
 use native.Mathlib.Omega.{arith}
 use native.Mathlib.Nat.{pow-le-pow-right}
 use lib.IntN.{ℤ}
+use Rattle.task.specs.Choices.{chosen}
+use Rattle.image.specs.Layout.{programOf}
 use Rattle.agreement.specs.Picks.{Model}
 use Rattle.agreement.proofs.Laws.{Forms, Laws}
 use Rattle.image.specs.Questions.{programNo}
 use Rattle.image.proofs.Accepted.{Accepted, accepted}
 use Rattle.task.specs.declared.Frame.{Frame}
-use Rattle.task.specs.Frames.{vacant}
+use Rattle.task.specs.Frames.{vacant, workLimit}
 use Rattle.task.specs.Step.{step}
 use Rattle.task.proofs.Formation.{Formed}
 use Rattle.task.proofs.StepKeeps.{step-one, step-two}
@@ -20,14 +22,13 @@ use Rattle.task.proofs.Vacancy.{vacant-idle}
 use Rattle.machine.specs.declared.Machine.{Machine}
 use Rattle.machine.specs.Slots.{Sized, ticked, slotsOf}
 use Rattle.machine.specs.Starting.{rank, placesAllowed, intervalAllowed}
-use Rattle.machine.specs.Picking.{workLimit}
 use Rattle.machine.proofs.SlotLaws.{Full, put-sized, put-same, put-other, ticked-sized}
 use Rattle.machine.proofs.RankLaws.{rank-small, rank-power}
 
 abbrev pub modelOf : List ℕ → List ℤ → ℕ → ℕ → Model Frame Machine
 modelOf cells words interval places = record {
-  slots = slotsOf cells;
-  step = step cells words interval;
+  slots = slotsOf (programOf cells);
+  step = step (programOf cells) words (chosen interval);
   jobPlaces = places;
   limit = workLimit;
   work = λ m. m .work;
@@ -36,7 +37,7 @@ modelOf cells words interval places = record {
 
 -- in a job of 2 ^ D places
 abbrev pub formsOf : List ℕ → ℕ → Forms Frame Machine
-formsOf cells D = record { D = D; Sound = Sized; Fine = Full; Empty = λ f. f ≡ vacant; Formed = Formed cells D }
+formsOf cells D = record { D = D; Sound = Sized; Fine = Full; Empty = λ f. f ≡ vacant; Formed = Formed (programOf cells) D }
 
 -- what start's questions ensure of a job's program, interval and places
 pub record Allowed (cells : List ℕ) (interval places : ℕ) : Type 0 where
@@ -61,8 +62,8 @@ module _ {cells : List ℕ} {interval places : ℕ} (allowed : Allowed cells int
     vacant-fine = refl;
     vacant-empty = refl;
     empty-idle = vacant-idle;
-    step-one = step-one cells ok (rank places) room words interval;
-    step-two = step-two cells ok (rank places) room words interval;
+    step-one = step-one cells ok (rank places) room words (chosen interval);
+    step-two = step-two cells ok (rank places) room words (chosen interval);
     join-formed = λ h a b x y p q below. join-formed cells ok (rank places) room h a b x y below;
     put-sound = λ m k f s e. put-sized m k f s;
     put-same = put-same;

@@ -8,6 +8,7 @@ use native.Mathlib.Omega.{arith}
 use native.Mathlib.Nat.{add-zero}
 use lib.ListN.{length, getD, set, getD-replicate}
 use lib.Seq.{sets, set-set, getD-set-other}
+use Rattle.image.specs.Layout.{programOf}
 use Rattle.agreement.proofs.Facts.{by-test}
 use Rattle.agreement.specs.Slots.{due, merged, settle}
 use Rattle.agreement.proofs.SlotLaws.{settle-none, settle-go, settle-stop}
@@ -51,35 +52,35 @@ module _ {A : Type 0} where
 
 -- ---- settling and the count of the work
 
-settle-tick-by : (cells : List ℕ) (d : ℕ) (m : Machine) (k : ℕ) → settle (slotsOf cells) d (ticked m) k ≡ ticked (settle (slotsOf cells) d m k)
-settle-tick-by cells zero m k = settle-none (slotsOf cells) (ticked m) k ∙ ap ticked (sym (settle-none (slotsOf cells) m k))
+settle-tick-by : (cells : List ℕ) (d : ℕ) (m : Machine) (k : ℕ) → settle (slotsOf (programOf cells)) d (ticked m) k ≡ ticked (settle (slotsOf (programOf cells)) d m k)
+settle-tick-by cells zero m k = settle-none (slotsOf (programOf cells)) (ticked m) k ∙ ap ticked (sym (settle-none (slotsOf (programOf cells)) m k))
 settle-tick-by cells (suc d) m k =
     let w = at m k .task .places in
     let q = k - k % (2 * w) in
-    by-test (due (slotsOf cells) m q w (suc d))
-    (λ t. settle-go (slotsOf cells) d (ticked m) k q w refl refl t ∙ settle-tick-by cells d (merged (slotsOf cells) m q w) q
-    ∙ ap ticked (sym (settle-go (slotsOf cells) d m k q w refl refl t)))
-    (λ t. settle-stop (slotsOf cells) d (ticked m) k q w refl refl t ∙ ap ticked (sym (settle-stop (slotsOf cells) d m k q w refl refl t)))
+    by-test (due (slotsOf (programOf cells)) m q w (suc d))
+    (λ t. settle-go (slotsOf (programOf cells)) d (ticked m) k q w refl refl t ∙ settle-tick-by cells d (merged (slotsOf (programOf cells)) m q w) q
+    ∙ ap ticked (sym (settle-go (slotsOf (programOf cells)) d m k q w refl refl t)))
+    (λ t. settle-stop (slotsOf (programOf cells)) d (ticked m) k q w refl refl t ∙ ap ticked (sym (settle-stop (slotsOf (programOf cells)) d m k q w refl refl t)))
 
-pub settle-tick : (cells : List ℕ) (d : ℕ) (m : Machine) (k : ℕ) → settle (slotsOf cells) d (ticked m) k ≡ ticked (settle (slotsOf cells) d m k)
+pub settle-tick : (cells : List ℕ) (d : ℕ) (m : Machine) (k : ℕ) → settle (slotsOf (programOf cells)) d (ticked m) k ≡ ticked (settle (slotsOf (programOf cells)) d m k)
 settle-tick = settle-tick-by
 
 -- a slot above, in which no task runs: a join is made in slots below it, and empties the child's
-settle-quiet-by : (cells : List ℕ) (d : ℕ) (m : Machine) (k i : ℕ) → k < i → running (at m i) ≡ false → running (at (settle (slotsOf cells) d m k) i) ≡ false
-settle-quiet-by cells zero m k i above r = rw (settle-none (slotsOf cells) m k) r
+settle-quiet-by : (cells : List ℕ) (d : ℕ) (m : Machine) (k i : ℕ) → k < i → running (at m i) ≡ false → running (at (settle (slotsOf (programOf cells)) d m k) i) ≡ false
+settle-quiet-by cells zero m k i above r = rw (settle-none (slotsOf (programOf cells)) m k) r
 settle-quiet-by cells (suc d) m k i above r =
     let w = at m k .task .places in
     let q = k - k % (2 * w) in
-    by-test (due (slotsOf cells) m q w (suc d))
-    (λ t. rw (settle-go (slotsOf cells) d m k q w refl refl t) (settle-quiet-by cells d (merged (slotsOf cells) m q w) q i (omega arith) (merged-quiet q w (omega arith))))
-    (λ t. rw (settle-stop (slotsOf cells) d m k q w refl refl t) r)
+    by-test (due (slotsOf (programOf cells)) m q w (suc d))
+    (λ t. rw (settle-go (slotsOf (programOf cells)) d m k q w refl refl t) (settle-quiet-by cells d (merged (slotsOf (programOf cells)) m q w) q i (omega arith) (merged-quiet q w (omega arith))))
+    (λ t. rw (settle-stop (slotsOf (programOf cells)) d m k q w refl refl t) r)
   where
-    merged-quiet : (q w : ℕ) → q < i → running (at (merged (slotsOf cells) m q w) i) ≡ false
+    merged-quiet : (q w : ℕ) → q < i → running (at (merged (slotsOf (programOf cells)) m q w) i) ≡ false
     merged-quiet q w h =
-        ap running (put-other (put m (q + w) vacant) q (join cells (at m q) (at m (q + w))) i (λ e. absurd (omega arith)))
+        ap running (put-other (put m (q + w) vacant) q (join (programOf cells) (at m q) (at m (q + w))) i (λ e. absurd (omega arith)))
         ∙ put-tasks (λ (t : Task). isRunning (t .status) ≡ false) m (q + w) vacant i refl r
 
-pub settle-quiet : (cells : List ℕ) (d : ℕ) (m : Machine) (k i : ℕ) → k < i → running (at m i) ≡ false → running (at (settle (slotsOf cells) d m k) i) ≡ false
+pub settle-quiet : (cells : List ℕ) (d : ℕ) (m : Machine) (k i : ℕ) → k < i → running (at m i) ≡ false → running (at (settle (slotsOf (programOf cells)) d m k) i) ≡ false
 settle-quiet = settle-quiet-by
 
 -- ---- registers of slots
@@ -197,7 +198,7 @@ placed-next m₀ q c above {m} {r} l n packed full some p e =
 abbrev pub tasksJoined : Machine → ℕ → ℕ → Task → Machine
 tasksJoined m q c t = record { places = m .places; interval = m .interval; work = m .work; bank = m .bank; tasks = set (set (m .tasks) c vacantTask) q t }
 
-module _ (cells : List ℕ) (m : Machine) (q w : ℕ) (some : 0 < w) {j : Joint} (e : j ≡ jointOf cells (at m q .task) (at m (q + w) .task)) where
+module _ (cells : List ℕ) (m : Machine) (q w : ℕ) (some : 0 < w) {j : Joint} (e : j ≡ jointOf (programOf cells) (at m q .task) (at m (q + w) .task)) where
   abbrev c : ℕ
   c = q + w
 
@@ -206,13 +207,13 @@ module _ (cells : List ℕ) (m : Machine) (q w : ℕ) (some : 0 < w) {j : Joint}
   joint-registers = jointRegisters (j .faulted) (j .pairs) (j .packed) (at m q .registers) (at m c .registers)
 
   -- the joined task's registers in slot q and 16 integers 0 in slot c
-  pub merged-is : length joint-registers ≡ 16 → filling (placed (tasksJoined m q c (j .task)) q joint-registers) c zeros 16 ≡ merged (slotsOf cells) m q w
+  pub merged-is : length joint-registers ≡ 16 → filling (placed (tasksJoined m q c (j .task)) q joint-registers) c zeros 16 ≡ merged (slotsOf (programOf cells)) m q w
   merged-is full =
       let apart : sets (sets (m .bank) (16 * q) joint-registers) (16 * c) (reads zeroRegister zeros 0 16) ≡ sets (sets (m .bank) (16 * c) (reads zeroRegister zeros 0 16)) (16 * q) joint-registers =
       sets-apart joint-registers (reads zeroRegister zeros 0 16) (m .bank) (16 * q) (16 * c) (omega arith) in
       let all : reads zeroRegister joint-registers 0 16 ≡ joint-registers = rw full at (reads-all zeroRegister joint-registers) in
-      let joins : join cells (at m q) (at m c) ≡ record { task = j .task; registers = joint-registers } =
-      join-joint cells (at m q) (at m c) ∙ ap (λ (o : Joint). record { task = o .task; registers = jointRegisters (o .faulted) (o .pairs) (o .packed) (at m q .registers) (at m c .registers) }) (sym e) in
+      let joins : join (programOf cells) (at m q) (at m c) ≡ record { task = j .task; registers = joint-registers } =
+      join-joint (programOf cells) (at m q) (at m c) ∙ ap (λ (o : Joint). record { task = o .task; registers = jointRegisters (o .faulted) (o .pairs) (o .packed) (at m q .registers) (at m c .registers) }) (sym e) in
       (λ i. record {
         places = m .places;
         interval = m .interval;
@@ -224,7 +225,7 @@ module _ (cells : List ℕ) (m : Machine) (q w : ℕ) (some : 0 < w) {j : Joint}
   -- what the code of a join leaves: `count` registers of slot q cleared, then the pairs copied, then slot c's registers cleared
   pub joined-in-place : {count : ℕ} {m₂ m₃ m₄ : Machine} {l : List Register} → count ≡ cond (j .faulted) 16 0
       → m₂ ≡ filling (tasksJoined m q c (j .task)) q zeros count → m₃ ≡ placed m₂ q l → length l ≡ 16
-      → copied (at m₂ c .registers) (j .pairs) (j .packed) (at m₂ q .registers) ≡ l → m₄ ≡ filling m₃ c zeros 16 → m₄ ≡ merged (slotsOf cells) m q w
+      → copied (at m₂ c .registers) (j .pairs) (j .packed) (at m₂ q .registers) ≡ l → m₄ ≡ filling m₃ c zeros 16 → m₄ ≡ merged (slotsOf (programOf cells)) m q w
   joined-in-place {count} {m₂} {m₃} {m₄} {l} h p₂ p₃ full is p₄ =
       p₄ ∙ ap (λ (n : Machine). filling n c zeros 16) (p₃ ∙ by (j .faulted) refl) ∙ merged-is (sixteen (j .faulted) refl)
     where
@@ -252,6 +253,6 @@ module _ (cells : List ℕ) (m : Machine) (q w : ℕ) (some : 0 < w) {j : Joint}
       by : (b : Bool) → j .faulted ≡ b → placed m₂ q l ≡ placed (tasksJoined m q c (j .task)) q joint-registers
       by false f = ap (λ (n : Machine). placed n q l) (uncleared f) ∙ ap (placed (tasksJoined m q c (j .task)) q) (copies f)
       by true f =
-          let none : j .pairs ≤ 0 = omega (arith, faulted-pairs cells (at m q .task) (at m c .task) e f) in
+          let none : j .pairs ≤ 0 = omega (arith, faulted-pairs (programOf cells) (at m q .task) (at m c .task) e f) in
           ap (placed m₂ q) (sym is ∙ copies-none (at m₂ c .registers) (j .pairs) (j .packed) (at m₂ q .registers) none)
           ∙ sym (placed-none m₂ q) ∙ cleared f ∙ ap (placed (tasksJoined m q c (j .task)) q) (sym (zero-registers f))

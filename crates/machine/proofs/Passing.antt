@@ -10,12 +10,12 @@ use lib.Pow.{pow-pos}
 use lib.IntN.{ℤ}
 use borrow.Author.Tests.{ltb-true, lt-ltb, le-ltb}
 use Rattle.agreement.proofs.Facts.{clash, both-true, by-test, by-below}
-use Rattle.task.specs.Frames.{running}
+use Rattle.task.specs.Frames.{running, workLimit}
 use Rattle.machine.specs.declared.Machine.{Machine}
 use Rattle.machine.specs.Slots.{at}
 use Rattle.machine.specs.Ending.{jobEnded}
 use Rattle.machine.specs.Starting.{rank}
-use Rattle.machine.specs.Picking.{workLimit, issued}
+use Rattle.machine.specs.Picking.{issued}
 use Rattle.machine.specs.Running.{Run, firstRunning, nextPick, stops, pickedAt, runs}
 use Rattle.machine.specs.Driving.{goesOn, nextSlot}
 use Rattle.machine.proofs.RankLaws.{rank-power}

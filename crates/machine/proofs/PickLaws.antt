@@ -8,23 +8,24 @@ use lib.Dec.{eqb, ltb, leb}
 use lib.IntN.{ℤ}
 use lib.ListN.{length}
 use borrow.Author.Tests.{eqb-true, ltb-true}
+use Rattle.task.specs.Choices.{chosen}
 use Rattle.agreement.proofs.Facts.{by-test}
 use Rattle.agreement.specs.Slots.{carry}
 use Rattle.agreement.proofs.SlotLaws.{carry-keeps}
 use Rattle.agreement.specs.Picks.{Model, canPick, pick}
 use Rattle.agreement.proofs.PickLaws.{parts-can, pick-carried, pick-refused}
-use Rattle.image.specs.Layout.{programCells}
+use Rattle.image.specs.Layout.{programCells, programOf}
 use Rattle.image.specs.Questions.{ask, orElse, programNo}
 use Rattle.image.specs.Doors.{unlessRefused}
 use Rattle.image.proofs.Asked.{ask-yes, or-else-both}
 use Rattle.task.specs.declared.Frame.{Frame}
-use Rattle.task.specs.Frames.{running}
+use Rattle.task.specs.Frames.{running, workLimit}
 use Rattle.task.specs.Step.{step}
 use Rattle.machine.specs.declared.Machine.{Machine}
 use Rattle.machine.specs.Slots.{at, ticked, slotsOf}
 use Rattle.machine.specs.Ending.{jobEnded}
 use Rattle.machine.specs.Shape.{shape}
-use Rattle.machine.specs.Picking.{workLimit, slotNo, stateNoBy, stateNo, pickNo, issued, picked}
+use Rattle.machine.specs.Picking.{slotNo, stateNoBy, stateNo, pickNo, issued, picked}
 use Rattle.machine.proofs.Models.{modelOf, Allowed}
 use Rattle.machine.proofs.ShapeLaws.{Fits, fits-shape, pick-fits}
 use Rattle.machine.proofs.Quiet.{ended-quiet}
@@ -44,7 +45,7 @@ pub record Lent (cells : List ℕ) (words : List ℤ) : Type 0 where
   pub whole : eqb (length cells) programCells ≡ true
 
 -- in a state of the shape 21 to 24 are left
-questions-from-21 : (cells : List ℕ) (words : List ℤ) (m : Machine) (k : ℕ) → programNo cells ≡ 0 → Lent cells words → shape cells m ≡ true
+questions-from-21 : (cells : List ℕ) (words : List ℤ) (m : Machine) (k : ℕ) → programNo cells ≡ 0 → Lent cells words → shape (programOf cells) m ≡ true
     → pickNo cells words m k ≡ ask (ltb k (m .places)) 21 (ask (not (jobEnded m)) 22 (ask (running (at m k)) 23 (ask (ltb (m .work) workLimit) 24 0)))
 unfolding stateNoBy slotNo orElse
 questions-from-21 cells words m k e lent s = rw (e, lent .few-words, lent .whole, s)
@@ -75,8 +76,8 @@ module _ {cells : List ℕ} {interval places : ℕ} {words : List ℤ} (allowed 
     pub can-accepted : canPick (modelOf cells words interval places) m k ≡ true → pickNo cells words m k ≡ 0
     can-accepted c = eqb-true (pickNo cells words m k) 0 (pick-test ∙ c)
 
-    its-issue : issued cells words m k ≡ ticked (carry (slotsOf cells) (step cells words interval) m k)
-    its-issue = ap (λ n. ticked (carry (slotsOf cells) (step cells words n) m k)) (x .its-interval)
+    its-issue : issued cells words m k ≡ ticked (carry (slotsOf (programOf cells)) (step (programOf cells) words (chosen interval)) m k)
+    its-issue = ap (λ n. ticked (carry (slotsOf (programOf cells)) (step (programOf cells) words (chosen n)) m k)) (x .its-interval)
 
     pub picked-is : picked cells words m k ≡ pick (modelOf cells words interval places) m k
     unfolding unlessRefused
@@ -101,7 +102,7 @@ picked-issued cells words m k e = ap (λ n. cond (eqb n 0) (issued cells words m
 pub picked-work : (cells : List ℕ) (words : List ℤ) (m : Machine) (k : ℕ) → pickNo cells words m k ≡ 0 → picked cells words m k .work ≡ m .work + 1
 picked-work cells words m k e =
     ap (λ n. n .work) (picked-issued cells words m k e)
-    ∙ ap (λ n. n + 1) (carry-keeps (slotsOf cells) (λ n. n .work) (λ n k f. refl) (step cells words (m .interval)) m k)
+    ∙ ap (λ n. n + 1) (carry-keeps (slotsOf (programOf cells)) (λ n. n .work) (λ n k f. refl) (step (programOf cells) words (chosen (m .interval))) m k)
 
 -- P and the interval stay as start left them
 module _ (cells : List ℕ) (words : List ℤ) (m : Machine) (k : ℕ) where
@@ -114,17 +115,17 @@ module _ (cells : List ℕ) (words : List ℤ) (m : Machine) (k : ℕ) where
       go false = refl
 
   pub picked-places : picked cells words m k .places ≡ m .places
-  picked-places = keeps (λ n. n .places) (carry-keeps (slotsOf cells) (λ n. n .places) (λ n k f. refl) (step cells words (m .interval)) m k)
+  picked-places = keeps (λ n. n .places) (carry-keeps (slotsOf (programOf cells)) (λ n. n .places) (λ n k f. refl) (step (programOf cells) words (chosen (m .interval))) m k)
 
   pub picked-interval : picked cells words m k .interval ≡ m .interval
-  picked-interval = keeps (λ n. n .interval) (carry-keeps (slotsOf cells) (λ n. n .interval) (λ n k f. refl) (step cells words (m .interval)) m k)
+  picked-interval = keeps (λ n. n .interval) (carry-keeps (slotsOf (programOf cells)) (λ n. n .interval) (λ n k f. refl) (step (programOf cells) words (chosen (m .interval))) m k)
 
 -- the state after an instruction that may be issued is of the shape
 pub issued-fits : {cells : List ℕ} {interval places : ℕ} → Allowed cells interval places → (words : List ℤ) (m : Machine) (k : ℕ) → Fits cells interval places m
     → k < places → running (at m k) ≡ true → m .work < workLimit → Fits cells interval places (issued cells words m k)
 issued-fits {cells} {interval} {places} allowed words m k x b r w =
     let M = modelOf cells words interval places in
-    let e : pick M m k ≡ ticked (carry (slotsOf cells) (step cells words interval) m k) = pick-carried M m k (parts-can M m k b r w) in
+    let e : pick M m k ≡ ticked (carry (slotsOf (programOf cells)) (step (programOf cells) words (chosen interval)) m k) = pick-carried M m k (parts-can M m k b r w) in
     let i : issued cells words m k ≡ pick M m k =
-    ap (λ n. ticked (carry (slotsOf cells) (step cells words n) m k)) (x .its-interval) ∙ sym e in
+    ap (λ n. ticked (carry (slotsOf (programOf cells)) (step (programOf cells) words (chosen n)) m k)) (x .its-interval) ∙ sym e in
     subst⁻¹ (λ n. Fits cells interval places n) i (pick-fits allowed words m k x)

@@ -7,17 +7,17 @@ use lib.Dec.{eqb, ltb, leb}
 use lib.IntN.{ℤ}
 use lib.ListN.{length}
 use borrow.Author.Tests.{eqb-true, ltb-true, ne-eqb}
-use Rattle.image.specs.Layout.{programCells}
+use Rattle.image.specs.Layout.{programCells, programOf}
 use Rattle.image.specs.Questions.{programNo}
 use Rattle.image.specs.Doors.{unlessRefused}
 use Rattle.image.proofs.Asked.{ask-yes, or-else-both}
-use Rattle.task.specs.Frames.{running}
+use Rattle.task.specs.Frames.{running, workLimit}
 use Rattle.machine.specs.declared.Machine.{Machine}
 use Rattle.machine.specs.declared.Driven.{Driven}
 use Rattle.machine.specs.Slots.{at, Sized}
 use Rattle.machine.specs.Ending.{jobEnded}
 use Rattle.machine.specs.Shape.{shape}
-use Rattle.machine.specs.Picking.{workLimit, slotNo, stateNoBy, stateNo, pickNo, issued, picked}
+use Rattle.machine.specs.Picking.{slotNo, stateNoBy, stateNo, pickNo, issued, picked}
 use Rattle.machine.specs.Running.{Run, driven, outcome}
 use Rattle.machine.proofs.ShapeLaws.{shape-allowed, shape-fits}
 use Rattle.machine.proofs.PickLaws.{picked-issued}
@@ -28,7 +28,7 @@ pub record Passes (cells : List ℕ) (words : List ℤ) (m : Machine) : Type 0 w
   pub program : programNo cells ≡ 0
   pub few-words : leb (length words) 4096 ≡ true
   pub whole : length cells ≡ programCells
-  pub shaped : shape cells m ≡ true
+  pub shaped : shape (programOf cells) m ≡ true
 
 pub state-passes : (cells : List ℕ) (words : List ℤ) (m : Machine) → stateNo cells words m ≡ 0 → Passes cells words m
 unfolding stateNoBy
@@ -36,7 +36,7 @@ state-passes cells words m e =
     let p = or-else-both (programNo cells) _ e in
     let a = ask-yes (leb (length words) 4096) 13 _ (p .1) in
     let b = ask-yes (eqb (length cells) programCells) 14 _ (a .1) in
-    let c = ask-yes (shape cells m) 19 0 (b .1) in
+    let c = ask-yes (shape (programOf cells) m) 19 0 (b .1) in
     record { program = p .0; few-words = a .0; whole = eqb-true (length cells) programCells (b .0); shaped = c .0 }
 
 -- nor any after it

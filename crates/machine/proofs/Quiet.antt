@@ -5,6 +5,7 @@ use mathlib.Core.List.{List}
 use Prim.Native.Nat.{ℕ, _<_}
 use native.Mathlib.Omega.{arith}
 use lib.IntN.{ℤ}
+use Rattle.image.specs.Layout.{programOf}
 use Rattle.agreement.proofs.Facts.{clash, by-test}
 use Rattle.agreement.specs.Slots.{sideEnded}
 use Rattle.agreement.specs.Picks.{Model}
@@ -31,7 +32,7 @@ module _ {cells : List ℕ} {interval places : ℕ} (allowed : Allowed cells int
   laws = laws-hold allowed words
 
   -- whether the job has ended is as agreement has it
-  pub fits-ended : jobEnded m ≡ sideEnded (slotsOf cells) m 0 0
+  pub fits-ended : jobEnded m ≡ sideEnded (slotsOf (programOf cells)) m 0 0
   fits-ended = let t = fits-shows allowed words m x in ended-is cells (rank places) (t .0) m (t .1 .holds)
 
   pub ended-quiet : jobEnded m ≡ true → (k : ℕ) → k < m .places → running (at m k) ≡ false

@@ -7,19 +7,18 @@ use native.Mathlib.Omega.{arith}
 use lib.IntN.{ℤ}
 use lib.ListN.{getD}
 use Rattle.image.specs.declared.Instruction.{Instruction}
-use Rattle.image.specs.Layout.{blockCount, instructionCount, instructionOf}
+use Rattle.image.specs.Layout.{blockCount, instructionCount, instructionOf, programOf}
 use Rattle.image.proofs.Accepted.{accepted, InstructionAccepted}
 use Rattle.task.specs.declared.Value.{Value}
-use Rattle.task.specs.Frames.{running, zeroRegister}
-use Rattle.task.specs.Step.{register, operand}
-use Rattle.task.specs.Execute.{Ready, activeOf, selected}
+use Rattle.task.specs.Frames.{running, zeroRegister, workLimit}
+use Rattle.task.specs.Step.{register, operand, activeOf}
+use Rattle.task.specs.Execute.{Ready, selected}
 use Rattle.task.proofs.Executing.{selected-is}
 use Rattle.task.proofs.Formation.{Formed}
 use Rattle.task.proofs.StepKeeps.{operand-fits}
 use Rattle.machine.specs.declared.Machine.{Machine}
 use Rattle.machine.specs.Slots.{at}
 use Rattle.machine.specs.Starting.{rank}
-use Rattle.machine.specs.Picking.{workLimit}
 use Rattle.machine.proofs.RankLaws.{rank-small}
 use Rattle.machine.proofs.InPlace.{value-at}
 use Rattle.machine.proofs.Models.{Allowed}
@@ -32,7 +31,7 @@ two-or-more (suc h) p = omega arith
 
 module _ {cells : List ℕ} {interval places : ℕ} (allowed : Allowed cells interval places) (words : List ℤ) {m : Machine} {k : ℕ} (fits : Fits cells interval places m)
     (below : k < places) (runs : running (at m k) ≡ true) where
-  abbrev its : Formed cells (rank places) (stand allowed words m k fits below runs .height) (at m k)
+  abbrev its : Formed (programOf cells) (rank places) (stand allowed words m k fits below runs .height) (at m k)
   its = stand allowed words m k fits below runs .formed
 
   pub pc-inside : at m k .task .pc < instructionCount cells
@@ -73,7 +72,7 @@ module _ {cells : List ℕ} {interval places : ℕ} (allowed : Allowed cells int
       accepted-program = allowed .program;
       pc-below = pc-inside;
       s-fits = rw p (its .values-fit (x .s));
-      v-fits = rw q (operand-fits cells (at m k) x (its .values-fit) label-below);
+      v-fits = rw q (operand-fits (programOf cells) (at m k) x (its .values-fit) label-below);
       counter-below = omega (arith, fits .counts k .counter-most);
       depth-most = omega (arith, its .has-depth, rank-small places (allowed .places-allowed));
       fork-room = λ h. omega (arith, its .has-depth, its .has-places, rank-small places (allowed .places-allowed), two-or-more _ (rw (its .has-places) at h));

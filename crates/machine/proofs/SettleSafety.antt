@@ -13,10 +13,11 @@ use lib.IntN.{ℤ}
 use lib.ListN.{getD, set, List·getD-eq-default}
 use lib.Seq.{getD-set-other}
 use borrow.Author.Tests.{lt-ltb}
+use Rattle.task.specs.Choices.{chosen}
 use Rattle.agreement.proofs.Facts.{by-below}
 use Rattle.agreement.specs.Plain.{one}
 use Rattle.agreement.specs.Slots.{due, merged, settle}
-use Rattle.image.specs.Layout.{blockCount}
+use Rattle.image.specs.Layout.{blockCount, programOf}
 use Rattle.image.specs.Questions.{programNo}
 use Rattle.task.specs.declared.Task.{Task}
 use Rattle.task.specs.declared.Frame.{Frame}
@@ -60,7 +61,7 @@ outermost cells t p e = record {
 pub vacant-safe : (cells : List ℕ) → JoinSafe cells vacantTask
 vacant-safe cells = outermost cells vacantTask (omega arith) refl
 
-pub formed-safe : (cells : List ℕ) (D h : ℕ) (f : Frame) → D ≤ 6 → Formed cells D h f → JoinSafe cells (f .task)
+pub formed-safe : (cells : List ℕ) (D h : ℕ) (f : Frame) → D ≤ 6 → Formed (programOf cells) D h f → JoinSafe cells (f .task)
 formed-safe cells D h f room x =
     let all : f .task .places * 2 ^ f .task .depth ≡ 2 ^ D =
     ap (λ p. p * 2 ^ f .task .depth) (x .has-places) ∙ sym (pow-add 2 h (f .task .depth)) ∙ ap (λ n. 2 ^ n) (omega (arith, x .has-depth)) in
@@ -69,7 +70,7 @@ formed-safe cells D h f room x =
       places-fit = omega arith;
       depth-fits = omega (arith, x .has-depth);
       forks-name = λ i p. let t : ltb i (f .task .depth) ≡ true = lt-ltb i (f .task .depth) p in
-          target-below cells _ (rw t at (x .forks-fit i (omega (arith, x .has-depth))));
+          target-below (programOf cells) _ (rw t at (x .forks-fit i (omega (arith, x .has-depth))));
     }
 
 -- ---- a join
@@ -103,18 +104,18 @@ module _ (cells : List ℕ) (a b : Frame) (x : JoinSafe cells (a .task)) (y : Jo
       let q : b .task .places * 2 ^ suc e ≤ 64 = rw (← d, ← same) (y .places-fit) in
       omega (arith, half _ e p, half _ e q, le-mul-of-pos-right (a .task .places) (pow-pos e), le-mul-of-pos-right (b .task .places) (pow-pos e))
 
-  join-safe : JoinSafe cells (join cells a b .task)
+  join-safe : JoinSafe cells (join (programOf cells) a b .task)
   unfolding join
   join-safe = go (firstFault (faultOf (a .task .status)) (faultOf (b .task .status)))
     where
-      go : (f : Option ℕ) → JoinSafe cells (joinedBy f cells (getD (a .task .forks) (a .task .depth - 1) zeroFork .continuation) a b .task)
+      go : (f : Option ℕ) → JoinSafe cells (joinedBy f (programOf cells) (getD (a .task .forks) (a .task .depth - 1) zeroFork .continuation) a b .task)
       go none = closed _ refl refl refl
       go (some n) = closed _ refl refl refl
 
 -- ---- every slot
 
 -- two sides whose join is due are as its code asks
-pub due-joinable : (cells : List ℕ) (m : Machine) (q w d : ℕ) → programNo cells ≡ 0 → SettleSafe cells m → 0 < d → due (slotsOf cells) m q w d ≡ true
+pub due-joinable : (cells : List ℕ) (m : Machine) (q w d : ℕ) → programNo cells ≡ 0 → SettleSafe cells m → 0 < d → due (slotsOf (programOf cells)) m q w d ≡ true
     → Joinable cells (at m q .task) (at m (q + w) .task)
 due-joinable cells m q w d ok all left e =
     let s = due-sides cells m q w d e in
@@ -131,9 +132,9 @@ pub put-safe : (cells : List ℕ) (m : Machine) (k : ℕ) (f : Frame) → Settle
 put-safe cells m k f all x i = put-tasks (JoinSafe cells) m k f i x (all i)
 
 merged-safe : (cells : List ℕ) (m : Machine) (q w : ℕ) → SettleSafe cells m → 0 < at m q .task .depth
-    → at m (q + w) .task .depth ≡ at m q .task .depth → SettleSafe cells (merged (slotsOf cells) m q w)
+    → at m (q + w) .task .depth ≡ at m q .task .depth → SettleSafe cells (merged (slotsOf (programOf cells)) m q w)
 merged-safe cells m q w all inside same =
-    put-safe cells (put m (q + w) vacant) q (join cells (at m q) (at m (q + w)))
+    put-safe cells (put m (q + w) vacant) q (join (programOf cells) (at m q) (at m (q + w)))
     (put-safe cells m (q + w) vacant all (vacant-safe cells))
     (join-safe cells (at m q) (at m (q + w)) (all q) (all (q + w)) inside same)
 
@@ -142,11 +143,11 @@ merged-safe cells m q w all inside same =
 -- the join of the fork at slot q, whose sides have w places each, is due at depth d for the task in slot k
 pub record Turn (cells : List ℕ) (m : Machine) (k d q w : ℕ) : Type 0 where
   pub has-room : q + w < 64
-  pub goes-on : settle (slotsOf cells) d m k ≡ settle (slotsOf cells) (d - 1) (merged (slotsOf cells) m q w) q
-  pub stays-safe : SettleSafe cells (merged (slotsOf cells) m q w)
+  pub goes-on : settle (slotsOf (programOf cells)) d m k ≡ settle (slotsOf (programOf cells)) (d - 1) (merged (slotsOf (programOf cells)) m q w) q
+  pub stays-safe : SettleSafe cells (merged (slotsOf (programOf cells)) m q w)
 
 pub turn : (cells : List ℕ) (m : Machine) (k d q w : ℕ) → SettleSafe cells m → 0 < d → at m k .task .places ≡ w → q ≡ k - k % (2 * w)
-    → due (slotsOf cells) m q w d ≡ true → Turn cells m k d q w
+    → due (slotsOf (programOf cells)) m q w d ≡ true → Turn cells m k d q w
 turn cells m k d q w all left hw hq e =
     let s = due-sides cells m q w d e in
     let inside : 0 < at m q .task .depth = omega (arith, s .parent-depth) in
@@ -168,18 +169,18 @@ module _ {cells : List ℕ} {interval places : ℕ} (allowed : Allowed cells int
       by-below i 64
       (λ p. ⊎-elim
       (λ (e : at m i ≡ vacant). subst⁻¹ (λ (f : Frame). JoinSafe cells (f .task)) e (vacant-safe cells))
-      (λ (f : (h : ℕ) × Formed cells (rank places) h (at m i)). formed-safe cells (rank places) (f .0) (at m i) room (f .1))
+      (λ (f : (h : ℕ) × Formed (programOf cells) (rank places) h (at m i)). formed-safe cells (rank places) (f .0) (at m i) room (f .1))
       (fits-framed allowed m x i p))
       (λ p. let e : at m i .task ≡ noTask = List·getD-eq-default (m .tasks) noTask {n = i} (omega (arith, x .sized .of-tasks)) in
       rw e (outermost cells noTask (omega arith) refl))
 
   -- the frame that an instruction leaves is safe to put back, and to settle
-  pub stepped-safe : (words : List ℤ) (k : ℕ) (g : Frame) → k < 64 → running (at m k) ≡ true → step cells words interval (at m k) ≡ one g
+  pub stepped-safe : (words : List ℤ) (k : ℕ) (g : Frame) → k < 64 → running (at m k) ≡ true → step (programOf cells) words (chosen interval) (at m k) ≡ one g
       → JoinSafe cells (g .task)
   stepped-safe words k g below runs e =
       let f = running-formed allowed m x k below runs in
       formed-safe cells (rank places) (f .0) g room (laws-hold allowed words .step-one (f .0) (at m k) g (f .1) runs e)
 
-  pub put-back-safe : (words : List ℤ) (k : ℕ) (g : Frame) → k < 64 → running (at m k) ≡ true → step cells words interval (at m k) ≡ one g
+  pub put-back-safe : (words : List ℤ) (k : ℕ) (g : Frame) → k < 64 → running (at m k) ≡ true → step (programOf cells) words (chosen interval) (at m k) ≡ one g
       → SettleSafe cells (put m k g)
   put-back-safe words k g below runs e = put-safe cells m k g fits-safe (stepped-safe words k g below runs e)

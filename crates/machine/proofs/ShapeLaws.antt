@@ -6,6 +6,8 @@ use mathlib.Core.List.{List}
 use native.Mathlib.Omega.{arith}
 use lib.IntN.{ℤ}
 use lib.ListN.{List·getD-eq-default}
+use Rattle.task.specs.Choices.{chosen}
+use Rattle.image.specs.Layout.{programOf}
 use Rattle.agreement.proofs.Facts.{both-true, true-both, by-below}
 use Rattle.agreement.proofs.Trees.{Tree}
 use Rattle.agreement.proofs.SlotLaws.{carry-keeps}
@@ -32,12 +34,12 @@ use Rattle.machine.specs.Shape.{testsOf, countsFit, shape}
 use Rattle.machine.proofs.SlotLaws.{put-tasks}
 use Rattle.machine.proofs.Models.{modelOf, formsOf, Allowed, laws-hold}
 
-pub tests-hold : (cells : List ℕ) (D : ℕ) → TestLaws (slotsOf cells) (formsOf cells D) (testsOf cells D)
+pub tests-hold : (cells : List ℕ) (D : ℕ) → TestLaws (slotsOf (programOf cells)) (formsOf cells D) (testsOf (programOf cells) D)
 tests-hold cells D = record {
   test-empty = λ m i s h t. vacant-is (at m i) t;
   empty-test = λ f e. ap isVacant e ∙ vacant-passes;
-  test-formed = λ m i h s l t. formed-is cells D h (at m i) t;
-  formed-test = is-formed cells D;
+  test-formed = λ m i h s l t. formed-is (programOf cells) D h (at m i) t;
+  formed-test = is-formed (programOf cells) D;
 }
 
 -- counter and span at most the work: so after a pick too
@@ -45,9 +47,9 @@ within-picks : (cells : List ℕ) (words : List ℤ) (interval places : ℕ) →
 within-picks cells words interval places = record {
   more-work = λ W f x. within-more (omega arith) x;
   of-vacant = vacant-within;
-  of-one = λ W f g x r e. step-one-within cells words interval W f g x e;
-  of-two = λ W f p c x r e. step-two-within cells words interval W f p c x e;
-  of-join = join-within cells;
+  of-one = λ W f g x r e. step-one-within (programOf cells) words (chosen interval) W f g x e;
+  of-two = λ W f p c x r e. step-two-within (programOf cells) words (chosen interval) W f p c x e;
+  of-join = join-within (programOf cells);
   put-all = λ W m k f i x y. put-tasks (Within W) m k f i x y;
   tick-all = λ W m i x. x;
   put-work = λ m k f. refl;
@@ -59,7 +61,7 @@ pub record Fits (cells : List ℕ) (interval places : ℕ) (m : Machine) : Type 
   pub its-places : m .places ≡ places
   pub its-interval : m .interval ≡ interval
   pub sized : Sized m
-  pub tiled : shaped (slotsOf cells) (testsOf cells (rank places)) (rank places) m ≡ true
+  pub tiled : shaped (slotsOf (programOf cells)) (testsOf (programOf cells) (rank places)) (rank places) m ≡ true
   pub counts : (i : ℕ) → Within (m .work) (at m i .task)
 
 all-within : (m : Machine) → Sized m → countsFit m ≡ true → (i : ℕ) → Within (m .work) (at m i .task)
@@ -70,29 +72,29 @@ all-within m s c i =
     rw e (record { counter-most = omega arith; span-most = omega arith }))
 
 -- what the shape test says, for a program that was accepted
-pub shape-allowed : (cells : List ℕ) (m : Machine) → programNo cells ≡ 0 → shape cells m ≡ true → Allowed cells (m .interval) (m .places)
+pub shape-allowed : (cells : List ℕ) (m : Machine) → programNo cells ≡ 0 → shape (programOf cells) m ≡ true → Allowed cells (m .interval) (m .places)
 unfolding shape
 shape-allowed cells m e t =
     let a = both-true (placesAllowed (m .places)) _ t in
     let b = both-true (intervalAllowed (m .interval)) _ (a .1) in
     record { program = e; places-allowed = a .0; interval-allowed = b .0 }
 
-pub shape-fits : (cells : List ℕ) (m : Machine) → Sized m → shape cells m ≡ true → Fits cells (m .interval) (m .places) m
+pub shape-fits : (cells : List ℕ) (m : Machine) → Sized m → shape (programOf cells) m ≡ true → Fits cells (m .interval) (m .places) m
 unfolding shape
 shape-fits cells m s t =
     let D = rank (m .places) in
     let a = both-true (placesAllowed (m .places)) _ t in
     let b = both-true (intervalAllowed (m .interval)) _ (a .1) in
-    let c = both-true (shaped (slotsOf cells) (testsOf cells D) D m) (countsFit m) (b .1) in
+    let c = both-true (shaped (slotsOf (programOf cells)) (testsOf (programOf cells) D) D m) (countsFit m) (b .1) in
     record { its-places = refl; its-interval = refl; sized = s; tiled = c .0; counts = all-within m s (c .1) }
 
 module _ {cells : List ℕ} {interval places : ℕ} (allowed : Allowed cells interval places) where
-  pub fits-shape : (m : Machine) → Fits cells interval places m → shape cells m ≡ true
+  pub fits-shape : (m : Machine) → Fits cells interval places m → shape (programOf cells) m ≡ true
   unfolding shape
   fits-shape m x =
       let places-are : placesAllowed (m .places) ≡ true = ap placesAllowed (x .its-places) ∙ allowed .places-allowed in
       let interval-is : intervalAllowed (m .interval) ≡ true = ap intervalAllowed (x .its-interval) ∙ allowed .interval-allowed in
-      let tiles = ap (λ p. shaped (slotsOf cells) (testsOf cells (rank p)) (rank p) m) (x .its-places) ∙ x .tiled in
+      let tiles = ap (λ p. shaped (slotsOf (programOf cells)) (testsOf (programOf cells) (rank p)) (rank p) m) (x .its-places) ∙ x .tiled in
       true-both places-are
       (true-both interval-is
       (true-both tiles (every-from (λ i. within (m .work) (at m i)) 64 0 (λ k p q. is-within (m .work) (at m k) (x .counts k)))))
@@ -105,16 +107,16 @@ module _ {cells : List ℕ} {interval places : ℕ} (allowed : Allowed cells int
     K = formsOf cells (rank places)
 
     abbrev tests : Tests Frame
-    tests = testsOf cells (rank places)
+    tests = testsOf (programOf cells) (rank places)
 
-    pub fits-shows : (m : Machine) → Fits cells interval places m → (T : Tree Frame) × Shows (slotsOf cells) (formsOf cells (rank places)) m T
+    pub fits-shows : (m : Machine) → Fits cells interval places m → (T : Tree Frame) × Shows (slotsOf (programOf cells)) (formsOf cells (rank places)) m T
     fits-shows m x = shaped-shows M K (laws-hold allowed words) tests (tests-hold cells (rank places)) m (x .sized) (x .tiled)
 
     -- a number of the state that neither a put nor a tick changes
     pick-keeps : (of : Machine → ℕ) → ((m : Machine) (k : ℕ) (f : Frame) → of (put m k f) ≡ of m) → ((m : Machine) → of (ticked m) ≡ of m)
         → (m : Machine) (k : ℕ) → of (pick M m k) ≡ of m
     pick-keeps of put-keeps tick-keeps m k =
-        pick-has M (λ n. of n ≡ of m) (λ n k c h. tick-keeps _ ∙ carry-keeps (slotsOf cells) of put-keeps (step cells words interval) n k ∙ h) m k refl
+        pick-has M (λ n. of n ≡ of m) (λ n k c h. tick-keeps _ ∙ carry-keeps (slotsOf (programOf cells)) of put-keeps (step (programOf cells) words (chosen interval)) n k ∙ h) m k refl
 
     -- a pick keeps the shape, with places and interval
     pub pick-fits : (m : Machine) (k : ℕ) → Fits cells interval places m → Fits cells interval places (pick (modelOf cells words interval places) m k)

@@ -11,7 +11,7 @@ use Rattle.agreement.proofs.Trees.{leaf}
 use Rattle.agreement.proofs.Holds.{Shows}
 use Rattle.agreement.proofs.HoldsLaws.{lone-shows}
 use Rattle.agreement.proofs.ShapeLaws.{shows-shaped}
-use Rattle.image.specs.Layout.{programCells}
+use Rattle.image.specs.Layout.{programCells, programOf}
 use Rattle.image.specs.Questions.{programNo}
 use Rattle.image.specs.Doors.{unlessRefused}
 use Rattle.image.proofs.Asked.{ask-yes, or-else-both}
@@ -118,12 +118,12 @@ module _ (places interval : ℕ) (registers : List ℤ) where
 
 module _ {cells : List ℕ} {places interval : ℕ} {registers words : List ℤ} (start : StartAccepted cells places interval registers words) where
   -- its one task has all places
-  pub fresh-shows : Shows (slotsOf cells) (formsOf cells (rank places)) (fresh places interval registers) (leaf (startFrame places (integers registers)))
+  pub fresh-shows : Shows (slotsOf (programOf cells)) (formsOf cells (rank places)) (fresh places interval registers) (leaf (startFrame places (integers registers)))
   fresh-shows =
       let D = rank places in
       let allowed = start .allowed in
-      let formed : Formed cells D D (startFrame places (integers registers)) =
-      subst⁻¹ (λ p. Formed cells D D (startFrame p (integers registers))) (rank-power places (allowed .places-allowed))
+      let formed : Formed (programOf cells) D D (startFrame places (integers registers)) =
+      subst⁻¹ (λ p. Formed (programOf cells) D D (startFrame p (integers registers))) (rank-power places (allowed .places-allowed))
       (start-formed cells (accepted cells (allowed .program)) D registers (start .sixteen)) in
       lone-shows (modelOf cells words interval places) (formsOf cells D) (laws-hold allowed words) (fresh places interval registers)
       (startFrame places (integers registers)) (fresh-first places interval registers (start .sixteen)) formed
@@ -136,7 +136,7 @@ module _ {cells : List ℕ} {places interval : ℕ} {registers words : List ℤ}
         its-places = fresh-places places interval registers;
         its-interval = fresh-interval places interval registers;
         sized = fresh-sized places interval registers;
-        tiled = shows-shaped (modelOf cells words interval places) (formsOf cells D) (laws-hold (start .allowed) words) (testsOf cells D)
+        tiled = shows-shaped (modelOf cells words interval places) (formsOf cells D) (laws-hold (start .allowed) words) (testsOf (programOf cells) D)
             (tests-hold cells D) (fresh places interval registers) (leaf (startFrame places (integers registers))) fresh-shows;
         counts = fresh-counts places interval registers;
       }

@@ -8,6 +8,8 @@ use lib.Pow.{pow-pos}
 use lib.IntN.{ℤ}
 use types.Run.{OneOf, miss}
 use denote.Enum.Declared.{tagOf}
+use Rattle.task.specs.Choices.{chosen}
+use Rattle.image.specs.Layout.{programOf}
 use Rattle.agreement.specs.Plain.{one}
 use Rattle.agreement.specs.Slots.{due, merged, settle}
 use Rattle.agreement.proofs.SlotLaws.{carry-one}
@@ -39,7 +41,7 @@ use Rattle.machine.proofs.Passing.{Head, issued-behind}
 module _ (cells : List ℕ) (words : List ℤ) where
   -- the state that counts is the one with the joins made that are due from depth `open` on
   pub record Turns (interval places : ℕ) (first : Run) (budget : ℕ) (m : Machine) (k idle left open′ side : ℕ) : Type 0 where
-    pub head : Head cells words interval places first budget (settle (slotsOf cells) open′ m side) k idle left
+    pub head : Head cells words interval places first budget (settle (slotsOf (programOf cells)) open′ m side) k idle left
     pub safe : SettleSafe cells m
     pub sized : Sized m
     pub side-below : side < 64
@@ -63,45 +65,45 @@ module _ (cells : List ℕ) (words : List ℤ) where
       at-head z = subst (λ n. Head cells words interval places first budget n k idle left) (settle-ends cells m side o z) (t .head)
 
       -- a join that is not due: settling stops
-      pub stops : (q w : ℕ) → 0 < o → at m side .task .places ≡ w → q ≡ side - side % (2 * w) → due (slotsOf cells) m q w o ≡ false
+      pub stops : (q w : ℕ) → 0 < o → at m side .task .places ≡ w → q ≡ side - side % (2 * w) → due (slotsOf (programOf cells)) m q w o ≡ false
           → Turns interval places first budget m k idle left 0 side
       stops q w some hw hq e =
           none-due 0 side refl (t .side-below)
           (subst (λ n. Head cells words interval places first budget n k idle left) (settle-stops cells m side o q w some hw hq e) (t .head))
 
       -- one that is
-      pub joins : {m′ : Machine} (q w : ℕ) → 0 < o → at m side .task .places ≡ w → q ≡ side - side % (2 * w) → due (slotsOf cells) m q w o ≡ true
-          → m′ ≡ merged (slotsOf cells) m q w → Turns interval places first budget m′ k idle left (o - 1) q
+      pub joins : {m′ : Machine} (q w : ℕ) → 0 < o → at m side .task .places ≡ w → q ≡ side - side % (2 * w) → due (slotsOf (programOf cells)) m q w o ≡ true
+          → m′ ≡ merged (slotsOf (programOf cells)) m q w → Turns interval places first budget m′ k idle left (o - 1) q
       joins {m′} q w some hw hq e p =
           let x = turn cells m side o q w (t .safe) some hw hq e in
           record {
-            head = subst (λ n. Head cells words interval places first budget n k idle left) (x .goes-on ∙ ap (λ n. settle (slotsOf cells) (o - 1) n q) (sym p)) (t .head);
+            head = subst (λ n. Head cells words interval places first budget n k idle left) (x .goes-on ∙ ap (λ n. settle (slotsOf (programOf cells)) (o - 1) n q) (sym p)) (t .head);
             safe = subst⁻¹ (SettleSafe cells) p (x .stays-safe);
-            sized = subst⁻¹ Sized p (put-sized (put m (q + w) vacant) q (join cells (at m q) (at m (q + w))) (put-sized m (q + w) vacant (t .sized)));
+            sized = subst⁻¹ Sized p (put-sized (put m (q + w) vacant) q (join (programOf cells) (at m q) (at m (q + w))) (put-sized m (q + w) vacant (t .sized)));
             side-below = omega (arith, x .has-room);
             few = omega (arith, t .few);
           }
 
     -- an instruction has ended the side of slot k's task, which is alone in its w places: the joins are looked at from there on
     pub ends : {m m′ : Machine} {k idle left : ℕ} (h : Head cells words interval places first budget m k idle left)
-        → goesOn left (m .work) idle (m .places) ≡ true → running (at m k) ≡ true → (g : Frame) → step cells words (m .interval) (at m k) ≡ one g
+        → goesOn left (m .work) idle (m .places) ≡ true → running (at m k) ≡ true → (g : Frame) → step (programOf cells) words (chosen (m .interval)) (at m k) ≡ one g
         → m′ ≡ ticked (put m k g) → k < 64 → (o n w : ℕ) → o ≡ g .task .depth → o ≤ 6 → at m k .task .places ≡ w
         → n ≡ nextSlot (m .places) (k + w - 1) → Turns interval places first budget m′ n 0 (left - 1) o k
     ends {m} {m′} {k} {idle} {left} h test r g e p below o n w deep shallow width next =
-        let settled : settle (slotsOf cells) o m′ k ≡ issued cells words m k =
-        ap (λ d. settle (slotsOf cells) d m′ k) deep ∙ ap (λ n. settle (slotsOf cells) (g .task .depth) n k) p ∙ settle-tick cells (g .task .depth) (put m k g) k
-        ∙ ap ticked (sym (carry-one (slotsOf cells) (step cells words (m .interval)) m k g e)) in
+        let settled : settle (slotsOf (programOf cells)) o m′ k ≡ issued cells words m k =
+        ap (λ d. settle (slotsOf (programOf cells)) d m′ k) deep ∙ ap (λ n. settle (slotsOf (programOf cells)) (g .task .depth) n k) p ∙ settle-tick cells (g .task .depth) (put m k g) k
+        ∙ ap ticked (sym (carry-one (slotsOf (programOf cells)) (step (programOf cells) words (chosen (m .interval))) m k g e)) in
         let s = stand allowed words m k (h .fits) (h .slot-below) r in
         let power : w ≡ 2 ^ s .height = sym width ∙ s .formed .has-places in
         let P : places ≡ 2 ^ rank places = rank-power places (allowed .places-allowed) in
-        let quiet : (i : ℕ) → k < i → i < k + w → running (at (settle (slotsOf cells) o m′ k) i) ≡ false =
+        let quiet : (i : ℕ) → k < i → i < k + w → running (at (settle (slotsOf (programOf cells)) o m′ k) i) ≡ false =
         λ i a b. settle-quiet cells o m′ k i a
         (ap (λ (o : Machine). running (at o i)) p ∙ ap running (put-other m k g i (λ q. absurd (omega arith))) ∙ s .alone i a (omega (arith, power))) in
         record {
           head = issued-behind cells words allowed h test _ n w r settled (omega (arith, power, pow-pos (s .height)))
               (omega (arith, s .inside, power, P, h .fits .its-places)) quiet next;
           safe = subst⁻¹ (SettleSafe cells) p
-              (put-back-safe allowed m (h .fits) words k g below r (ap (λ n. step cells words n (at m k)) (sym (h .fits .its-interval)) ∙ e));
+              (put-back-safe allowed m (h .fits) words k g below r (ap (λ n. step (programOf cells) words (chosen n) (at m k)) (sym (h .fits .its-interval)) ∙ e));
           sized = subst⁻¹ Sized p (ticked-sized (put m k g) (put-sized m k g (h .fits .sized)));
           side-below = below;
           few = shallow;

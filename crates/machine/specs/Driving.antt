@@ -2,7 +2,7 @@
 use mathlib.Core.Bool.{Bool, cond, _&&_}
 use Prim.Native.Nat.{ℕ, _+_}
 use lib.Dec.{ltb}
-use Rattle.machine.specs.Picking.{workLimit}
+use Rattle.task.specs.Frames.{workLimit}
 
 -- it goes on while picks are left, the work is below the limit, and fewer than P slots were passed over since the last pick
 abbrev pub goesOn : ℕ → ℕ → ℕ → ℕ → Bool

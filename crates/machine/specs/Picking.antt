@@ -6,19 +6,16 @@ use lib.Dec.{eqb, ltb, leb}
 use lib.IntN.{ℤ}
 use lib.ListN.{length}
 use Rattle.agreement.specs.Slots.{carry}
-use Rattle.image.specs.Layout.{programCells}
+use Rattle.image.specs.Layout.{programCells, programOf}
 use Rattle.image.specs.Questions.{ask, orElse, programNo}
 use Rattle.image.specs.Doors.{unlessRefused}
-use Rattle.task.specs.Frames.{running}
+use Rattle.task.specs.Frames.{running, workLimit}
+use Rattle.task.specs.Choices.{chosen}
 use Rattle.task.specs.Step.{step}
 use Rattle.machine.specs.declared.Machine.{Machine}
 use Rattle.machine.specs.Slots.{at, ticked, slotsOf}
 use Rattle.machine.specs.Ending.{jobEnded}
 use Rattle.machine.specs.Shape.{shape}
-
--- the most work that a state can show
-abbrev pub workLimit : ℕ
-workLimit = 4294967295
 
 -- Slot below P? (21) Job not ended? (22) A running task there? (23) Work below 4,294,967,295? (24)
 unfoldable pub slotNo : Machine → ℕ → ℕ
@@ -30,7 +27,7 @@ slotNo m k =
 unfoldable pub stateNoBy : List ℕ → ℕ → Machine → ℕ
 stateNoBy cells words m =
     orElse (programNo cells)
-    (ask (leb words 4096) 14 (ask (eqb (length cells) programCells) 15 (ask (shape cells m) 20 0)))
+    (ask (leb words 4096) 14 (ask (eqb (length cells) programCells) 15 (ask (shape (programOf cells) m) 20 0)))
 
 abbrev pub stateNo : List ℕ → List ℤ → Machine → ℕ
 stateNo cells words m = stateNoBy cells (length words) m
@@ -41,7 +38,8 @@ pickNo cells words m k = orElse (stateNo cells words m) (slotNo m k)
 
 -- one instruction of slot k's task issued, the joins that then are due made, and 1 added to the work
 abbrev pub issued : List ℕ → List ℤ → Machine → ℕ → Machine
-issued cells words m k = ticked (carry (slotsOf cells) (step cells words (m .interval)) m k)
+issued cells words m k =
+    ticked (carry (slotsOf (programOf cells)) (step (programOf cells) words (chosen (m .interval))) m k)
 
 -- a refused pick hands back the old state
 abbrev pub picked : List ℕ → List ℤ → Machine → ℕ → Machine

@@ -5,6 +5,7 @@ use Prim.Native.Nat.{ℕ, _+_, _*_}
 use lib.ListN.{length, getD, set}
 use lib.Seq.{sets}
 use Rattle.agreement.specs.Slots.{Slots}
+use Rattle.image.specs.Program.{Program}
 use Rattle.task.specs.declared.Frame.{Frame}
 use Rattle.task.specs.Frames.{zeroRegister, vacant, noTask, running}
 use Rattle.task.specs.Step.{join}
@@ -35,10 +36,10 @@ abbrev pub ticked : Machine → Machine
 ticked m = record { places = m .places; interval = m .interval; work = m .work + 1; bank = m .bank; tasks = m .tasks }
 
 -- 64 slots, whose tasks join as the program says
-abbrev pub slotsOf : List ℕ → Slots Frame Machine
-slotsOf cells = record {
+abbrev pub slotsOf : Program → Slots Frame Machine
+slotsOf program = record {
   running = running;
-  join = join cells;
+  join = join program;
   depth = λ f. f .task .depth;
   places = λ f. f .task .places;
   vacant = vacant;

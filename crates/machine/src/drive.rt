@@ -17,7 +17,7 @@ ghost use mathlib.Core.Path.{_≡_};
 ghost use mathlib.Core.Bool.{true, cond, not, _&&_};
 ghost use Prim.Native.Nat.{_+_, _<_, _≤_};
 ghost use lib.ListN.{length};
-ghost use Rattle.image.specs.Layout.{programCells};
+ghost use Rattle.image.specs.Layout.{programCells, programOf};
 ghost use Rattle.image.specs.Questions.{programNo};
 ghost use Rattle.task.specs.Frames.{zeroRegister};
 ghost use Rattle.task.specs.Values.{recordOf};
@@ -133,7 +133,7 @@ fn cleared(faulted: bool) -> usize
 
 // At most `budget` picks from `slot` on. Pick, run, `orders` and `job` call it, after the questions that ensure its `requires`.
 pub fn drive(cells: &[u64], words: &[i64], machine: Machine, slot: usize, budget: u64) -> Driven
-    requires { ⌜ (programNo (now cells) ≡ 0) × (length (now cells) ≡ programCells) × (shape (now cells) machine ≡ true) × (slot < machine .places) ⌝ }
+    requires { ⌜ (programNo (now cells) ≡ 0) × (length (now cells) ≡ programCells) × (shape (programOf (now cells)) machine ≡ true) × (slot < machine .places) ⌝ }
     ensures { λ r. ⌜ r ≡ driven (now (cells .entry)) (now (words .entry)) machine slot budget ⌝ }
 {
     let mut m = machine;

@@ -2,7 +2,6 @@
 pub mod drive;
 pub mod pick;
 pub mod run;
-pub mod shape;
 pub mod slots;
 pub mod start;
 

@@ -3,16 +3,22 @@ use crate::Answered;
 use crate::End;
 use crate::Machine;
 use crate::drive;
-use crate::shape;
+use crate::start;
+use shape::registers;
+use shape::slots;
+use shape::tasks;
+use shape::tiling;
 use task::Status;
 use task::Task;
 use task::running::is_running;
 ghost use mathlib.Core.Path.{_≡_};
 ghost use Prim.Native.Nat.{_%_};
-ghost use lib.ListN.{getD};
-ghost use Rattle.image.specs.Questions.{orElse};
+ghost use lib.ListN.{length, getD};
+ghost use Rattle.image.specs.Layout.{programCells, programOf};
+ghost use Rattle.image.specs.Questions.{orElse, programNo};
 ghost use Rattle.task.specs.Frames.{noTask};
 ghost use Rattle.machine.specs.Ending.{endAt, ending, isEnd};
+ghost use Rattle.machine.specs.Shape.{shape};
 ghost use Rattle.machine.specs.Picking.{slotNo, stateNoBy, pickNo, picked};
 
 fn fault_end(depth: u32, n: u8) -> End
@@ -81,6 +87,28 @@ fn ask_slot(m: Machine, t: Task, slot: u64) -> u8
     0
 }
 
+// Question 20. The caller has put the program's questions, and the one on the buffer's length.
+pub fn meets_shape(cells: &[u64], m: Machine) -> bool
+    requires { ⌜ (programNo (now cells) ≡ 0) × (length (now cells) ≡ programCells) ⌝ }
+    ensures { λ r. ⌜ r ≡ shape (programOf (now (cells .entry))) m ⌝ }
+{
+    let rank = start::rank_of(m.places);
+    if 6 < rank {
+        return false;
+    }
+    if !start::allows_interval(m.interval as u64) {
+        return false;
+    }
+    let bank = m.bank;
+    let grades = registers::grade_slots(cells, bank);
+    let tasks = m.tasks;
+    let codes = slots::code_slots(cells, rank, tasks, grades);
+    if !tiling::is_tree(&codes, rank) {
+        return false;
+    }
+    tasks::counts_fit(m.work, tasks)
+}
+
 // The questions of pick and run about program, words and state. Of the words only their number counts.
 pub fn ask_state(cells: &[u64], words: usize, m: Machine) -> u8
     ensures { λ r. ⌜ r ≡ stateNoBy (now (cells .entry)) words m ⌝ }
@@ -95,7 +123,7 @@ pub fn ask_state(cells: &[u64], words: usize, m: Machine) -> u8
     if cells.len() != 5890 {
         return 15;
     }
-    if !shape::meets_shape(cells, m) {
+    if !meets_shape(cells, m) {
         return 20;
     }
     0

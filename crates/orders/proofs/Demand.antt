@@ -12,12 +12,11 @@ use Rattle.agreement.specs.Demand.{Ordered}
 use Rattle.agreement.specs.Demand as model-demand
 use Rattle.agreement.proofs.DemandLaws.{ordered}
 use Rattle.task.specs.declared.Frame.{Frame}
-use Rattle.task.specs.Frames.{vacant, integers, startFrame}
+use Rattle.task.specs.Frames.{vacant, integers, startFrame, workLimit}
 use Rattle.machine.specs.declared.Machine.{Machine}
 use Rattle.machine.specs.Slots.{at}
 use Rattle.machine.specs.Ending.{endOf, jobEnded}
 use Rattle.machine.specs.Starting.{rank}
-use Rattle.machine.specs.Picking.{workLimit}
 use Rattle.machine.proofs.Models.{formsOf, laws-hold}
 use Rattle.machine.proofs.Quiet.{fits-ended}
 use Rattle.machine.proofs.PickLaws.{can-accepted}

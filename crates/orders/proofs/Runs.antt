@@ -10,12 +10,13 @@ use lib.ListN.{length}
 use borrow.Author.Tests.{ltb-true, ltb-false, eq-eqb}
 use Rattle.agreement.proofs.Facts.{clash, by-test}
 use Rattle.agreement.specs.Picks.{once}
-use Rattle.image.specs.Layout.{programCells}
+use Rattle.image.specs.Layout.{programCells, programOf}
 use Rattle.image.specs.Questions.{programNo, orElse}
 use Rattle.machine.specs.declared.Machine.{Machine}
 use Rattle.machine.specs.declared.Outcome.{Outcome}
 use Rattle.machine.specs.Ending.{jobEnded}
-use Rattle.machine.specs.Picking.{workLimit, stateNoBy, stateNo, pickNo, picked, issued}
+use Rattle.task.specs.Frames.{workLimit}
+use Rattle.machine.specs.Picking.{stateNoBy, stateNo, pickNo, picked, issued}
 use Rattle.machine.specs.Running.{Run, nextPick, stops, pickedAt, runs, runFrom, outcome}
 use Rattle.machine.proofs.PickLaws.{Lent, picked-issued, picked-work}
 use Rattle.machine.proofs.Searching.{next-runs}
@@ -45,7 +46,7 @@ module _ (j : Job) (program : programNo (j .cells) ≡ 0) (lent : Lent (j .cells
   open Job j using (cells, words)
 
   ensures : (m : Machine) → Meets cells m → ShapeEnsures cells words m
-  ensures m x = every-shape cells words m program x
+  ensures m x = every-shape (programOf cells) words m program x
 
   -- from the run r a run of budget b has come to e
   record Ordered (b : ℕ) (r e : Run) : Type 0 where

@@ -11,7 +11,7 @@ use Rattle.agreement.specs.Plain.{Ran, out, ran}
 use Rattle.task.specs.declared.Frame.{Frame}
 use Rattle.machine.specs.declared.Machine.{Machine}
 use Rattle.machine.specs.Ending.{jobEnded}
-use Rattle.machine.specs.Picking.{workLimit}
+use Rattle.task.specs.Frames.{workLimit}
 use Rattle.machine.specs.Running.{Run}
 use Rattle.orders.specs.Demand.{Job, Accepted, startOn, playedOf, played, carriedOutOf, evaluation, Ends, Agrees}
 use Rattle.orders.specs.Runs.{IsOrder, run, EndsAlike, SameEnd}

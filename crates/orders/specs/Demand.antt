@@ -9,16 +9,18 @@ use mathlib.Core.Bool.{Bool, true, false}
 use mathlib.Core.List.{List, [], _∷_}
 use lib.Dec.{eqb}
 use lib.IntN.{ℤ}
+use Rattle.task.specs.Choices.{chosen}
+use Rattle.image.specs.Layout.{programOf}
 use Rattle.agreement.specs.Plain.{Ran, ran, eval}
 use Rattle.agreement.specs.Picks.{ifPicked, once}
 use Rattle.task.specs.declared.Frame.{Frame}
-use Rattle.task.specs.Frames.{running, integers, startFrame}
+use Rattle.task.specs.Frames.{running, integers, startFrame, workLimit}
 use Rattle.task.specs.Step.{step, join}
 use Rattle.machine.specs.declared.Machine.{Machine}
 use Rattle.machine.specs.Slots.{at}
 use Rattle.machine.specs.Ending.{endOf, ending, jobEnded}
 use Rattle.machine.specs.Starting.{startNo, started}
-use Rattle.machine.specs.Picking.{workLimit, pickNo, picked}
+use Rattle.machine.specs.Picking.{pickNo, picked}
 
 -- what start is given: a program, P, the interval, start registers and a call record
 pub record Job : Type 0 where
@@ -75,7 +77,7 @@ module _ (j : Job) where
 
   abbrev pub evaluation : ℕ → Ran Frame
   evaluation fuel =
-      eval (record { running = running; step = step cells words interval; join = join cells }) fuel (startFrame places (integers registers))
+      eval (record { running = running; step = step (programOf cells) words (chosen interval); join = join (programOf cells) }) fuel (startFrame places (integers registers))
 
   -- it ends with the frame e and the work W, within the limit. (The fuel bounds how deep its recursion goes. Each level issues an
   -- instruction, so that the limit is fuel enough)

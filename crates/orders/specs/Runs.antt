@@ -8,12 +8,12 @@ use mathlib.Core.Bool.{true, false}
 use mathlib.Core.List.{List, _++_}
 use lib.ListN.{length}
 use Rattle.agreement.specs.Picks.{once}
-use Rattle.task.specs.Frames.{running}
+use Rattle.task.specs.Frames.{running, workLimit}
 use Rattle.machine.specs.declared.Machine.{Machine}
 use Rattle.machine.specs.declared.Outcome.{Outcome}
 use Rattle.machine.specs.Slots.{at, Sized}
 use Rattle.machine.specs.Ending.{jobEnded}
-use Rattle.machine.specs.Picking.{workLimit, stateNo}
+use Rattle.machine.specs.Picking.{stateNo}
 use Rattle.machine.specs.Running.{Run, stops, runs, runFrom, outcome}
 use Rattle.orders.specs.Demand.{Job, Accepted, startOn, played, carriedOut, WhateverTheOrder}
 use Rattle.orders.specs.Shapes.{Meets}

@@ -7,16 +7,16 @@ use lib.Dec.{eqb, leb}
 use lib.IntN.{ℤ}
 use lib.ListN.{length}
 use Rattle.agreement.specs.Places.{heldFrom}
-use Rattle.image.specs.Layout.{programCells}
+use Rattle.image.specs.Layout.{programCells, programOf}
 use Rattle.image.specs.Questions.{programNo}
 use Rattle.task.specs.declared.Status.{Status}
 use Rattle.task.specs.declared.Status.the-variants.{Vacant, Running, Waiting, Halted, Faulted}
-use Rattle.task.specs.Frames.{running}
+use Rattle.task.specs.Frames.{running, workLimit}
 use Rattle.machine.specs.declared.Machine.{Machine}
 use Rattle.machine.specs.Slots.{at, Sized}
 use Rattle.machine.specs.Ending.{jobEnded}
 use Rattle.machine.specs.Shape.{shape}
-use Rattle.machine.specs.Picking.{workLimit, pickNo, picked}
+use Rattle.machine.specs.Picking.{pickNo, picked}
 use Rattle.orders.specs.Demand.{Job, Accepted, startOn, played}
 
 -- the places of a slot with a task
@@ -34,7 +34,7 @@ placesHeld m = heldFrom at (λ f. heldAs (f .task .status) (f .task .places)) 64
 -- meets the shape test for a program
 pub record Meets (cells : List ℕ) (m : Machine) : Type 0 where
   pub sized : Sized m
-  pub shaped : shape cells m ≡ true
+  pub shaped : shape (programOf cells) m ≡ true
 
 -- of a state m, for every pick
 pub record ShapeEnsures (cells : List ℕ) (words : List ℤ) (m : Machine) : Type 0 where

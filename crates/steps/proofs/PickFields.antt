@@ -7,14 +7,16 @@ use native.Mathlib.Omega.{arith}
 use lib.Dec.{eqb}
 use lib.IntN.{ℤ}
 use borrow.Author.Tests.{eqb-true}
+use Rattle.task.specs.Choices.{chosen}
+use Rattle.image.specs.Layout.{programOf}
 use Rattle.agreement.proofs.Facts.{by-test}
 use Rattle.agreement.proofs.SlotLaws.{carry-keeps, carry-all}
 use Rattle.image.specs.Doors.{unlessRefused}
-use Rattle.task.specs.Frames.{running}
+use Rattle.task.specs.Frames.{running, workLimit}
 use Rattle.task.specs.Step.{step}
 use Rattle.machine.specs.declared.Machine.{Machine}
 use Rattle.machine.specs.Slots.{at, slotsOf}
-use Rattle.machine.specs.Picking.{workLimit, pickNo, issued, picked}
+use Rattle.machine.specs.Picking.{pickNo, issued, picked}
 use Rattle.machine.proofs.Owning.{places-most}
 use Rattle.machine.proofs.Models.{Allowed}
 use Rattle.machine.proofs.ShapeLaws.{Fits, shape-allowed, shape-fits}
@@ -30,14 +32,14 @@ module _ (cells : List ℕ) (words : List ℤ) (m : Machine) (k : ℕ) (fit : In
   issued-narrow : k < 64 → (i : ℕ) → Narrow (at (issued cells words m k) i)
   issued-narrow below =
       let leaves = step-narrow cells words (m .interval) (at m k) fit (x .tasks k below .depth) (fields-narrow m x k) in
-      carry-all (slotsOf cells) Narrow put-narrow vacant-narrow (join-narrow cells) (step cells words (m .interval)) m k (fields-narrow m x)
+      carry-all (slotsOf (programOf cells)) Narrow put-narrow vacant-narrow (join-narrow cells) (step (programOf cells) words (chosen (m .interval))) m k (fields-narrow m x)
       (λ g e. subst AllNarrow e leaves) (λ p c e. subst AllNarrow e leaves)
 
   -- an instruction that may be issued, in a state of the shape
   pub issued-in-fields : {interval places : ℕ} → Allowed cells interval places → Fits cells interval places m → k < places
       → running (at m k) ≡ true → m .work < workLimit → InFields (issued cells words m k)
   issued-in-fields {interval} {places} allowed shaped below runs room =
-      let work = carry-keeps (slotsOf cells) (λ n. n .work) (λ n k f. refl) (step cells words (m .interval)) m k in
+      let work = carry-keeps (slotsOf (programOf cells)) (λ n. n .work) (λ n k f. refl) (step (programOf cells) words (chosen (m .interval))) m k in
       let slot : k < 64 = omega (arith, places-most places (allowed .places-allowed)) in
       fits-in-fields allowed (issued cells words m k) (issued-fits allowed words m k shaped below runs room) (omega (arith, work))
       (λ i b. issued-narrow slot i)

@@ -7,12 +7,14 @@ use native.Mathlib.Omega.{arith}
 use lib.Dec.{eqb, ltb}
 use lib.IntN.{ℤ}
 use borrow.Author.Tests.{eqb-true, ltb-true}
+use Rattle.image.specs.Layout.{programOf}
 use Rattle.agreement.proofs.Facts.{by-test}
 use Rattle.image.specs.Questions.{programNo}
 use Rattle.machine.specs.declared.Machine.{Machine}
 use Rattle.machine.specs.Ending.{jobEnded}
 use Rattle.machine.specs.Shape.{shape}
-use Rattle.machine.specs.Picking.{workLimit, stateNo}
+use Rattle.task.specs.Frames.{workLimit}
+use Rattle.machine.specs.Picking.{stateNo}
 use Rattle.machine.specs.Running.{Run, nextPick, stops, pickedAt, runs, runFrom, outcome}
 use Rattle.machine.proofs.Models.{Allowed}
 use Rattle.machine.proofs.ShapeLaws.{Fits, shape-allowed, shape-fits, fits-shape}
@@ -29,7 +31,7 @@ module _ {cells : List ℕ} {interval places : ℕ} (allowed : Allowed cells int
   -- while the job has not ended, the next pick is of a running task
   next-ready : (m : Machine) (k : ℕ) → Fits cells interval places m → jobEnded m ≡ false → ltb (m .work) workLimit ≡ true → Ready m (nextPick m k)
   next-ready m k s unended room =
-      let r = every-shape cells words m (allowed .program) (record { sized = s .sized; shaped = fits-shape allowed m s }) .open-runs unended in
+      let r = every-shape (programOf cells) words m (allowed .program) (record { sized = s .sized; shaped = fits-shape allowed m s }) .open-runs unended in
       let n = next-runs m k (r .0) (r .1) (r .2) in
       record { below = n .0; runs = n .1; below-limit = ltb-true (m .work) workLimit room }
 
@@ -56,7 +58,7 @@ module _ {cells : List ℕ} {interval places : ℕ} (allowed : Allowed cells int
       (λ l. stays (suc n) r x (rw (e, l))))
 
 module _ (cells : List ℕ) (words : List ℤ) (m : Machine) where
-  pub run-in-fields : (k budget : ℕ) → programNo cells ≡ 0 → shape cells m ≡ true → IntegersInField words → InFields m
+  pub run-in-fields : (k budget : ℕ) → programNo cells ≡ 0 → shape (programOf cells) m ≡ true → IntegersInField words → InFields m
       → InFields (runFrom cells words m k budget .machine)
   run-in-fields k budget program shaped fit x =
       runs-in-fields (shape-allowed cells m program shaped) words fit budget (record { machine = m; slot = k; picks = 0 })

@@ -10,7 +10,7 @@ use lib.Dec.{eqb, ltb, leb}
 use lib.ListN.{length, getD, List·getD-eq-default}
 use borrow.Author.Tests.{eqb-true, ltb-true, leb-true}
 use Rattle.agreement.proofs.Facts.{by-below}
-use Rattle.image.specs.Layout.{blockCount}
+use Rattle.image.specs.Layout.{blockCount, programOf}
 use Rattle.image.proofs.Booleans.{both-true}
 use Rattle.image.proofs.Accepted.{Accepted, accepted}
 use Rattle.task.specs.declared.Value.{Value}
@@ -20,7 +20,7 @@ use Rattle.task.specs.declared.Status.{Status}
 use Rattle.task.specs.declared.Status.the-variants.{Vacant, Running, Waiting, Halted, Faulted}
 use Rattle.task.specs.declared.Fork.{Fork}
 use Rattle.task.specs.declared.Frame.{Frame}
-use Rattle.task.specs.Frames.{zeroRegister, zeroFork, vacant}
+use Rattle.task.specs.Frames.{zeroRegister, zeroFork, vacant, workLimit}
 use Rattle.task.specs.Step.{register}
 use Rattle.task.specs.Formed.{valueFits, forkFits, statusFits}
 use Rattle.task.proofs.Facts.{constant-at}
@@ -30,7 +30,6 @@ use Rattle.task.proofs.StretchLaws.{getD-reads}
 use Rattle.machine.specs.declared.Machine.{Machine}
 use Rattle.machine.specs.Slots.{at}
 use Rattle.machine.specs.Starting.{rank}
-use Rattle.machine.specs.Picking.{workLimit}
 use Rattle.machine.proofs.RankLaws.{rank-small}
 use Rattle.machine.proofs.Intervals.{interval-fits}
 use Rattle.machine.proofs.Owning.{places-most}
@@ -81,18 +80,18 @@ vacant-in-fields = record {
 }
 
 module _ (cells : List ℕ) (ok : Accepted cells) where
-  value-in-field : (v : Value) → valueFits cells v ≡ true → NarrowValue v → ValueInField v
+  value-in-field : (v : Value) → valueFits (programOf cells) v ≡ true → NarrowValue v → ValueInField v
   value-in-field (Int z) e x = x
   value-in-field (Label b) e x = omega (arith, ltb-true b (blockCount cells) e, ok .few-blocks)
-  value-in-field (Record c d) e x = (omega (arith, target-below cells c e, ok .few-blocks), x)
+  value-in-field (Record c d) e x = (omega (arith, target-below (programOf cells) c e, ok .few-blocks), x)
 
   fork-in-field : (t : Bool) (k : Fork) → forkFits cells t k ≡ true → NarrowFork k → ForkInField k
-  fork-in-field true k e x = (omega (arith, target-below cells (k .continuation) e, ok .few-blocks), x)
+  fork-in-field true k e x = (omega (arith, target-below (programOf cells) (k .continuation) e, ok .few-blocks), x)
   fork-in-field false k e x =
       (omega (arith, eqb-true (k .continuation) 0 (both-true (eqb (k .continuation) 0) (eqb (k .depth) 0) e .0)), x)
 
   module _ (D W : ℕ) (small : D ≤ 6) (limited : W ≤ workLimit) where
-    formed-in-fields : (h : ℕ) (f : Frame) → Formed cells D h f → Within W (f .task) → Narrow f → FrameInFields f
+    formed-in-fields : (h : ℕ) (f : Frame) → Formed (programOf cells) D h f → Within W (f .task) → Narrow f → FrameInFields f
     formed-in-fields h f x w n =
         let low : h ≤ 6 = omega (arith, x .has-depth) in
         let most : 2 ^ h ≤ 2 ^ 6 = pow-le-pow-right {n = 2} (omega arith) low in
@@ -133,6 +132,6 @@ fits-in-fields {cells} {interval} {places} allowed m x limited n = record {
     framed : (i : ℕ) → i < 64 → FrameInFields (at m i)
     framed i b = ⊎-elim
         (λ (e : at m i ≡ vacant). subst⁻¹ FrameInFields e vacant-in-fields)
-        (λ (f : (h : ℕ) × Formed cells (rank places) h (at m i)). formed-in-fields cells (accepted cells (allowed .program)) (rank places) (m .work)
+        (λ (f : (h : ℕ) × Formed (programOf cells) (rank places) h (at m i)). formed-in-fields cells (accepted cells (allowed .program)) (rank places) (m .work)
         (rank-small places (allowed .places-allowed)) limited (f .0) (at m i) (f .1) (x .counts i) (n i b))
         (fits-framed allowed m x i b)

@@ -14,12 +14,13 @@ use mir.Syntax.{w64}
 use mir.Val.{SFits, toZ}
 use mir.ValLaws.{sfits-le}
 use borrow.Author.Tests.{ltb-true, ltb-false}
+use Rattle.task.specs.Choices.{chosen}
 use Rattle.agreement.specs.Plain.{Stepped, one, two}
 use Rattle.int64.specs.Equal.{eqZ}
 use Rattle.int64.specs.Wrapped.{wrapped}
 use Rattle.int64.proofs.Wrapping.{wrapped-fits}
 use Rattle.image.specs.declared.Instruction.{Instruction}
-use Rattle.image.specs.Layout.{instructionOf}
+use Rattle.image.specs.Layout.{instructionOf, programOf}
 use Rattle.task.specs.declared.Value.{Value}
 use Rattle.task.specs.declared.Value.the-variants.{Int, Label, Record}
 use Rattle.task.specs.declared.Register.{Register}
@@ -169,7 +170,7 @@ module _ (f : Frame) (n : Narrow f) where
 
 -- jralloc records the task's own depth
 pub step-narrow : (cells : List ℕ) (words : List ℤ) (interval : ℕ) (f : Frame) → IntegersInField words → f .task .depth < 2 ^ 32 → Narrow f
-    → AllNarrow (step cells words interval f)
+    → AllNarrow (step (programOf cells) words (chosen interval) f)
 unfolding step
 step-narrow cells words interval f fit shallow n =
     let e = instructionOf cells (f .task .pc) in
@@ -178,17 +179,17 @@ step-narrow cells words interval f fit shallow n =
 
 -- ---- a join
 
-pub join-narrow : (cells : List ℕ) (p c : Frame) → Narrow p → Narrow c → Narrow (join cells p c)
+pub join-narrow : (cells : List ℕ) (p c : Frame) → Narrow p → Narrow c → Narrow (join (programOf cells) p c)
 unfolding join
 join-narrow cells p c x y = go (firstFault (faultOf (p .task .status)) (faultOf (c .task .status)))
   where
-    closed : (i : ℕ) → NarrowFork (getD (joinedBy none cells 0 p c .task .forks) i zeroFork)
+    closed : (i : ℕ) → NarrowFork (getD (joinedBy none (programOf cells) 0 p c .task .forks) i zeroFork)
     closed i = set-keeps NarrowFork (p .task .forks) (p .task .depth - 1) i zeroFork zeroFork (omega arith) (x .forks i)
 
     b : ℕ
     b = getD (p .task .forks) (p .task .depth - 1) zeroFork .continuation
 
-    go : (o : Option ℕ) → Narrow (joinedBy o cells b p c)
+    go : (o : Option ℕ) → Narrow (joinedBy o (programOf cells) b p c)
     go none = record { values = copied-keeps NarrowRegister (c .registers) (y .values) _ _ (p .registers) (x .values); forks = closed }
     go (some k) = record { values = zeros-narrow; forks = closed }
 

@@ -5,7 +5,7 @@ mod control;
 pub mod execution;
 mod forking;
 pub mod joining;
-mod results;
+pub mod results;
 pub mod running;
 
 pub enum Value {

@@ -10,7 +10,7 @@ use Rattle.machine.specs.declared.Machine.{Machine}
 use Rattle.machine.specs.declared.End.{End}
 use Rattle.machine.specs.declared.Outcome.{Outcome}
 use Rattle.machine.specs.Ending.{jobEnded}
-use Rattle.machine.specs.Picking.{workLimit}
+use Rattle.task.specs.Frames.{workLimit}
 use Rattle.machine.specs.Running.{runFrom, outcome}
 use Rattle.orders.specs.Demand.{Job, startOn, playedOf, carriedOutOf, Agrees}
 use Rattle.orders.specs.Runs.{IsOrder}

@@ -10,7 +10,8 @@ use Rattle.image.specs.Doors.{unlessRefused}
 use Rattle.machine.specs.declared.Machine.{Machine}
 use Rattle.machine.specs.Slots.{ticked}
 use Rattle.machine.specs.Ending.{jobEnded}
-use Rattle.machine.specs.Picking.{workLimit, pickNo}
+use Rattle.task.specs.Frames.{workLimit}
+use Rattle.machine.specs.Picking.{pickNo}
 use Rattle.machine.specs.Running.{runFrom}
 use Rattle.machine.proofs.PickLaws.{picked-issued}
 use Rattle.orders.specs.Demand.{startOn, ours, Demand3Of}

@@ -12,7 +12,8 @@ use Rattle.image.specs.Questions.{programNo}
 use Rattle.image.specs.RoundTrip.{Cells, Writes}
 use Rattle.machine.specs.declared.Machine.{Machine}
 use Rattle.machine.specs.declared.Outcome.{Outcome}
-use Rattle.machine.specs.Picking.{workLimit, issued}
+use Rattle.task.specs.Frames.{workLimit}
+use Rattle.machine.specs.Picking.{issued}
 use Rattle.orders.specs.Demand.{Job, Engine, AcceptedOf, Accepted, startOn, played}
 use Rattle.orders.specs.Runs.{RunAfter}
 

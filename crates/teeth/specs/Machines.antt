@@ -12,7 +12,8 @@ use Rattle.machine.specs.declared.Outcome.{Outcome}
 use Rattle.machine.specs.Slots.{ticked}
 use Rattle.machine.specs.Ending.{jobEnded}
 use Rattle.machine.specs.Starting.{startNo, started}
-use Rattle.machine.specs.Picking.{workLimit, pickNo, picked, issued}
+use Rattle.task.specs.Frames.{workLimit}
+use Rattle.machine.specs.Picking.{pickNo, picked, issued}
 use Rattle.machine.specs.Running.{runFrom, outcome}
 use Rattle.orders.specs.Demand.{Engine}
 use Rattle.teeth.specs.Demands.{Runner}

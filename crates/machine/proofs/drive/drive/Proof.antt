@@ -17,6 +17,8 @@ use Rattle.machine.specs.Running.{Run}
 use Rattle.machine.specs.Driving.{goesOn, nextSlot}
 use Rattle.machine.specs.Slots.{at, put, Sized, ticked, slotsOf}
 use Rattle.image.specs.declared.Instruction.{Instruction}
+use Rattle.image.specs.Layout.{programOf}
+use Rattle.task.specs.Choices.{chosen}
 use Rattle.task.specs.declared.Value.{Value}
 use Rattle.task.specs.declared.Register.{Register}
 use Rattle.task.specs.declared.Executed.{Executed}
@@ -29,7 +31,7 @@ use Rattle.task.proofs.StretchLaws.{length-reads}
 use Rattle.machine.specs.declared.Machine.{Machine}
 use Rattle.machine.specs.Picking.{issued}
 use Rattle.task.proofs.Sizes.{length-by}
-use Rattle.task.specs.Execute.{after}
+use Rattle.task.proofs.Executing.{after}
 use Rattle.machine.proofs.RankLaws.{rank-power}
 use Rattle.machine.proofs.Carrying.{stand}
 use Rattle.machine.proofs.Models.{Allowed}
@@ -161,10 +163,10 @@ inside c =
     (ltb-true 0 (w-of c) (h .0), ltb-true (q-of c + w-of c) 64 (h .1))
 
 -- what the two sides say of the join
-sides : (c : tie.After-both-ended Inv-loop2 μ-loop2 Inv-loop3 μ-loop3 Inv-loop4 μ-loop4 Inv-loop5 μ-loop5 Inv-loop6 μ-loop6 Inv-loop7 μ-loop7 Inv-loop μ-loop) → due (slotsOf (cells-of (c .before .before .before .before .before .before .before .before .before))) (m-of (c .before .before .before)) (q-of (c .before .before .before)) (w-of (c .before .before .before)) (c .before .before .before .before .before .before .before .before .before .loop .due) ≡ c .both-ended .result
+sides : (c : tie.After-both-ended Inv-loop2 μ-loop2 Inv-loop3 μ-loop3 Inv-loop4 μ-loop4 Inv-loop5 μ-loop5 Inv-loop6 μ-loop6 Inv-loop7 μ-loop7 Inv-loop μ-loop) → due (slotsOf (programOf (cells-of (c .before .before .before .before .before .before .before .before .before)))) (m-of (c .before .before .before)) (q-of (c .before .before .before)) (w-of (c .before .before .before)) (c .before .before .before .before .before .before .before .before .before .loop .due) ≡ c .both-ended .result
 sides c = let r = inside (c .before .before .before) in sides-decide (cells-of (c .before .before .before .before .before .before .before .before .before)) (m-of (c .before .before .before)) (q-of (c .before .before .before)) (w-of (c .before .before .before)) (c .before .before .before .before .before .before .before .before .before .loop .due) (r .0) (r .1) ∙ sym (c .both-ended .ensures)
 
-due-at : (c : Joining) → due (slotsOf (cells-of (c .before .before .before .before .before .before .before .before .before .before))) (m-of (c .before .before .before .before)) (q-of (c .before .before .before .before)) (w-of (c .before .before .before .before)) (c .before .before .before .before .before .before .before .before .before .before .loop .due) ≡ true
+due-at : (c : Joining) → due (slotsOf (programOf (cells-of (c .before .before .before .before .before .before .before .before .before .before)))) (m-of (c .before .before .before .before)) (q-of (c .before .before .before .before)) (w-of (c .before .before .before .before)) (c .before .before .before .before .before .before .before .before .before .before .loop .due) ≡ true
 due-at c = sides (c .before) ∙ not-false (c .before .both-ended .result) (c .if3 .left)
 
 -- ---- the picks of tasks that run on
@@ -319,7 +321,7 @@ TurnsAt c m k idle left o side = Turns (cells-of (turn-of c)) (words-of (turn-of
     (record { machine = entry (turn-of c) .args .machine; slot = entry (turn-of c) .args .slot; picks = 0 }) (entry (turn-of c) .args .budget) m k idle left o side
 
 -- its side has ended
-ends-side : (c : Halting) (g : Frame) → step (cells-of (turn-of (h5 c))) (words-of (turn-of (h5 c))) (h5 c .loop5 .m .interval) (at (h5 c .loop5 .m) (h5 c .loop5 .k)) ≡ one g
+ends-side : (c : Halting) (g : Frame) → step (programOf (cells-of (turn-of (h5 c)))) (words-of (turn-of (h5 c))) (chosen (h5 c .loop5 .m .interval)) (at (h5 c .loop5 .m) (h5 c .loop5 .k)) ≡ one g
     → {m′ : Machine} → m′ ≡ ticked (put (h5 c .loop5 .m) (h5 c .loop5 .k) g) → at (h5 c .loop5 .m) (h5 c .loop5 .k) .task .depth ≡ g .task .depth → {n : ℕ}
     → n ≡ nextSlot (h5 c .loop5 .m .places) (h5 c .loop5 .k + at (h5 c .loop5 .m) (h5 c .loop5 .k) .task .places - 1)
     → TurnsAt (h5 c) m′ n 0 (h5 c .loop5 .left - 1) (at (h5 c .loop5 .m) (h5 c .loop5 .k) .task .depth) (h5 c .loop5 .k)
