@@ -1,4 +1,5 @@
 -- The theorems: each file ends with the one that it is named after.
+pub mod Programs
 pub mod Plays
 pub mod Demand
 pub mod Complete

@@ -46,7 +46,7 @@ module _ (j : Job) (program : programNo (j .cells) ≡ 0) (lent : Lent (j .cells
   open Job j using (cells, words)
 
   ensures : (m : Machine) → Meets cells m → ShapeEnsures cells words m
-  ensures m x = every-shape (programOf cells) words m program x
+  ensures m x = every-shape cells words m program x
 
   -- from the run r a run of budget b has come to e
   record Ordered (b : ℕ) (r e : Run) : Type 0 where

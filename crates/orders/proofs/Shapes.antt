@@ -45,7 +45,7 @@ live-held f Halted n e = refl
 live-held f (Faulted k) n e = refl
 
 held-formed : (cells : List ℕ) (D h : ℕ) (f : Frame) → Formed (programOf cells) D h f → held f ≡ 2 ^ h
-held-formed (programOf cells) D h f x = live-held f (f .task .status) (f .task .places) (x .status-fits) ∙ x .has-places
+held-formed cells D h f x = live-held f (f .task .status) (f .task .places) (x .status-fits) ∙ x .has-places
 
 -- ---- a state of the shape
 
@@ -63,7 +63,7 @@ picked-fits {cells} {interval} {places} allowed words m x k =
     (λ t. subst⁻¹ (λ b. Fits cells interval places (cond b (issued cells words m k) m)) t x)
 
 pub every-shape : EveryShape
-every-shape (programOf cells) words m e meets =
+every-shape cells words m e meets =
     let M = modelOf cells words (m .interval) (m .places) in
     let K = formsOf cells (rank (m .places)) in
     let allowed = shape-allowed cells m e (meets .shaped) in
@@ -75,7 +75,7 @@ every-shape (programOf cells) words m e meets =
       pick-meets = λ k. fits-meets allowed (picked cells words m k) (picked-fits allowed words m x k);
       keeps-places = picked-places cells words m;
       keeps-interval = picked-interval cells words m;
-      places-add-up = places-add-up M K laws held (λ f e. ap held e) (held-formed (programOf cells) (rank (m .places))) m (t .0) (t .1);
+      places-add-up = places-add-up M K laws held (λ f e. ap held e) (held-formed cells (rank (m .places))) m (t .0) (t .1);
       open-runs = λ o. let r = open-runs M K laws (t .0) m (t .1) (sym ended ∙ o) in (r .0, omega (arith, r .1, laws .places-power), r .2);
       ended-idle = λ o k h.
           ended-idle M K laws (t .0) m (t .1) (sym ended ∙ o) k (omega (arith, h, laws .places-power, laws .places-fit));

@@ -1,20 +1,21 @@
 -- Demand 3: whatever the order of picks, a job agrees with its plain evaluation. It speaks of whole orders, and of any start and pick.
 -- Ours, as `machine` defines them, are one instance: `proofs/Demand.antt` proves it of them, and `teeth` that it is false of wrong ones.
--- What it rests on, in reading order: agreement's Plain (the evaluation) and Slots (what an instruction does to the slots), task's Frames,
--- Values and Step (an instruction, a join), machine's Slots, Ending, Starting and Picking. The shape test that a pick makes (machine's Shape)
--- refuses no pick of an order: Shapes.antt.
+-- What it rests on, in reading order: agreement's Plain (the evaluation) and Slots (what an instruction does to the slots), image's Program,
+-- task's Frames, Values, Choices, Effect and Step (an instruction, a join), machine's Slots, Ending, Starting and Picking. The shape test that a
+-- pick makes (machine's Shape) refuses no pick of an order: Shapes.antt.
 use Prim.Native.Nat.{ℕ, _+_, _≤_, _<_}
 use mathlib.Core.Path.{_≡_}
 use mathlib.Core.Bool.{Bool, true, false}
 use mathlib.Core.List.{List, [], _∷_}
 use lib.Dec.{eqb}
 use lib.IntN.{ℤ}
-use Rattle.task.specs.Choices.{chosen}
-use Rattle.image.specs.Layout.{programOf}
 use Rattle.agreement.specs.Plain.{Ran, ran, eval}
 use Rattle.agreement.specs.Picks.{ifPicked, once}
+use Rattle.image.specs.Program.{Program}
+use Rattle.image.specs.Layout.{programOf}
 use Rattle.task.specs.declared.Frame.{Frame}
 use Rattle.task.specs.Frames.{running, integers, startFrame, workLimit}
+use Rattle.task.specs.Choices.{Choices, chosen}
 use Rattle.task.specs.Step.{step, join}
 use Rattle.machine.specs.declared.Machine.{Machine}
 use Rattle.machine.specs.Slots.{at}
@@ -70,14 +71,24 @@ module _ (engine : Engine) (j : Job) where
   abbrev pub PickableOf : Machine → Type 0
   PickableOf m = (k : ℕ) × (engine .pickNo cells words m k ≡ 0)
 
+-- ---- The plain evaluation. It is fed the program and the job's start, and knows no picks, slots or buffers
+
+abbrev pub evaluationOf : Program → Choices → ℕ → List ℤ → List ℤ → ℕ → Ran Frame
+evaluationOf program choices places registers words fuel =
+    eval (record { running = running; step = step program words choices; join = join program }) fuel
+    (startFrame places (integers registers))
+
+-- two buffers that hold the same program have the same evaluation. `proofs/Programs.antt` proves it
+abbrev pub SameProgram : Type 0
+SameProgram =
+    (x y : List ℕ) → programOf x ≡ programOf y → (choices : Choices) (places : ℕ) (registers words : List ℤ) (fuel : ℕ)
+    → evaluationOf (programOf x) choices places registers words fuel ≡ evaluationOf (programOf y) choices places registers words fuel
+
 module _ (j : Job) where
   open Job j using (cells, places, interval, registers, words)
 
-  -- ---- The plain evaluation. It is fed the job, and knows no picks or slots
-
   abbrev pub evaluation : ℕ → Ran Frame
-  evaluation fuel =
-      eval (record { running = running; step = step (programOf cells) words (chosen interval); join = join (programOf cells) }) fuel (startFrame places (integers registers))
+  evaluation fuel = evaluationOf (programOf cells) (chosen interval) places registers words fuel
 
   -- it ends with the frame e and the work W, within the limit. (The fuel bounds how deep its recursion goes. Each level issues an
   -- instruction, so that the limit is fuel enough)

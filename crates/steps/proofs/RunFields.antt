@@ -31,7 +31,7 @@ module _ {cells : List ℕ} {interval places : ℕ} (allowed : Allowed cells int
   -- while the job has not ended, the next pick is of a running task
   next-ready : (m : Machine) (k : ℕ) → Fits cells interval places m → jobEnded m ≡ false → ltb (m .work) workLimit ≡ true → Ready m (nextPick m k)
   next-ready m k s unended room =
-      let r = every-shape (programOf cells) words m (allowed .program) (record { sized = s .sized; shaped = fits-shape allowed m s }) .open-runs unended in
+      let r = every-shape cells words m (allowed .program) (record { sized = s .sized; shaped = fits-shape allowed m s }) .open-runs unended in
       let n = next-runs m k (r .0) (r .1) (r .2) in
       record { below = n .0; runs = n .1; below-limit = ltb-true (m .work) workLimit room }
 
