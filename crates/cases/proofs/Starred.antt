@@ -10,7 +10,8 @@ use Rattle.image.specs.Offset.{passed, blocksOffset, instructionsOffset, offset
 use Rattle.agreement.specs.Plain.{eval}
 use Rattle.agreement.specs.Slots.{settle, carry}
 use Rattle.agreement.specs.Picks.{pick, play}
-use Rattle.task.specs.Step.{operand, asked, promotes, belong, fits, step, copied, join}
+use Rattle.task.specs.Effect.{asked, belong, fits}
+use Rattle.task.specs.Step.{operand, promotes, step, copied, join}
 use Rattle.task.specs.Stretches.{reads}
 use Rattle.machine.specs.Starting.{rank, fresh}
 use Rattle.cases.specs.Assembly.{assembled}

@@ -10,7 +10,8 @@ use Rattle.image.specs.Doors.{markIn, headerNo, imageNo, readNo, rewriteNo, wri
 use Rattle.agreement.proofs.Facts.{both-true}
 use Rattle.agreement.specs.Slots.{settle, carry}
 use Rattle.agreement.specs.Shape.{hollow, tiles}
-use Rattle.task.specs.Step.{operand, asked, promotes, belong, fits, step, copied, join}
+use Rattle.task.specs.Effect.{asked, belong, fits}
+use Rattle.task.specs.Step.{operand, promotes, step, copied, join}
 use Rattle.task.specs.Formed.{every as everySlot, isTarget, formed, isVacant}
 use Rattle.task.specs.Stretches.{reads}
 use Rattle.machine.specs.Starting.{rank, startNoBy, fresh}

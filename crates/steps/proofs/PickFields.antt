@@ -31,8 +31,8 @@ use Rattle.steps.proofs.ShapeFields.{fits-in-fields}
 module _ (cells : List ℕ) (words : List ℤ) (m : Machine) (k : ℕ) (fit : IntegersInField words) (x : InFields m) where
   issued-narrow : k < 64 → (i : ℕ) → Narrow (at (issued cells words m k) i)
   issued-narrow below =
-      let leaves = step-narrow cells words (m .interval) (at m k) fit (x .tasks k below .depth) (fields-narrow m x k) in
-      carry-all (slotsOf (programOf cells)) Narrow put-narrow vacant-narrow (join-narrow cells) (step (programOf cells) words (chosen (m .interval))) m k (fields-narrow m x)
+      let leaves = step-narrow (programOf cells) words (m .interval) (at m k) fit (x .tasks k below .depth) (fields-narrow m x k) in
+      carry-all (slotsOf (programOf cells)) Narrow put-narrow vacant-narrow (join-narrow (programOf cells)) (step (programOf cells) words (chosen (m .interval))) m k (fields-narrow m x)
       (λ g e. subst AllNarrow e leaves) (λ p c e. subst AllNarrow e leaves)
 
   -- an instruction that may be issued, in a state of the shape

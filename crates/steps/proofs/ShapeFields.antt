@@ -85,7 +85,7 @@ module _ (cells : List ℕ) (ok : Accepted cells) where
   value-in-field (Label b) e x = omega (arith, ltb-true b (blockCount cells) e, ok .few-blocks)
   value-in-field (Record c d) e x = (omega (arith, target-below (programOf cells) c e, ok .few-blocks), x)
 
-  fork-in-field : (t : Bool) (k : Fork) → forkFits cells t k ≡ true → NarrowFork k → ForkInField k
+  fork-in-field : (t : Bool) (k : Fork) → forkFits (programOf cells) t k ≡ true → NarrowFork k → ForkInField k
   fork-in-field true k e x = (omega (arith, target-below (programOf cells) (k .continuation) e, ok .few-blocks), x)
   fork-in-field false k e x =
       (omega (arith, eqb-true (k .continuation) 0 (both-true (eqb (k .continuation) 0) (eqb (k .depth) 0) e .0)), x)

@@ -14,24 +14,26 @@ use mir.Syntax.{w64}
 use mir.Val.{SFits, toZ}
 use mir.ValLaws.{sfits-le}
 use borrow.Author.Tests.{ltb-true, ltb-false}
-use Rattle.task.specs.Choices.{chosen}
 use Rattle.agreement.specs.Plain.{Stepped, one, two}
 use Rattle.int64.specs.Equal.{eqZ}
-use Rattle.int64.specs.Wrapped.{wrapped}
 use Rattle.int64.proofs.Wrapping.{wrapped-fits}
 use Rattle.image.specs.declared.Instruction.{Instruction}
-use Rattle.image.specs.Layout.{instructionOf, programOf}
+use Rattle.image.specs.Program.{Program}
 use Rattle.task.specs.declared.Value.{Value}
 use Rattle.task.specs.declared.Value.the-variants.{Int, Label, Record}
 use Rattle.task.specs.declared.Register.{Register}
 use Rattle.task.specs.declared.Fork.{Fork}
+use Rattle.task.specs.declared.Active.{Active}
 use Rattle.task.specs.declared.Task.{Task}
 use Rattle.task.specs.declared.Frame.{Frame}
 use Rattle.task.specs.Frames.{zeroRegister, zeros, zeroFork, noForks, vacant, integers, startFrame, faultOf}
 use Rattle.task.specs.Values.{integerOf, labelOf, recordOf, truth}
-use Rattle.task.specs.Step.{register, operand, counted, withTask, stored, faulted, asked, promotes, enteredBy, jumpedIf, side, metBy, carriedOut, step, copied, firstFault, joinedBy, join}
-use Rattle.task.specs.Step.{Op, move, plus, minus, times, divide, modulo, less, equal, word, ifJump, jralloc, fork, jump, halt, meet, unknown, opcodes}
+use Rattle.task.specs.Choices.{Choices, chosen}
+use Rattle.task.specs.Effect.{Effect, stores, continues, enters, forks, waits, halts, faults, asked, jumpsIf, meetsAt, effectOf}
+use Rattle.task.specs.Effect.{Op, move, plus, minus, times, divide, modulo, less, equal, word, ifJump, jralloc, fork, jump, halt, meet, unknown}
+use Rattle.task.specs.Step.{register, operand, opOf, activeOf, counted, side, withTask, promotes, enteredBy, applied, step, copied, firstFault, joinedBy, join}
 use Rattle.task.proofs.Facts.{set-keeps, constant-at}
+use Rattle.task.proofs.Effects.{asked-keeps}
 use Rattle.task.proofs.JoinKeeps.{copied-keeps}
 use Rattle.steps.specs.Fields.{IntegersInField}
 
@@ -99,97 +101,100 @@ zeros-narrow i = rw (constant-at 16 i zeroRegister) zero-narrow
 same-forks : (f : Frame) (t : Task) → Narrow f → t .forks ≡ f .task .forks → Narrow (withTask t f)
 same-forks f t n e = record { values = n .values; forks = λ i. rw e (n .forks i) }
 
-stored-narrow : (f : Frame) (r : ℕ) (v : Value) → Narrow f → NarrowValue v → Narrow (stored r v f)
-stored-narrow f r v n x = record {
-  values = λ i. set-keeps NarrowRegister (f .registers) r i (record { value = v }) zeroRegister x (n .values i);
-  forks = n .forks;
-}
-
-faulted-narrow : (f : Frame) (k : ℕ) → Narrow f → Narrow (faulted k f)
-faulted-narrow f k n = record { values = zeros-narrow; forks = n .forks }
-
-side-narrow : (f : Frame) (k : Fork) (pc counter : ℕ) → Narrow f → NarrowFork k → Narrow (withTask (side k pc counter (f .task)) f)
-side-narrow f k pc counter n x = record {
-  values = n .values;
-  forks = λ i. set-keeps NarrowFork (f .task .forks) (f .task .depth) i k zeroFork x (n .forks i);
-}
-
 -- the task that goes on or ends, or the two sides of a fork
 abbrev pub AllNarrow : Stepped Frame → Type 0
 AllNarrow (one g) = Narrow g
 AllNarrow (two p c) = Narrow p × Narrow c
 
-module _ (f : Frame) (n : Narrow f) where
-  asked-narrow : (t : Bool) (k : ℕ) (after : Stepped Frame) → AllNarrow after → AllNarrow (asked f t k after)
-  unfolding asked
-  asked-narrow true k after x = x
-  asked-narrow false k after x = faulted-narrow f k n
+-- an effect that leaves every number in its field
+abbrev NarrowEffect : Effect → Type 0
+NarrowEffect (stores v) = NarrowValue v
+NarrowEffect continues = Unit {0}
+NarrowEffect (enters b) = Unit {0}
+NarrowEffect (forks k b) = NarrowFork k
+NarrowEffect waits = Unit {0}
+NarrowEffect halts = Unit {0}
+NarrowEffect (faults n) = Unit {0}
 
-  module _ (cells : List ℕ) (interval : ℕ) where
-    entered-narrow : (t : Bool) (b : ℕ) → Narrow (withTask (enteredBy t cells b (f .task)) f)
-    entered-narrow true b = same-forks f _ n refl
-    entered-narrow false b = same-forks f _ n refl
+module _ (program : Program) (choices : Choices) (r : ℕ) (f : Frame) (n : Narrow f) where
+  side-narrow : (k : Fork) (pc counter : ℕ) → NarrowFork k → Narrow (withTask (side k pc counter (f .task)) f)
+  side-narrow k pc counter x = record {
+    values = n .values;
+    forks = λ i. set-keeps NarrowFork (f .task .forks) (f .task .depth) i k zeroFork x (n .forks i);
+  }
 
-    jumped-narrow : (t : Bool) (v : Value) → AllNarrow (jumpedIf t cells interval v f)
-    jumped-narrow true v =
-        asked-narrow _ _ _ (entered-narrow (promotes cells interval (labelOf v) (f .task .counter) (f .task .places)) (labelOf v))
-    jumped-narrow false v = same-forks f _ n refl
+  applied-narrow : (e : Effect) → NarrowEffect e → AllNarrow (applied program choices r f e)
+  applied-narrow (stores v) x = record {
+    values = λ i. set-keeps NarrowRegister (f .registers) r i (record { value = v }) zeroRegister x (n .values i);
+    forks = n .forks;
+  }
+  applied-narrow continues x = same-forks f _ n refl
+  applied-narrow (enters b) x = go (promotes program choices b (f .task .counter) (f .task .places))
+    where
+      go : (t : Bool) → Narrow (withTask (enteredBy t program b (f .task)) f)
+      go true = same-forks f _ n refl
+      go false = same-forks f _ n refl
+  applied-narrow (forks k b) x = (side-narrow k _ _ x, side-narrow k _ _ x)
+  applied-narrow waits x = same-forks f _ n refl
+  applied-narrow halts x = same-forks f _ n refl
+  applied-narrow (faults k) x = record { values = zeros-narrow; forks = n .forks }
 
-    met-narrow : (t : Bool) (k : Fork) → Narrow (withTask (metBy t cells interval k (f .task)) f)
-    met-narrow true k = entered-narrow (promotes cells interval (k .continuation) (f .task .counter) (f .task .places)) (k .continuation)
-    met-narrow false k = same-forks f _ n refl
+module _ (program : Program) (words : List ℤ) (interval : ℕ) (fit : IntegersInField words) (t : Active) (opened : List Fork) (shallow : t .depth < 2 ^ 32)
+    (s v : Value) (ns : NarrowValue s) (nv : NarrowValue v) where
+  asks : (z : Bool) (k : ℕ) (after : Effect) → NarrowEffect after → NarrowEffect (asked z k after)
+  asks z k after x = asked-keeps NarrowEffect z k after tt (λ e. x)
 
-    module _ (words : List ℤ) (fit : IntegersInField words) (shallow : f .task .depth < 2 ^ 32) (r : ℕ) (s v : Value) (ns : NarrowValue s)
-        (nv : NarrowValue v) where
-      stores : (v : Value) → NarrowValue v → Narrow (stored r v f)
-      stores v x = stored-narrow f r v n x
+  branch-narrow : (z : Bool) → NarrowEffect (jumpsIf z v)
+  branch-narrow true = asks _ _ _ tt
+  branch-narrow false = tt
 
-      wraps : (z : ℤ) → Narrow (stored r (Int (wrapped z)) f)
-      wraps z = stores _ (wrapped-fits z)
+  meet-narrow : (z : Bool) (b : ℕ) → NarrowEffect (meetsAt z b)
+  meet-narrow true b = tt
+  meet-narrow false b = tt
 
-      carried-narrow : (op : Op) → AllNarrow (carriedOut cells words interval r s v f op)
-      carried-narrow move = stores _ nv
-      carried-narrow plus = asked-narrow _ _ _ (wraps (integerOf s +ℤ integerOf v))
-      carried-narrow minus = asked-narrow _ _ _ (wraps (integerOf s -ℤ integerOf v))
-      carried-narrow times = asked-narrow _ _ _ (wraps (integerOf s *ℤ integerOf v))
-      carried-narrow divide = asked-narrow _ _ _ (asked-narrow _ _ _ (wraps (quotZ (integerOf s) (integerOf v))))
-      carried-narrow modulo =
-          asked-narrow _ _ _ (asked-narrow _ _ _ (stores _ (sfits-le (mag-rem (integerOf s) (integerOf v)) (integer-fits s ns))))
-      carried-narrow less = asked-narrow _ _ _ (stores _ (truth-narrow (ltZ (integerOf s) (integerOf v))))
-      carried-narrow equal = asked-narrow _ _ _ (stores _ (truth-narrow (eqZ (integerOf s) (integerOf v))))
-      carried-narrow word = asked-narrow _ _ _ (asked-narrow _ _ _ (stores _ (fit (natAbs (integerOf v)))))
-      carried-narrow ifJump = asked-narrow _ _ _ (jumped-narrow (eqZ (integerOf s) (pos 0)) v)
-      carried-narrow jralloc = asked-narrow _ _ _ (stores _ shallow)
-      carried-narrow fork =
-          let k = record-narrow s ns in
-          asked-narrow _ _ _ (asked-narrow _ _ _ (asked-narrow _ _ _ (side-narrow f (recordOf s) _ _ n k, side-narrow f (recordOf s) _ _ n k)))
-      carried-narrow jump = jumped-narrow true v
-      carried-narrow halt = asked-narrow _ _ _ (same-forks f _ n refl)
-      carried-narrow meet = asked-narrow _ _ _ (met-narrow (eqb (recordOf v .depth) (f .task .depth)) (recordOf v))
-      carried-narrow unknown = faulted-narrow f 8 n
+  -- jralloc records the task's own depth
+  effect-narrow : (op : Op) → NarrowEffect (effectOf program words (chosen interval) s v t opened op)
+  effect-narrow move = nv
+  effect-narrow plus = asks _ _ _ (wrapped-fits (integerOf s +ℤ integerOf v))
+  effect-narrow minus = asks _ _ _ (wrapped-fits (integerOf s -ℤ integerOf v))
+  effect-narrow times = asks _ _ _ (wrapped-fits (integerOf s *ℤ integerOf v))
+  effect-narrow divide = asks _ _ _ (asks _ _ _ (wrapped-fits (quotZ (integerOf s) (integerOf v))))
+  effect-narrow modulo = asks _ _ _ (asks _ _ _ (sfits-le (mag-rem (integerOf s) (integerOf v)) (integer-fits s ns)))
+  effect-narrow less = asks _ _ _ (truth-narrow (ltZ (integerOf s) (integerOf v)))
+  effect-narrow equal = asks _ _ _ (truth-narrow (eqZ (integerOf s) (integerOf v)))
+  effect-narrow word = asks _ _ _ (asks _ _ _ (fit (natAbs (integerOf v))))
+  effect-narrow ifJump = asks _ _ _ (branch-narrow (eqZ (integerOf s) (pos 0)))
+  effect-narrow jralloc = asks _ _ _ shallow
+  effect-narrow fork = asks _ _ _ (asks _ _ _ (asks _ _ _ (record-narrow s ns)))
+  effect-narrow jump = asks _ _ _ tt
+  effect-narrow halt = asks _ _ _ tt
+  effect-narrow meet = asks _ _ _ (meet-narrow (eqb (recordOf v .depth) (t .depth)) (recordOf v .continuation))
+  effect-narrow unknown = tt
 
--- jralloc records the task's own depth
-pub step-narrow : (cells : List ℕ) (words : List ℤ) (interval : ℕ) (f : Frame) → IntegersInField words → f .task .depth < 2 ^ 32 → Narrow f
-    → AllNarrow (step (programOf cells) words (chosen interval) f)
+pub step-narrow : (program : Program) (words : List ℤ) (interval : ℕ) (f : Frame) → IntegersInField words → f .task .depth < 2 ^ 32 → Narrow f
+    → AllNarrow (step program words (chosen interval) f)
 unfolding step
-step-narrow cells words interval f fit shallow n =
-    let e = instructionOf cells (f .task .pc) in
-    carried-narrow (withTask (counted (f .task)) f) (same-forks f _ n refl) cells interval words fit shallow (e .r) (register f (e .s)) (operand f e)
-    (n .values (e .s)) (operand-narrow f e n) (getD opcodes (e .opcode) unknown)
+step-narrow program words interval f fit shallow n =
+    let e = program .instruction (f .task .pc) in
+    let t = counted (f .task) in
+    applied-narrow program (chosen interval) (e .r) (withTask t f) (same-forks f _ n refl)
+    (effectOf program words (chosen interval) (register f (e .s)) (operand f e) (activeOf t) (t .forks) (opOf e))
+    (effect-narrow program words interval fit (activeOf t) (t .forks) shallow (register f (e .s)) (operand f e)
+    (n .values (e .s)) (operand-narrow f e n) (opOf e))
 
 -- ---- a join
 
-pub join-narrow : (cells : List ℕ) (p c : Frame) → Narrow p → Narrow c → Narrow (join (programOf cells) p c)
+pub join-narrow : (program : Program) (p c : Frame) → Narrow p → Narrow c → Narrow (join program p c)
 unfolding join
-join-narrow cells p c x y = go (firstFault (faultOf (p .task .status)) (faultOf (c .task .status)))
+join-narrow program p c x y = go (firstFault (faultOf (p .task .status)) (faultOf (c .task .status)))
   where
-    closed : (i : ℕ) → NarrowFork (getD (joinedBy none (programOf cells) 0 p c .task .forks) i zeroFork)
+    closed : (i : ℕ) → NarrowFork (getD (joinedBy none program 0 p c .task .forks) i zeroFork)
     closed i = set-keeps NarrowFork (p .task .forks) (p .task .depth - 1) i zeroFork zeroFork (omega arith) (x .forks i)
 
     b : ℕ
     b = getD (p .task .forks) (p .task .depth - 1) zeroFork .continuation
 
-    go : (o : Option ℕ) → Narrow (joinedBy o (programOf cells) b p c)
+    go : (o : Option ℕ) → Narrow (joinedBy o program b p c)
     go none = record { values = copied-keeps NarrowRegister (c .registers) (y .values) _ _ (p .registers) (x .values); forks = closed }
     go (some k) = record { values = zeros-narrow; forks = closed }
 
