@@ -50,7 +50,7 @@ module _ (bytes : List ℕ) (accepted : jobNo bytes ≡ 0) where
         let x : Fits (j .cells) (j .interval) (j .places) m = subst⁻¹ (Fits (j .cells) (j .interval) (j .places)) its-state (fresh-fits start) in (
           ap programNo p ∙ start .allowed .program,
           ap length p ∙ eqb-true (length (j .cells)) programCells (start .lent .whole),
-          ap (λ (c : List ℕ). shape c m) p ∙ fits-shape (start .allowed) m x,
+          ap (λ (c : List ℕ). shape (programOf c) m) p ∙ fits-shape (start .allowed) m x,
           omega (arith, x .its-places, places-some (j .places) (start .allowed .places-allowed)),
         )
 
