@@ -4,7 +4,7 @@ use mathlib.Core.Path.{_≡_, refl, _∙_}
 use mathlib.Core.Bool.{true, false}
 use mathlib.Core.List.{List}
 use native.Mathlib.Omega.{arith}
-use Rattle.agreement.proofs.Facts.{by-test}
+use Rattle.facts.proofs.Tests.{by-test}
 use Rattle.agreement.specs.Plain.{ran, eval}
 use Rattle.agreement.proofs.Trees.{Tree, leaf, place, Evals}
 use Rattle.agreement.proofs.TreeLaws.{evals-one-way}

@@ -3,7 +3,7 @@ use Prim.Native.Nat.{ℕ, zero, suc, _+_, _≤_}
 use mathlib.Core.Path.{_≡_, refl, sym, _∙_}
 use mathlib.Core.Bool.{true, false}
 use native.Mathlib.Omega.{arith}
-use Rattle.agreement.proofs.Facts.{by-test}
+use Rattle.facts.proofs.Tests.{by-test}
 use Rattle.agreement.specs.Plain.{Stepped, one, two, Rules, Ran, ran, tally, gather, sides, eval}
 use Rattle.agreement.proofs.PlainLaws.{out-not-ran, eval-ended, eval-out, eval-issue, tally-ran, gather-ran}
 use Rattle.agreement.proofs.Trees.{Tree, leaf, node, grow, Place, place, lower, upper, weight, Evals, ended, issue, both}

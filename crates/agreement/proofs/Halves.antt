@@ -5,7 +5,7 @@ use mathlib.Core.Logic.{inl, inr}
 use native.Mathlib.Omega.{arith}
 use native.Mathlib.Nat.{two-pow-succ, mul-mod-left, mod-eq-of-lt, mul-add-mod-self-right}
 use lib.Pow.{pow-pos}
-use Rattle.agreement.proofs.Facts.{Outside}
+use Rattle.agreement.proofs.Outside.{Outside}
 
 -- 2 ^ h divides b
 pub record Aligned (b h : ℕ) : Type 0 where

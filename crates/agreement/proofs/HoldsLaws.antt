@@ -6,7 +6,7 @@ use mathlib.Core.Bool.{true, false}
 use native.Mathlib.Omega.{arith}
 use lib.Pow.{pow-pos}
 use borrow.Author.Tests.{eq-eqb, ne-eqb, not-true, not-false}
-use Rattle.agreement.proofs.Facts.{clash, by-test, by-below}
+use Rattle.facts.proofs.Tests.{clash, by-test, by-below}
 use Rattle.agreement.proofs.Trees.{Tree, leaf, node, place, Evals, ended}
 use Rattle.agreement.specs.Slots.{Slots, sideEnded}
 use Rattle.agreement.specs.Picks.{Model, rules, jobEnded}

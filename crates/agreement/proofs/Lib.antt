@@ -1,5 +1,5 @@
 -- The proof, in its order.
-pub mod Facts
+pub mod Outside
 pub mod PlainLaws
 pub mod SlotLaws
 pub mod PickLaws

@@ -7,7 +7,8 @@ use native.Mathlib.Omega.{arith}
 use native.Mathlib.Nat.{add-zero}
 use lib.Pow.{pow-pos}
 use borrow.Author.Tests.{lt-ltb, not-true}
-use Rattle.agreement.proofs.Facts.{clash, both-true, by-test, by-below, by-order, Outside, outside-apart}
+use Rattle.facts.proofs.Tests.{clash, both-true, by-test, by-below, by-order}
+use Rattle.agreement.proofs.Outside.{Outside, outside-apart}
 use Rattle.agreement.proofs.Halves.{Aligned, aligned-zero, aligned-lower, aligned-upper, fork-from-lower, fork-from-upper, outside-lower, outside-upper}
 use Rattle.agreement.specs.Plain.{Stepped, one, two}
 use Rattle.agreement.proofs.Trees.{Tree, leaf, node, grow, Place, place, Ahead}

@@ -5,7 +5,7 @@ use mathlib.Core.Bool.{true}
 use mathlib.Core.List.{List, [], _∷_}
 use native.Mathlib.Omega.{arith}
 use native.Mathlib.Nat.{add-zero}
-use Rattle.agreement.proofs.Facts.{by-test}
+use Rattle.facts.proofs.Tests.{by-test}
 use Rattle.agreement.proofs.Trees.{Tree, place, Evals, Ahead}
 use Rattle.agreement.proofs.TreeLaws.{ahead-refl, ahead-trans}
 use Rattle.agreement.specs.Slots.{Slots}

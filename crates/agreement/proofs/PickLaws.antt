@@ -6,7 +6,7 @@ use mathlib.Core.List.{List, [], _∷_}
 use native.Mathlib.Omega.{arith}
 use lib.Dec.{ltb}
 use borrow.Author.Tests.{ltb-true, lt-ltb}
-use Rattle.agreement.proofs.Facts.{both-true, by-test}
+use Rattle.facts.proofs.Tests.{both-true, by-test}
 use Rattle.agreement.specs.Slots.{Slots, carry}
 use Rattle.agreement.proofs.SlotLaws.{carry-keeps}
 use Rattle.agreement.specs.Picks.{Model, ifPicked, once, canPick, pick, play, carriedOut}

@@ -7,7 +7,7 @@ use native.Mathlib.Omega.{arith}
 use native.Mathlib.Nat.{two-pow-succ}
 use lib.Dec.{eqb, ltb}
 use lib.Pow.{pow-pos}
-use Rattle.agreement.proofs.Facts.{by-below}
+use Rattle.facts.proofs.Tests.{by-below}
 use Rattle.agreement.specs.Slots.{Slots, sideEnded, due, settle}
 use Rattle.agreement.proofs.SlotLaws.{settle-none, settle-stop}
 use Rattle.agreement.specs.Picks.{Model}

@@ -7,7 +7,7 @@ use native.Mathlib.Omega.{arith}
 use lib.Dec.{eqb}
 use lib.Pow.{pow-pos}
 use borrow.Author.Tests.{eq-eqb, ne-eqb, not-true}
-use Rattle.agreement.proofs.Facts.{both-true, true-both, false-not, by-test, by-below}
+use Rattle.facts.proofs.Tests.{both-true, true-both, false-not, by-test, by-below}
 use Rattle.agreement.proofs.Trees.{Tree, leaf, node}
 use Rattle.agreement.specs.Slots.{Slots, sideEnded}
 use Rattle.agreement.specs.Picks.{Model, once, pick}

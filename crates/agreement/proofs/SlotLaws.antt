@@ -2,7 +2,7 @@
 use Prim.Native.Nat.{ℕ, zero, suc, _+_, _*_, _-_, _%_}
 use mathlib.Core.Path.{_≡_, refl, ap, _∙_}
 use mathlib.Core.Bool.{true, false}
-use Rattle.agreement.proofs.Facts.{by-test}
+use Rattle.facts.proofs.Tests.{by-test}
 use Rattle.agreement.specs.Plain.{Stepped, one, two}
 use Rattle.agreement.specs.Slots.{Slots, due, merged, settle, carry}
 

@@ -3,7 +3,7 @@ use Prim.Native.Nat.{ℕ, _+_}
 use mathlib.Core.Path.{_≡_, refl}
 use mathlib.Core.Bool.{true, false}
 use native.Mathlib.Omega.{arith}
-use Rattle.agreement.proofs.Facts.{clash}
+use Rattle.facts.proofs.Tests.{clash}
 use Rattle.agreement.specs.Plain.{Rules}
 use Rattle.agreement.proofs.Trees.{Tree, leaf, node, grow, Place, lower, upper, weight, Evals, ended, issue, both, Ahead}
 

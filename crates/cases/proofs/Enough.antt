@@ -8,8 +8,8 @@ use Prim.Native.Nat.{ℕ}
 use lib.Dec.{eqb, leb}
 use lib.ListN.{length}
 use borrow.Author.Tests.{eqb-true, leb-true, eq-eqb}
+use Rattle.facts.proofs.Tests.{clash, both-true}
 use Rattle.int64.proofs.Equality.{eqZ-eq}
-use Rattle.agreement.proofs.Facts.{clash, both-true}
 use Rattle.agreement.specs.Plain.{Ran, out, ran}
 use Rattle.image.specs.Layout.{programCells, cellsIn}
 use Rattle.image.specs.Questions.{programNo}

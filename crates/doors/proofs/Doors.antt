@@ -2,12 +2,12 @@
 use mathlib.Core.Path.{_≡_, refl}
 use mathlib.Core.Bool.{Bool, true}
 use mathlib.Core.List.{List, [], _∷_, _++_}
+use Rattle.facts.proofs.Tests.{both-true}
 use Rattle.int64.specs.Little.{little, bytesOf}
 use Rattle.image.specs.Layout.{rows, buffer, cellsIn}
 use Rattle.image.specs.Questions.{orElse, firstNo, countsNo, rising, unjoined, joined, annotated, blockNo}
 use Rattle.image.specs.Questions.{register, operandFits, laidOut, startsAt, lastInBlock, instructionNo, recordsNo, programNo}
 use Rattle.image.specs.Doors.{markIn, headerNo, imageNo, readNo, rewriteNo, writeNo, unlessRefused}
-use Rattle.agreement.proofs.Facts.{both-true}
 use Rattle.agreement.specs.Slots.{settle, carry}
 use Rattle.agreement.specs.Shape.{hollow, tiles}
 use Rattle.task.specs.Effect.{asked, belong, fits}

@@ -5,7 +5,7 @@ use mathlib.Core.List.{List, [], _∷_}
 use Prim.Native.Nat.{ℕ}
 use lib.Dec.{eqb}
 use borrow.Author.Tests.{eqb-true}
-use Rattle.agreement.proofs.Facts.{clash, both-true}
+use Rattle.facts.proofs.Tests.{clash, both-true}
 use Rattle.machine.specs.Running.{outcome}
 use Rattle.job.specs.Run.{textIn}
 use Rattle.doors.specs.Doors.{answer, Said, refused, ended, spent, saidBy, printed, Row, _gives_, says, prints, Right}

@@ -7,10 +7,10 @@ use native.Mathlib.Omega.{arith}
 use lib.ListN.{length}
 use lib.Dec.{eqb, ltb, leb}
 use borrow.Author.Tests.{eqb-true, ltb-true, leb-true, lt-leb, eq-eqb}
+use Rattle.facts.proofs.Tests.{clash, both-true}
 use Rattle.image.specs.declared.Block.{Block}
 use Rattle.image.specs.Layout.{blockCount, instructionCount, blockOf, instructionOf, programOf}
 use Rattle.image.specs.Questions.{firstNo, countsNo, inOrder, rising, unjoined, joined, annotated, blockNo, hasR, hasS, hasV, has, register, operandFits, laidOut, startsAt, lastInBlock, same, instructionNo, recordsNo, programNo}
-use Rattle.image.proofs.Booleans.{clash, both-true}
 use Rattle.image.proofs.Asked.{ask-yes, or-else-both, first-no-all}
 use Rattle.image.proofs.Counts.{counted}
 use Rattle.image.proofs.Pairs.{rising-fits}
@@ -110,9 +110,9 @@ annotated-is blocks k some h = bare (eqb (k .annotation) 0) refl
 pub block-is : (cells : List ℕ) (b : ℕ) → 1 ≤ blockCount cells → blockNo cells b ≡ 0 → BlockAccepted cells b
 unfolding blockNo
 block-is cells b some e =
-    let p = ask-yes (leb (2 + 6 * b + 6) (length cells)) 5 _ e in
-    let q = ask-yes (inOrder (instructionCount cells) b (blockOf cells (b - 1) .first) (blockOf cells b .first)) 5 _ (p .1) in
-    let r = ask-yes (annotated (blockCount cells) (blockOf cells b)) 6 _ (q .1) in
+    let p = ask-yes (leb (2 + 6 * b + 6) (length cells)) 6 _ tt e in
+    let q = ask-yes (inOrder (instructionCount cells) b (blockOf cells (b - 1) .first) (blockOf cells b .first)) 6 _ tt (p .1) in
+    let r = ask-yes (annotated (blockCount cells) (blockOf cells b)) 7 _ tt (q .1) in
     let s = both-true (ltb (blockOf cells b .first) (instructionCount cells)) _ (q .0) in
     let a = annotated-is (blockCount cells) (blockOf cells b) some (r .0) in
     record {
@@ -128,8 +128,8 @@ block-is cells b some e =
 first-is : (cells : List ℕ) → blockNo cells 0 ≡ 0 → blockOf cells 0 .first ≡ 0
 unfolding blockNo
 first-is cells e =
-    let p = ask-yes (leb (2 + 6 * 0 + 6) (length cells)) 5 _ e in
-    let q = ask-yes (inOrder (instructionCount cells) 0 (blockOf cells 0 .first) (blockOf cells 0 .first)) 5 _ (p .1) in
+    let p = ask-yes (leb (2 + 6 * 0 + 6) (length cells)) 6 _ tt e in
+    let q = ask-yes (inOrder (instructionCount cells) 0 (blockOf cells 0 .first) (blockOf cells 0 .first)) 6 _ tt (p .1) in
     let s = both-true (ltb (blockOf cells 0 .first) (instructionCount cells)) (eqb (blockOf cells 0 .first) 0) (q .0) in
     eqb-true (blockOf cells 0 .first) 0 (s .1)
 
@@ -199,9 +199,9 @@ instruction-is : (cells : List ℕ) (i : ℕ) → i < instructionCount cells →
 unfolding instructionNo laidOut
 instruction-is cells i below e =
     let x = instructionOf cells i in
-    let p = ask-yes (leb (770 + 5 * i + 5) (length cells)) 7 _ e in
-    let q = ask-yes (laidOut (blockCount cells) x) 7 _ (p .1) in
-    let r = ask-yes (same (leb 13 (x .opcode)) (lastInBlock (programOf cells) i)) 8 0 (q .1) in
+    let p = ask-yes (leb (770 + 5 * i + 5) (length cells)) 8 _ tt e in
+    let q = ask-yes (laidOut (blockCount cells) x) 8 _ tt (p .1) in
+    let r = ask-yes (same (leb 13 (x .opcode)) (lastInBlock (programOf cells) i)) 9 0 tt (q .1) in
     let a = both-true (leb 1 (x .opcode)) _ (q .0) in
     let b = both-true (leb (x .opcode) 15) _ (a .1) in
     let c = both-true (register (has (x .opcode) hasR) (x .r)) _ (b .1) in

@@ -54,9 +54,9 @@ module _ (p q : List ℕ) (alike : Alike p q) where
     block-yes : (b : ℕ) → b < blockCount p → blockCount p ≤ 128 → blockNo p b ≡ 0 → blockNo q b ≡ 0
     unfolding blockNo
     block-yes b h few e =
-        let u = ask-yes (leb (2 + 6 * b + 6) (length p)) 5 _ e in
-        let v = ask-yes (ordered p b) 5 _ (u .1) in
-        let w = ask-yes (annotated (blockCount p) (blockOf p b)) 6 0 (v .1) in
+        let u = ask-yes (leb (2 + 6 * b + 6) (length p)) 6 _ tt e in
+        let v = ask-yes (ordered p b) 6 _ tt (u .1) in
+        let w = ask-yes (annotated (blockCount p) (blockOf p b)) 7 0 tt (v .1) in
         let s : ordered q b ≡ true = sym (starts-same b h) ∙ v .0 in
         let a : annotated (blockCount q) (blockOf q b) ≡ true = sym (ap₂ annotated (alike .blocks) (alike .block b h)) ∙ w .0 in
         rw (le-leb (2 + 6 * b + 6) (length q) (omega arith), s, a)
@@ -64,9 +64,9 @@ module _ (p q : List ℕ) (alike : Alike p q) where
     instruction-yes : (i : ℕ) → i < instructionCount p → instructionCount p ≤ 1024 → instructionNo p i ≡ 0 → instructionNo q i ≡ 0
     unfolding instructionNo
     instruction-yes i h few e =
-        let u = ask-yes (leb (770 + 5 * i + 5) (length p)) 7 _ e in
-        let v = ask-yes (laidOut (blockCount p) (instructionOf p i)) 7 _ (u .1) in
-        let w = ask-yes (same (leb 13 (instructionOf p i .opcode)) (lastInBlock (programOf p) i)) 8 0 (v .1) in
+        let u = ask-yes (leb (770 + 5 * i + 5) (length p)) 8 _ tt e in
+        let v = ask-yes (laidOut (blockCount p) (instructionOf p i)) 8 _ tt (u .1) in
+        let w = ask-yes (same (leb 13 (instructionOf p i .opcode)) (lastInBlock (programOf p) i)) 9 0 tt (v .1) in
         let x = alike .instruction i h in
         let l : laidOut (blockCount q) (instructionOf q i) ≡ true = sym (ap₂ laidOut (alike .blocks) x) ∙ v .0 in
         let s : same (leb 13 (instructionOf q i .opcode)) (lastInBlock (programOf q) i) ≡ true =

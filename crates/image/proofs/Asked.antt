@@ -7,10 +7,16 @@ use borrow.Author.Tests.{eq-eqb, ne-eqb, eqb-true, eqb-false}
 use lib.Dec.{eqb}
 use Rattle.image.specs.Questions.{ask, orElse, firstNo}
 
--- a question whose number is not 0 and whose answer is 0 was answered with yes, and so were those after it
-pub ask-yes : (t : Bool) (n after : ℕ) → ask t (suc n) after ≡ 0 → (t ≡ true) × (after ≡ 0)
-ask-yes true n after h = (refl, h)
-ask-yes false n after h = absurd (omega arith)
+-- a question's number is not 0
+abbrev pub Numbered : ℕ → Type 0
+Numbered zero = ⊥
+Numbered (suc n) = Unit {0}
+
+-- a question whose answer is 0 was answered with yes, and so were those after it
+pub ask-yes : (t : Bool) (n after : ℕ) → Numbered n → ask t n after ≡ 0 → (t ≡ true) × (after ≡ 0)
+ask-yes true n after k h = (refl, h)
+ask-yes false zero after k h = absurd k
+ask-yes false (suc n) after k h = absurd (omega arith)
 
 pub or-else-no : (a b : ℕ) → (a ≡ 0 → ⊥) → orElse a b ≡ a
 unfolding orElse

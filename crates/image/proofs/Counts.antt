@@ -7,9 +7,9 @@ use native.Mathlib.Omega.{arith}
 use lib.ListN.{length, List·getD-eq-default}
 use lib.Dec.{leb, ltb}
 use borrow.Author.Tests.{leb-true, ltb-true, ltb-false}
+use Rattle.facts.proofs.Tests.{both-true}
 use Rattle.image.specs.Layout.{blockCount, instructionCount}
 use Rattle.image.specs.Questions.{countsNo, recordsNo, programNo}
-use Rattle.image.proofs.Booleans.{both-true}
 use Rattle.image.proofs.Asked.{ask-yes, or-else-no, or-else-both}
 
 pub record Counted (blocks instructions : ℕ) : Type 0 where
@@ -21,7 +21,7 @@ pub record Counted (blocks instructions : ℕ) : Type 0 where
 pub counted : (b i : ℕ) → countsNo b i ≡ 0 → Counted b i
 unfolding countsNo
 counted b i h =
-    let t = ask-yes (leb 1 b && (leb b 128 && (leb 1 i && leb i 1024))) 3 0 h .0 in
+    let t = ask-yes (leb 1 b && (leb b 128 && (leb 1 i && leb i 1024))) 4 0 tt h .0 in
     let p = both-true (leb 1 b) (leb b 128 && (leb 1 i && leb i 1024)) t in
     let q = both-true (leb b 128) (leb 1 i && leb i 1024) (p .1) in
     let r = both-true (leb 1 i) (leb i 1024) (q .1) in

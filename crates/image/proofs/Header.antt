@@ -8,6 +8,7 @@ use lib.ListN.{length, getD, replicate}
 use lib.Seq.{sets}
 use lib.Dec.{eqb, leb}
 use borrow.Author.Tests.{leb-true, eqb-true, le-leb, eq-eqb}
+use Rattle.facts.proofs.Tests.{both-true}
 use Rattle.int64.specs.Little.{little}
 use Rattle.image.specs.declared.Block.{Block}
 use Rattle.image.specs.declared.Instruction.{Instruction}
@@ -16,7 +17,6 @@ use Rattle.image.specs.Layout.{instructionOf, blockIn, instructionIn, bu
 use Rattle.image.specs.Questions.{ask, countsNo, blockRecordNo, blockNo, lastInBlock, instructionRecordNo, instructionNo}
 use Rattle.image.specs.Doors.{markIn, headerNo}
 use Rattle.image.proofs.Asked.{ask-yes, or-else-both, or-else-yes}
-use Rattle.image.proofs.Booleans.{both-true}
 use Rattle.image.proofs.Buffer.{buffer-length, buffer-blocks, buffer-instructions, buffer-block, buffer-instruction}
 use Rattle.image.proofs.Counts.{Counted, counted}
 use Rattle.image.proofs.Rows.{placed}
@@ -38,11 +38,11 @@ letters bytes h =
 pub header : (bytes : List ℕ) → headerNo bytes ≡ 0 → Header bytes
 unfolding headerNo
 header bytes h =
-    let a = ask-yes (leb 8 (length bytes)) 0 _ h in
-    let b = ask-yes (markIn bytes) 1 _ (a .1) in
-    let c = ask-yes (eqb (little 2 bytes 3) 1) 2 _ (b .1) in
+    let a = ask-yes (leb 8 (length bytes)) 1 _ tt h in
+    let b = ask-yes (markIn bytes) 2 _ tt (a .1) in
+    let c = ask-yes (eqb (little 2 bytes 3) 1) 3 _ tt (b .1) in
     let d = or-else-both (countsNo (blocksIn bytes) (instructionsIn bytes)) _ (c .1) in
-    let e = ask-yes (eqb (length bytes) (imageLength (blocksIn bytes) (instructionsIn bytes))) 4 0 (d .1) in
+    let e = ask-yes (eqb (length bytes) (imageLength (blocksIn bytes) (instructionsIn bytes))) 5 0 tt (d .1) in
     record {
       long = leb-true 8 (length bytes) (a .0);
       mark = letters bytes (b .0);

@@ -1,4 +1,3 @@
-pub mod Booleans
 pub mod Asked
 pub mod Counts
 pub mod Pairs

@@ -6,8 +6,8 @@ use native.Mathlib.Omega.{arith}
 use lib.Dec.{eqb, ltb}
 use native.Mathlib.Nat.{pow-suc, pow-le-pow-right, lt-of-lt-of-le}
 use borrow.Author.Tests.{lt-ltb, le-ltb, eqb-true, ltb-true}
+use Rattle.facts.proofs.Tests.{both-true}
 use Rattle.image.specs.Questions.{rising}
-use Rattle.image.proofs.Booleans.{both-true}
 
 less-one : (n : ℕ) → suc (suc n) - 1 ≡ suc n
 less-one n = omega arith

@@ -46,7 +46,7 @@ writes-parts : (cells : List ℕ) → Writes cells → (programNo cells ≡ 0) �
 unfolding writeNo
 writes-parts cells h =
     let p = or-else-both (programNo cells) _ h in
-    (p .0, eqb-true (length cells) programCells (ask-yes (eqb (length cells) programCells) 14 _ (p .1) .0))
+    (p .0, eqb-true (length cells) programCells (ask-yes (eqb (length cells) programCells) 15 _ tt (p .1) .0))
 
 accept-writes : (cells : List ℕ) → programNo cells ≡ 0 → length cells ≡ programCells → Writes cells
 unfolding writeNo

@@ -14,7 +14,7 @@ use Rattle.job.specs.Job.{jobImage, jobPlaces, jobInterval, wordCount, e
 
 -- an input that question 10 lets pass ends exactly
 pub length-asked : (bytes : List ℕ) (r : ℕ) → r ≡ lengthNo bytes → r ≡ 0 → endsExactly bytes ≡ true
-length-asked bytes r e z = ask-yes (endsExactly bytes) 9 0 (sym e ∙ z) .0
+length-asked bytes r e z = ask-yes (endsExactly bytes) 10 0 tt (sym e ∙ z) .0
 
 -- the program of an accepted image was asked about by the reader
 pub read-program : (image : List ℕ) → imageNo image ≡ 0 → programNo (cellsIn image) ≡ 0

@@ -6,7 +6,7 @@ use Prim.Native.Nat.{ℕ, _+_, _*_, _≤_}
 use lib.Dec.{eqb, leb}
 use lib.ListN.{length}
 use borrow.Author.Tests.{eqb-true, leb-true}
-use Rattle.image.proofs.Booleans.{both-true}
+use Rattle.facts.proofs.Tests.{both-true}
 use Rattle.job.specs.Job.{imageSize, wordCount, endsExactly}
 
 -- every field is inside, and nothing comes after the last word

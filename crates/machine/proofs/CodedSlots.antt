@@ -9,14 +9,13 @@ use lib.Dec.{eqb}
 use lib.Pow.{pow-pos}
 use lib.ListN.{getD}
 use borrow.Author.Tests.{eqb-true, eq-eqb}
+use Rattle.facts.proofs.Tests.{both-true, by-test, never}
 use Rattle.image.specs.Layout.{programOf}
-use Rattle.agreement.proofs.Facts.{both-true, by-test}
 use Rattle.agreement.specs.Slots.{sideEnded}
 use Rattle.agreement.specs.Shape.{hollow, tiles}
 use Rattle.agreement.proofs.ShapeLaws.{tiles-slot, tiles-lone, tiles-split}
 use Rattle.task.specs.Formed.{every, isVacant, formed}
 use Rattle.shape.specs.Codes.{codeOf, stands, clear, tiled}
-use Rattle.task.proofs.EveryLaws.{never}
 use Rattle.shape.proofs.TiledLaws.{tiled-whole, tiled-none, tiled-lower-fails, tiled-upper-fails, tiled-halves}
 use Rattle.shape.proofs.CodeLaws.{formed-height, code-vacant, code-formed, code-ended}
 use Rattle.machine.specs.declared.Machine.{Machine}

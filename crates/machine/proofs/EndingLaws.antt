@@ -6,8 +6,8 @@ use mathlib.Core.List.{List}
 use native.Mathlib.Omega.{arith}
 use lib.Dec.{eqb, ltb}
 use borrow.Author.Tests.{ltb-true, ne-eqb}
+use Rattle.facts.proofs.Tests.{clash, both-true}
 use Rattle.image.specs.Layout.{programOf}
-use Rattle.agreement.proofs.Facts.{clash, both-true}
 use Rattle.agreement.proofs.Trees.{Tree, leaf, node}
 use Rattle.agreement.proofs.Holds.{Holds}
 use Rattle.agreement.specs.Slots.{sideEnded}

@@ -5,7 +5,7 @@ use Prim.Native.Nat.{ℕ, _^_, _<_}
 use native.Mathlib.Omega.{arith}
 use lib.Dec.{eqb, leb}
 use borrow.Author.Tests.{eqb-true, leb-true}
-use Rattle.image.proofs.Booleans.{both-true}
+use Rattle.facts.proofs.Tests.{both-true}
 use Rattle.machine.specs.Starting.{intervalAllowed}
 
 -- an allowed interval has 16 bits

@@ -8,8 +8,8 @@ use native.Mathlib.Omega.{arith}
 use native.Mathlib.Nat.{add-zero}
 use lib.ListN.{length, getD, set, getD-replicate}
 use lib.Seq.{sets, set-set, getD-set-other}
+use Rattle.facts.proofs.Tests.{by-test}
 use Rattle.image.specs.Layout.{programOf}
-use Rattle.agreement.proofs.Facts.{by-test}
 use Rattle.agreement.specs.Slots.{due, merged, settle}
 use Rattle.agreement.proofs.SlotLaws.{settle-none, settle-go, settle-stop}
 use Rattle.task.specs.declared.Register.{Register}

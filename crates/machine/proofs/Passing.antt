@@ -9,7 +9,7 @@ use lib.Dec.{ltb}
 use lib.Pow.{pow-pos}
 use lib.IntN.{ℤ}
 use borrow.Author.Tests.{ltb-true, lt-ltb, le-ltb}
-use Rattle.agreement.proofs.Facts.{clash, both-true, by-test, by-below}
+use Rattle.facts.proofs.Tests.{clash, both-true, by-test, by-below}
 use Rattle.task.specs.Frames.{running, workLimit}
 use Rattle.machine.specs.declared.Machine.{Machine}
 use Rattle.machine.specs.Slots.{at}

@@ -8,8 +8,8 @@ use lib.Dec.{eqb, ltb, leb}
 use lib.IntN.{ℤ}
 use lib.ListN.{length}
 use borrow.Author.Tests.{eqb-true, ltb-true}
+use Rattle.facts.proofs.Tests.{by-test}
 use Rattle.task.specs.Choices.{chosen}
-use Rattle.agreement.proofs.Facts.{by-test}
 use Rattle.agreement.specs.Slots.{carry}
 use Rattle.agreement.proofs.SlotLaws.{carry-keeps}
 use Rattle.agreement.specs.Picks.{Model, canPick, pick}
@@ -55,8 +55,8 @@ pub pick-lent : (cells : List ℕ) (words : List ℤ) (m : Machine) (k : ℕ) �
 unfolding stateNoBy
 pick-lent cells words m k e =
     let p = or-else-both (programNo cells) _ (or-else-both (stateNo cells words m) (slotNo m k) e .0) in
-    let a = ask-yes (leb (length words) 4096) 13 _ (p .1) in
-    let b = ask-yes (eqb (length cells) programCells) 14 _ (a .1) in
+    let a = ask-yes (leb (length words) 4096) 14 _ tt (p .1) in
+    let b = ask-yes (eqb (length cells) programCells) 15 _ tt (a .1) in
     record { few-words = a .0; whole = b .0 }
 
 module _ {cells : List ℕ} {interval places : ℕ} {words : List ℤ} (allowed : Allowed cells interval places) (lent : Lent cells words) where

@@ -34,9 +34,9 @@ pub state-passes : (cells : List ℕ) (words : List ℤ) (m : Machine) → state
 unfolding stateNoBy
 state-passes cells words m e =
     let p = or-else-both (programNo cells) _ e in
-    let a = ask-yes (leb (length words) 4096) 13 _ (p .1) in
-    let b = ask-yes (eqb (length cells) programCells) 14 _ (a .1) in
-    let c = ask-yes (shape (programOf cells) m) 19 0 (b .1) in
+    let a = ask-yes (leb (length words) 4096) 14 _ tt (p .1) in
+    let b = ask-yes (eqb (length cells) programCells) 15 _ tt (a .1) in
+    let c = ask-yes (shape (programOf cells) m) 20 0 tt (b .1) in
     record { program = p .0; few-words = a .0; whole = eqb-true (length cells) programCells (b .0); shaped = c .0 }
 
 -- nor any after it
@@ -48,10 +48,10 @@ pub record Ready (m : Machine) (k : ℕ) : Type 0 where
 pub slot-ready : (m : Machine) (k : ℕ) → slotNo m k ≡ 0 → Ready m k
 unfolding slotNo
 slot-ready m k e =
-    let d = ask-yes (ltb k (m .places)) 20 _ e in
-    let f = ask-yes (not (jobEnded m)) 21 _ (d .1) in
-    let g = ask-yes (running (at m k)) 22 _ (f .1) in
-    let h = ask-yes (ltb (m .work) workLimit) 23 0 (g .1) in
+    let d = ask-yes (ltb k (m .places)) 21 _ tt e in
+    let f = ask-yes (not (jobEnded m)) 22 _ tt (d .1) in
+    let g = ask-yes (running (at m k)) 23 _ tt (f .1) in
+    let h = ask-yes (ltb (m .work) workLimit) 24 0 tt (g .1) in
     record { below = ltb-true k (m .places) (d .0); runs = g .0; below-limit = ltb-true (m .work) workLimit (h .0) }
 
 -- none at all was

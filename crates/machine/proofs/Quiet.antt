@@ -5,8 +5,8 @@ use mathlib.Core.List.{List}
 use Prim.Native.Nat.{ℕ, _<_}
 use native.Mathlib.Omega.{arith}
 use lib.IntN.{ℤ}
+use Rattle.facts.proofs.Tests.{clash, by-test}
 use Rattle.image.specs.Layout.{programOf}
-use Rattle.agreement.proofs.Facts.{clash, by-test}
 use Rattle.agreement.specs.Slots.{sideEnded}
 use Rattle.agreement.specs.Picks.{Model}
 use Rattle.agreement.proofs.Laws.{Forms, Laws}

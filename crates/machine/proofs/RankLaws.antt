@@ -5,7 +5,7 @@ use mathlib.Core.Bool.{true, false}
 use native.Mathlib.Omega.{arith}
 use lib.Dec.{eqb}
 use borrow.Author.Tests.{eqb-true, ltb-true}
-use Rattle.agreement.proofs.Facts.{clash, by-test}
+use Rattle.facts.proofs.Tests.{clash, by-test}
 use Rattle.machine.specs.Starting.{rank, placesAllowed}
 
 module _ (p : ℕ) (allowed : placesAllowed p ≡ true) where

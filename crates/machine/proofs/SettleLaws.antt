@@ -6,8 +6,8 @@ use mathlib.Core.List.{List}
 use native.Mathlib.Omega.{arith}
 use lib.Dec.{eqb, ltb}
 use borrow.Author.Tests.{lt-ltb, le-ltb, eq-eqb, ltb-true, eqb-true}
+use Rattle.facts.proofs.Tests.{clash, both-true}
 use Rattle.image.specs.Layout.{programOf}
-use Rattle.agreement.proofs.Facts.{clash, both-true}
 use Rattle.agreement.specs.Slots.{sideEnded, due, merged, settle}
 use Rattle.agreement.proofs.SlotLaws.{settle-none, settle-go, settle-stop}
 use Rattle.task.specs.declared.Status.{Status}

@@ -13,8 +13,8 @@ use lib.IntN.{ℤ}
 use lib.ListN.{getD, set, List·getD-eq-default}
 use lib.Seq.{getD-set-other}
 use borrow.Author.Tests.{lt-ltb}
+use Rattle.facts.proofs.Tests.{by-below}
 use Rattle.task.specs.Choices.{chosen}
-use Rattle.agreement.proofs.Facts.{by-below}
 use Rattle.agreement.specs.Plain.{one}
 use Rattle.agreement.specs.Slots.{due, merged, settle}
 use Rattle.image.specs.Layout.{blockCount, programOf}

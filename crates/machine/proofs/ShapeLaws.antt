@@ -6,9 +6,9 @@ use mathlib.Core.List.{List}
 use native.Mathlib.Omega.{arith}
 use lib.IntN.{ℤ}
 use lib.ListN.{List·getD-eq-default}
+use Rattle.facts.proofs.Tests.{both-true, true-both, by-below}
 use Rattle.task.specs.Choices.{chosen}
 use Rattle.image.specs.Layout.{programOf}
-use Rattle.agreement.proofs.Facts.{both-true, true-both, by-below}
 use Rattle.agreement.proofs.Trees.{Tree}
 use Rattle.agreement.proofs.SlotLaws.{carry-keeps}
 use Rattle.agreement.specs.Picks.{Model, pick}
@@ -23,7 +23,7 @@ use Rattle.task.specs.declared.Frame.{Frame}
 use Rattle.task.specs.Frames.{noTask}
 use Rattle.task.specs.Step.{step}
 use Rattle.task.specs.Formed.{isVacant, within}
-use Rattle.task.proofs.Facts.{every-at, every-from}
+use Rattle.task.proofs.EveryLaws.{every-at, every-from}
 use Rattle.task.proofs.Formation.{formed-is, is-formed}
 use Rattle.task.proofs.Vacancy.{vacant-is, vacant-passes}
 use Rattle.task.proofs.Counts.{Within, within-is, is-within, within-more, vacant-within, step-one-within, step-two-within, join-within}

@@ -5,8 +5,8 @@ use mathlib.Core.Logic.{_⊎_, inl, inr, ⊎-elim}
 use mathlib.Core.Bool.{true}
 use mathlib.Core.List.{List, []}
 use native.Mathlib.Omega.{arith}
+use Rattle.facts.proofs.Tests.{clash, by-below}
 use Rattle.image.specs.Layout.{programOf}
-use Rattle.agreement.proofs.Facts.{clash, by-below}
 use Rattle.agreement.proofs.Trees.{Tree, leaf, node}
 use Rattle.agreement.proofs.Holds.{Holds}
 use Rattle.task.specs.declared.Frame.{Frame}

@@ -6,7 +6,7 @@ use mathlib.Core.Bool.{false}
 use native.Mathlib.Omega.{arith}
 use lib.ListN.{length, getD, length-set, List·getD-eq-default}
 use lib.Seq.{length-sets, getD-set-same, getD-set-other, ext-getD}
-use Rattle.agreement.proofs.Facts.{by-order}
+use Rattle.facts.proofs.Tests.{by-order}
 use Rattle.task.specs.declared.Task.{Task}
 use Rattle.task.specs.declared.Frame.{Frame}
 use Rattle.task.specs.Frames.{zeroRegister, noTask, isRunning, running}

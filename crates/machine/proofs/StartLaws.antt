@@ -43,11 +43,11 @@ pub start-accepted : (cells : List ℕ) (places interval : ℕ) (registers words
 unfolding startNoBy
 start-accepted cells places interval registers words e =
     let p = or-else-both (programNo cells) _ e in
-    let a = ask-yes (placesAllowed places) 10 _ (p .1) in
-    let b = ask-yes (intervalAllowed interval) 11 _ (a .1) in
-    let c = ask-yes (eqb (length registers) 16) 12 _ (b .1) in
-    let d = ask-yes (leb (length words) 4096) 13 _ (c .1) in
-    let f = ask-yes (eqb (length cells) programCells) 14 0 (d .1) in
+    let a = ask-yes (placesAllowed places) 11 _ tt (p .1) in
+    let b = ask-yes (intervalAllowed interval) 12 _ tt (a .1) in
+    let c = ask-yes (eqb (length registers) 16) 13 _ tt (b .1) in
+    let d = ask-yes (leb (length words) 4096) 14 _ tt (c .1) in
+    let f = ask-yes (eqb (length cells) programCells) 15 0 tt (d .1) in
     record {
       allowed = record { program = p .0; places-allowed = a .0; interval-allowed = b .0 };
       sixteen = eqb-true (length registers) 16 (c .0);

@@ -7,7 +7,7 @@ use mathlib.Core.Bool.{true, false}
 use mathlib.Core.List.{List}
 use native.Mathlib.Omega.{arith}
 use lib.IntN.{ℤ}
-use Rattle.agreement.proofs.Facts.{by-test}
+use Rattle.facts.proofs.Tests.{by-test}
 use Rattle.machine.specs.declared.Machine.{Machine}
 use Rattle.machine.specs.Running.{Run, nextPick, stops, pickedAt, runs}
 use Rattle.machine.proofs.Searching.{next-when-over}

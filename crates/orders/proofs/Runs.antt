@@ -8,7 +8,7 @@ use native.Mathlib.Omega.{arith}
 use lib.Dec.{ltb}
 use lib.ListN.{length}
 use borrow.Author.Tests.{ltb-true, ltb-false, eq-eqb}
-use Rattle.agreement.proofs.Facts.{clash, by-test}
+use Rattle.facts.proofs.Tests.{clash, by-test}
 use Rattle.agreement.specs.Picks.{once}
 use Rattle.image.specs.Layout.{programCells, programOf}
 use Rattle.image.specs.Questions.{programNo, orElse}

@@ -6,7 +6,7 @@ use mathlib.Core.Logic.{_⊎_, inl, inr}
 use mathlib.Core.Bool.{true, false}
 use mathlib.Core.List.{List, [], _++_}
 use native.Mathlib.Omega.{arith}
-use Rattle.agreement.proofs.Facts.{clash, by-test, by-below}
+use Rattle.facts.proofs.Tests.{clash, by-test, by-below}
 use Rattle.agreement.specs.Plain.{Ran, out, ran}
 use Rattle.task.specs.declared.Frame.{Frame}
 use Rattle.machine.specs.declared.Machine.{Machine}

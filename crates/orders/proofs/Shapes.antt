@@ -8,8 +8,8 @@ use native.Mathlib.Omega.{arith}
 use lib.Dec.{eqb}
 use lib.IntN.{ℤ}
 use borrow.Author.Tests.{eqb-true}
+use Rattle.facts.proofs.Tests.{clash, by-test}
 use Rattle.image.specs.Layout.{programOf}
-use Rattle.agreement.proofs.Facts.{clash, by-test}
 use Rattle.agreement.specs.Picks.{play}
 use Rattle.agreement.proofs.PlacesLaws.{places-add-up}
 use Rattle.agreement.proofs.HoldsLaws.{open-runs, ended-idle}

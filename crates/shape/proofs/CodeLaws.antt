@@ -7,7 +7,7 @@ use native.Mathlib.Omega.{arith}
 use lib.Dec.{eqb}
 use lib.Pow.{pow-pos}
 use borrow.Author.Tests.{eqb-true, eqb-false, eq-eqb, ne-eqb}
-use Rattle.agreement.proofs.Facts.{clash, both-true, by-test}
+use Rattle.facts.proofs.Tests.{clash, both-true, by-test, same, never}
 use Rattle.image.specs.Program.{Program}
 use Rattle.task.specs.declared.Frame.{Frame}
 use Rattle.task.specs.Frames.{running}
@@ -15,7 +15,6 @@ use Rattle.task.specs.Formed.{isVacant, formed}
 use Rattle.task.proofs.Formation.{formed-is}
 use Rattle.task.proofs.Vacancy.{vacant-is}
 use Rattle.shape.specs.Codes.{code, codeOf, stands}
-use Rattle.task.proofs.EveryLaws.{same, never}
 
 zero-code : (v l r : Bool) (h : ℕ) → eqb (code v l r h) 0 ≡ v
 zero-code true l r h = refl

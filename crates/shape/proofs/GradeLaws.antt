@@ -8,18 +8,17 @@ use lib.Dec.{eqb, leb}
 use lib.ListN.{length, getD, set, replicate, length-set, getD-replicate}
 use lib.Seq.{getD-set-same, getD-set-other}
 use borrow.Author.Tests.{eqb-true, eq-eqb, leb-true, le-leb}
-use Rattle.agreement.proofs.Facts.{by-order}
+use Rattle.facts.proofs.Tests.{by-order, same}
 use Rattle.image.specs.Program.{Program}
 use Rattle.task.specs.declared.Value.{Value}
 use Rattle.task.specs.declared.Value.the-variants.{Int, Label, Record}
 use Rattle.task.specs.declared.Register.{Register}
 use Rattle.task.specs.Frames.{zeroRegister}
 use Rattle.task.specs.Formed.{every, valueFits, isZero}
-use Rattle.task.proofs.Facts.{every-at, every-from}
+use Rattle.task.proofs.EveryLaws.{every-at, every-from}
 use Rattle.task.specs.Stretches.{reads}
 use Rattle.shape.specs.Codes.{grade, gradeOf, Graded, GradedSlots}
 use Rattle.task.proofs.StretchLaws.{length-reads, getD-reads}
-use Rattle.task.proofs.EveryLaws.{same}
 
 -- ---- the worst grade so far
 

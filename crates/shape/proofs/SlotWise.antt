@@ -8,7 +8,7 @@ use lib.Dec.{eqb, ltb, leb}
 use lib.ListN.{length, getD, set}
 use lib.Seq.{getD-set-same, getD-set-other}
 use borrow.Author.Tests.{eq-eqb, lt-ltb, le-ltb}
-use Rattle.agreement.proofs.Facts.{by-order}
+use Rattle.facts.proofs.Tests.{by-order, never}
 use Rattle.image.specs.Program.{Program}
 use Rattle.task.specs.declared.Register.{Register}
 use Rattle.task.specs.declared.Task.{Task}
@@ -18,7 +18,7 @@ use Rattle.task.specs.Formed.{every, isZeroFork, forkFits, forksFit, atRest, is
 use Rattle.task.proofs.Formation.{Formed, formed-is}
 use Rattle.task.proofs.Vacancy.{vacant-is}
 use Rattle.shape.specs.Codes.{Graded, framed, code, codeOf}
-use Rattle.task.proofs.EveryLaws.{every-alike, never}
+use Rattle.task.proofs.EveryLaws.{every-alike}
 
 -- what holds of each element before k, and of the one stored at k, holds before k + 1
 pub below-set : (P : ℕ → ℕ → Type 0) (l : List ℕ) (k v : ℕ) → k < length l → ((j : ℕ) → j < k → P j (getD l j 0)) → P k v

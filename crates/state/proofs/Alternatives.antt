@@ -10,7 +10,7 @@ use mir.ValLaws.{toZ-ofZ, ofZ-toZ, toZ-fits, ofZ-fits}
 use lib.Dec.{eqb}
 use lib.ListN.{getD}
 use borrow.Author.Tests.{ltb-true, lt-ltb, eqb-true, ne-eqb, le-ltb}
-use Rattle.agreement.proofs.Facts.{both-true, true-both, clash}
+use Rattle.facts.proofs.Tests.{both-true, true-both, clash}
 use Rattle.image.specs.RoundTrip.{Cells}
 use Rattle.task.specs.declared.Value.{Value}
 use Rattle.task.specs.declared.Value.the-variants.{Int, Label, Record}

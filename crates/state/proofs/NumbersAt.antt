@@ -7,12 +7,12 @@ use native.Mathlib.Omega.{arith}
 use native.Mathlib.Nat.{add-zero, mul-suc, mul-assoc, mul-le-mul-left}
 use lib.ListN.{length, getD, drop, length-append, take-append-drop, drop-of-length-le, List·getD-append}
 use lib.Seq.{getD-append-add, drop-drop}
+use Rattle.facts.proofs.Tests.{below-or-not}
 use Rattle.int64.specs.Little.{bytesOf}
 use Rattle.int64.proofs.Little.{length-bytesOf, little-below, little-written, bytesOf-little}
 use Rattle.image.specs.Layout.{rows}
 use Rattle.image.specs.RoundTrip.{Bytes, Cells}
 use Rattle.image.proofs.Rows.{length-rows, getD-rows}
-use Rattle.task.proofs.Facts.{below-or-not}
 use Rattle.state.specs.Numbers.{inBytes}
 use Rattle.state.specs.Reading.{table, numberAt}
 use Rattle.state.proofs.Tables.{length-table, getD-table}

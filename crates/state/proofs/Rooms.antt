@@ -7,7 +7,7 @@ use native.Mathlib.Omega.{arith}
 use lib.Dec.{eqb, ltb}
 use lib.ListN.{length}
 use borrow.Author.Tests.{eq-eqb, ne-eqb, ltb-true, eqb-true}
-use Rattle.agreement.proofs.Facts.{both-true}
+use Rattle.facts.proofs.Tests.{both-true}
 use Rattle.task.specs.Formed.{every}
 use Rattle.state.specs.State.{stateLength}
 use Rattle.state.specs.Reading.{numberAt, in16, in32, isValue, isStatus, standsValue, standsFork, standsTask, slotPlace, registerPlace, standsState}

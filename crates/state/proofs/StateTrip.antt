@@ -8,7 +8,7 @@ use native.Mathlib.Nat.{zero-add}
 use lib.ListN.{length, getD}
 use borrow.Author.Tests.{eq-eqb}
 use lib.Dec.{eqb}
-use Rattle.agreement.proofs.Facts.{true-both}
+use Rattle.facts.proofs.Tests.{true-both}
 use Rattle.image.specs.Layout.{rows}
 use Rattle.image.specs.RoundTrip.{Bytes, Cells}
 use Rattle.task.specs.declared.Value.{Value}
@@ -16,7 +16,7 @@ use Rattle.task.specs.declared.Register.{Register}
 use Rattle.task.specs.declared.Task.{Task}
 use Rattle.task.specs.Formed.{every}
 use Rattle.task.specs.Frames.{zeroRegister, noTask}
-use Rattle.task.proofs.Facts.{every-at, every-from}
+use Rattle.task.proofs.EveryLaws.{every-at, every-from}
 use Rattle.machine.specs.declared.Machine.{Machine}
 use Rattle.state.specs.Numbers.{valueNumbers}
 use Rattle.state.specs.State.{taskNumbers, slotNumbers, stateNumbers, stateLength, stateBytes}

@@ -8,8 +8,8 @@ use native.Mathlib.Nat.{add-zero, add-suc, mul-zero, mul-suc, eq-or-lt-of-le}
 use native.Mathlib.Numerals.{add-one}
 use lib.ListN.{length, getD, length-append, List·getD-append, List·getD-eq-default}
 use lib.Seq.{ext-getD, getD-at}
+use Rattle.facts.proofs.Tests.{below-or-not}
 use Rattle.image.specs.Layout.{rows}
-use Rattle.task.proofs.Facts.{below-or-not}
 use Rattle.state.specs.Reading.{table}
 
 module _ {A : Type 0} where

@@ -9,14 +9,14 @@ use native.Mathlib.Nat.{add-zero}
 use lib.ListN.{length, getD, drop}
 use lib.Dec.{ltb}
 use borrow.Author.Tests.{lt-ltb}
-use Rattle.agreement.proofs.Facts.{true-both}
+use Rattle.facts.proofs.Tests.{true-both}
 use Rattle.image.specs.Layout.{rows}
 use Rattle.image.specs.RoundTrip.{Bytes, Cells}
 use Rattle.task.specs.declared.Value.{Value}
 use Rattle.task.specs.declared.Fork.{Fork}
 use Rattle.task.specs.declared.Task.{Task}
 use Rattle.task.specs.Frames.{zeroFork}
-use Rattle.task.proofs.Facts.{every-at, every-from}
+use Rattle.task.proofs.EveryLaws.{every-at, every-from}
 use Rattle.state.specs.Numbers.{valueNumbers}
 use Rattle.state.specs.State.{statusNumber, faultNumber, forkNumbers, taskNumbers}
 use Rattle.state.specs.Reading.{table, numberAt, isStatus, statusOf, standsValue, registerIn, standsFork, forkIn, standsTask, taskIn}

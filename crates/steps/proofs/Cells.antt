@@ -7,10 +7,10 @@ use native.Mathlib.Omega.{arith}
 use native.Mathlib.Numerals.{add-one}
 use lib.ListN.{length, getD, take, replicate, length-replicate}
 use lib.Seq.{sets, take-suc, take-all, take-at, length-take-le}
+use Rattle.facts.proofs.Tests.{below-or-not}
 use Rattle.int64.specs.Little.{bytesOf}
 use Rattle.image.specs.Layout.{programCells}
 use Rattle.image.specs.Questions.{programNo}
-use Rattle.task.proofs.Facts.{below-or-not}
 use Rattle.state.specs.Numbers.{inBytes, integersIn}
 use Rattle.state.specs.Reading.{table, numberAt}
 use Rattle.state.proofs.Laying.{numbers-placed, one-number, length-inBytes, sets-whole}

@@ -8,7 +8,7 @@ use lib.ListN.{length, getD, take, length-take}
 use lib.Seq.{getD-take}
 use lib.Dec.{eqb, leb}
 use borrow.Author.Tests.{leb-true, leb-false, le-leb, lt-leb}
-use Rattle.agreement.proofs.Facts.{by-test}
+use Rattle.facts.proofs.Tests.{by-test}
 use Rattle.image.specs.Layout.{programCells, blockCount, instructionCount, blockOf, instructionOf, programOf}
 use Rattle.image.specs.Questions.{ask, orElse, firstNo, countsNo, blockRecordNo, blockNo, startsAt, lastInBlock, instructionRecordNo, instructionNo, recordsNo, programNo}
 use Rattle.image.proofs.Asked.{or-else-same, first-no-same}

@@ -8,10 +8,9 @@ use lib.Dec.{eqb, leb}
 use lib.IntN.{ℤ}
 use lib.ListN.{length}
 use borrow.Author.Tests.{leb-true, eqb-true, ne-eqb}
-use Rattle.agreement.proofs.Facts.{both-true}
+use Rattle.facts.proofs.Tests.{both-true, clash}
 use Rattle.image.specs.Questions.{ask, orElse, programNo}
 use Rattle.image.proofs.Asked.{or-else-no, or-else-both, or-else-none}
-use Rattle.image.proofs.Booleans.{clash}
 use Rattle.machine.specs.declared.Machine.{Machine}
 use Rattle.machine.specs.declared.Outcome.{Outcome}
 use Rattle.machine.specs.Picking.{slotNo, stateNoBy, stateNo, pickNo, picked}

@@ -7,7 +7,7 @@ use native.Mathlib.Omega.{arith}
 use lib.Dec.{eqb}
 use lib.ListN.{length}
 use borrow.Author.Tests.{eq-eqb, le-leb}
-use Rattle.agreement.proofs.Facts.{by-test, true-both}
+use Rattle.facts.proofs.Tests.{by-test, true-both}
 use Rattle.image.specs.Doors.{unlessRefused}
 use Rattle.machine.specs.declared.Machine.{Machine}
 use Rattle.machine.specs.Starting.{empty}

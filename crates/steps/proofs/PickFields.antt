@@ -7,9 +7,9 @@ use native.Mathlib.Omega.{arith}
 use lib.Dec.{eqb}
 use lib.IntN.{ℤ}
 use borrow.Author.Tests.{eqb-true}
+use Rattle.facts.proofs.Tests.{by-test}
 use Rattle.task.specs.Choices.{chosen}
 use Rattle.image.specs.Layout.{programOf}
-use Rattle.agreement.proofs.Facts.{by-test}
 use Rattle.agreement.proofs.SlotLaws.{carry-keeps, carry-all}
 use Rattle.image.specs.Doors.{unlessRefused}
 use Rattle.task.specs.Frames.{running, workLimit}

@@ -7,8 +7,8 @@ use native.Mathlib.Omega.{arith}
 use lib.Dec.{eqb, ltb}
 use lib.IntN.{ℤ}
 use borrow.Author.Tests.{eqb-true, ltb-true}
+use Rattle.facts.proofs.Tests.{by-test}
 use Rattle.image.specs.Layout.{programOf}
-use Rattle.agreement.proofs.Facts.{by-test}
 use Rattle.image.specs.Questions.{programNo}
 use Rattle.machine.specs.declared.Machine.{Machine}
 use Rattle.machine.specs.Ending.{jobEnded}

@@ -9,9 +9,8 @@ use native.Mathlib.Nat.{pow-le-pow-right}
 use lib.Dec.{eqb, ltb, leb}
 use lib.ListN.{length, getD, List·getD-eq-default}
 use borrow.Author.Tests.{eqb-true, ltb-true, leb-true}
-use Rattle.agreement.proofs.Facts.{by-below}
+use Rattle.facts.proofs.Tests.{by-below, both-true}
 use Rattle.image.specs.Layout.{blockCount, programOf}
-use Rattle.image.proofs.Booleans.{both-true}
 use Rattle.image.proofs.Accepted.{Accepted, accepted}
 use Rattle.task.specs.declared.Value.{Value}
 use Rattle.task.specs.declared.Value.the-variants.{Int, Label, Record}

@@ -5,7 +5,7 @@ use Prim.Native.Nat.{ℕ, zero, suc, _+_, _*_, _<_}
 use native.Mathlib.Omega.{arith}
 use lib.ListN.{getD, set, List·getD-eq-default}
 use lib.Seq.{sets}
-use Rattle.agreement.proofs.Facts.{by-below}
+use Rattle.facts.proofs.Tests.{by-below}
 use Rattle.task.specs.declared.Value.{Value}
 use Rattle.task.specs.declared.Value.the-variants.{Int, Label, Record}
 use Rattle.task.specs.declared.Task.{Task}

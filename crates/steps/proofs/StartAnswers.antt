@@ -8,11 +8,10 @@ use lib.Dec.{eqb, leb}
 use lib.IntN.{ℤ}
 use lib.ListN.{length}
 use borrow.Author.Tests.{eq-eqb, le-leb, leb-true, eqb-true}
-use Rattle.agreement.proofs.Facts.{both-true, true-both}
+use Rattle.facts.proofs.Tests.{both-true, true-both, clash}
 use Rattle.image.specs.Layout.{programCells}
 use Rattle.image.specs.Questions.{ask, orElse, programNo}
 use Rattle.image.proofs.Asked.{ask-yes, or-else-no, or-else-yes, or-else-both, or-else-none}
-use Rattle.image.proofs.Booleans.{clash}
 use Rattle.machine.specs.declared.Machine.{Machine}
 use Rattle.machine.specs.Starting.{placesAllowed, intervalAllowed, startNoBy, startNo, started, empty}
 use Rattle.state.specs.State.{stateLength}
@@ -77,11 +76,11 @@ module _ (program : List ℕ) (places interval : ℕ) (registers words : List �
     unfolding startNoBy
     counts =
         let parts = or-else-both (programNo (cellsOf program)) _ e in
-        let a = ask-yes (placesAllowed places) 10 _ (parts .1) in
-        let b = ask-yes (intervalAllowed interval) 11 _ (a .1) in
-        let c = ask-yes (eqb (length (integersOf registers)) 16) 12 _ (b .1) in
-        let d = ask-yes (leb (length (integersOf words)) 4096) 13 _ (c .1) in
-        let f = ask-yes (eqb (length (cellsOf program)) programCells) 14 0 (d .1) in
+        let a = ask-yes (placesAllowed places) 11 _ tt (parts .1) in
+        let b = ask-yes (intervalAllowed interval) 12 _ tt (a .1) in
+        let c = ask-yes (eqb (length (integersOf registers)) 16) 13 _ tt (b .1) in
+        let d = ask-yes (leb (length (integersOf words)) 4096) 14 _ tt (c .1) in
+        let f = ask-yes (eqb (length (cellsOf program)) programCells) 15 0 tt (d .1) in
         record {
           program-accepted = parts .0;
           all-cells = sym (count-cells program) ∙ eqb-true _ programCells (f .0);
@@ -113,7 +112,7 @@ module _ (program : List ℕ) (places interval : ℕ) (registers words : List �
   unfolding startedNo
   start-accepted h =
       let a = or-else-both first _ h in
-      (a .0, fit program registers words lent (fits-then (a .0) (ask-yes rest 14 0 (a .1) .0)))
+      (a .0, fit program registers words lent (fits-then (a .0) (ask-yes rest 15 0 tt (a .1) .0)))
 
   -- where all lengths are right, start's own questions decide
   pub start-whole : Fit program registers words lent → startedNo program places interval registers words lent ≡ startNo (cellsOf program) places interval (integersOf registers) (integersOf words)

@@ -13,11 +13,11 @@ use mir.Syntax.{w64}
 use mir.Val.{SFits, Fits, toZ, ofZ}
 use mir.ValLaws.{toZ-ofZ, ofZ-fits}
 use borrow.Author.Tests.{lt-ltb, le-ltb}
+use Rattle.facts.proofs.Tests.{clash}
 use Rattle.int64.specs.Equal.{eqZ}
 use Rattle.int64.proofs.Equality.{eq-eqZ}
 use Rattle.int64.proofs.Sign.{natural}
 use Rattle.image.specs.Program.{Program}
-use Rattle.image.proofs.Booleans.{clash}
 use Rattle.task.specs.declared.Value.{Value}
 use Rattle.task.specs.declared.Value.the-variants.{Int}
 use Rattle.task.specs.declared.Active.{Active}

@@ -8,7 +8,7 @@ use native.Mathlib.Omega.{arith}
 use lib.ListN.{getD, set}
 use types.Run.{OneOf, miss}
 use denote.Enum.Declared.{tagOf}
-use Rattle.agreement.proofs.Facts.{clash}
+use Rattle.facts.proofs.Tests.{clash}
 use Rattle.image.specs.declared.Block.{Block}
 use Rattle.image.specs.Program.{Program}
 use Rattle.task.specs.declared.Register.{Register}

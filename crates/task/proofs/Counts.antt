@@ -9,8 +9,8 @@ use lib.Dec.{leb}
 use lib.IntN.{ℤ}
 use lib.ListN.{getD}
 use borrow.Author.Tests.{leb-true, le-leb}
+use Rattle.facts.proofs.Tests.{both-true, true-both}
 use Rattle.image.specs.Program.{Program}
-use Rattle.image.proofs.Booleans.{both-true}
 use Rattle.task.specs.declared.Register.{Register}
 use Rattle.task.specs.declared.Task.{Task}
 use Rattle.task.specs.declared.Frame.{Frame}
@@ -20,7 +20,6 @@ use Rattle.task.specs.Choices.{Choices}
 use Rattle.task.specs.Effect.{Effect, stores, continues, enters, forks, waits, halts, faults, effectOf}
 use Rattle.task.specs.Step.{register, operand, opOf, activeOf, counted, withTask, promotes, enteredBy, applied, step, firstFault, joinedBy, join}
 use Rattle.task.specs.Formed.{within}
-use Rattle.task.proofs.Facts.{both-from}
 
 -- at most W, both
 pub record Within (W : ℕ) (t : Task) : Type 0 where
@@ -33,7 +32,7 @@ within-is W f e =
     record { counter-most = leb-true (f .task .counter) W (p .0); span-most = leb-true (f .task .span) W (p .1) }
 
 pub is-within : (W : ℕ) (f : Frame) → Within W (f .task) → within W f ≡ true
-is-within W f x = both-from (le-leb (f .task .counter) W (x .counter-most)) (le-leb (f .task .span) W (x .span-most))
+is-within W f x = true-both (le-leb (f .task .counter) W (x .counter-most)) (le-leb (f .task .span) W (x .span-most))
 
 pub within-more : {W U : ℕ} {t : Task} → W ≤ U → Within W t → Within U t
 within-more h x = record { counter-most = omega (arith, x .counter-most); span-most = omega (arith, x .span-most) }

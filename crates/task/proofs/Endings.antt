@@ -4,7 +4,7 @@ use mathlib.Core.Bool.{true, false, _&&_}
 use Prim.Native.Nat.{ℕ, _<_}
 use lib.Dec.{eqb, ltb, leb}
 use borrow.Author.Tests.{eqb-true, ltb-true, leb-true}
-use Rattle.image.proofs.Booleans.{clash, both-true}
+use Rattle.facts.proofs.Tests.{clash, both-true}
 use Rattle.image.specs.Program.{Program}
 use Rattle.task.specs.declared.Status.{Status}
 use Rattle.task.specs.declared.Status.the-variants.{Vacant, Running, Waiting, Halted, Faulted}

@@ -1,9 +1,11 @@
--- `every`, one number at a time; and tests that agree.
+-- `every`: one number at a time, tests that agree, and what it says of each number.
 use Prim.Native.Nat.{ℕ, zero, suc, _+_, _-_, _≤_, _<_}
 use mathlib.Core.Path.{_≡_, refl, sym, ap, _∙_}
+use mathlib.Core.Logic.{⊎-elim}
 use mathlib.Core.Bool.{Bool, true, false}
 use native.Mathlib.Omega.{arith}
-use Rattle.agreement.proofs.Facts.{by-test}
+use native.Mathlib.Nat.{eq-or-lt-of-le}
+use Rattle.facts.proofs.Tests.{clash, by-test}
 use Rattle.task.specs.Formed.{every}
 
 module _ (test : ℕ → Bool) (n i : ℕ) where
@@ -49,12 +51,27 @@ every-alike test other (suc n) i h =
     ∙ sym (every-yes other n i e))
     (λ e. every-no test n i (here ∙ e) ∙ sym (every-no other n i e))
 
--- two tests that pass together
-pub same : (a b : Bool) → (a ≡ true → b ≡ true) → (b ≡ true → a ≡ true) → a ≡ b
-same true b h k = sym (h refl)
-same false true h k = k refl
-same false false h k = refl
+-- ---- what a test at each of n numbers says
 
-pub never : (b : Bool) → (b ≡ true → ⊥) → b ≡ false
-never true h = absurd (h refl)
-never false h = refl
+both-of : (test : ℕ → Bool) (n i : ℕ) → every test (suc n) i ≡ true → (test i ≡ true) × (every test n (i + 1) ≡ true)
+unfolding every
+both-of test n i h = go (test i) refl
+  where
+    go : (t : Bool) → test i ≡ t → (test i ≡ true) × (every test n (i + 1) ≡ true)
+    go true t = (t, rw (t, every) at h)
+    go false t = clash (rw (t, every) at h) refl
+
+pub every-at : (test : ℕ → Bool) (n i : ℕ) → every test n i ≡ true → (k : ℕ) → i ≤ k → k < i + n → test k ≡ true
+every-at test zero i h k p q = absurd (omega arith)
+every-at test (suc n) i h k p q =
+    let e = both-of test n i h in
+    ⊎-elim
+    (λ (z : i ≡ k). rw (← z) (e .0))
+    (λ (z : i < k). every-at test n (i + 1) (e .1) k (omega arith) (omega arith))
+    (eq-or-lt-of-le p)
+
+pub every-from : (test : ℕ → Bool) (n i : ℕ) → ((k : ℕ) → i ≤ k → k < i + n → test k ≡ true) → every test n i ≡ true
+unfolding every
+every-from test zero i h = refl
+every-from test (suc n) i h =
+    rw (h i (omega arith) (omega arith), every) (every-from test n (i + 1) (λ k p q. h k (omega arith) (omega arith)))

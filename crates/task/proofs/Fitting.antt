@@ -10,11 +10,10 @@ use native.Mathlib.Nat.{eq-or-lt-of-le}
 use lib.Dec.{eqb, leb}
 use lib.ListN.{getD}
 use borrow.Author.Tests.{eqb-true, eq-eqb, leb-true, le-leb}
-use Rattle.image.proofs.Booleans.{clash, both-true}
+use Rattle.facts.proofs.Tests.{clash, both-true, true-both}
 use Rattle.task.specs.declared.Fork.{Fork}
 use Rattle.task.specs.Frames.{zeroFork}
 use Rattle.task.specs.Effect.{belong, fits}
-use Rattle.task.proofs.Facts.{both-from}
 
 pub record Fits (k : Fork) (depth : ℕ) (forks : List Fork) : Type 0 where
   pub shallow : k .depth ≤ depth
@@ -29,7 +28,7 @@ fork-is a k e =
 
 is-fork : (a k : Fork) → a ≡ k → eqb (a .continuation) (k .continuation) && eqb (a .depth) (k .depth) ≡ true
 is-fork a k e =
-    both-from (eq-eqb _ _ (ap (λ (x : Fork). x .continuation) e)) (eq-eqb _ _ (ap (λ (x : Fork). x .depth) e))
+    true-both (eq-eqb _ _ (ap (λ (x : Fork). x .continuation) e)) (eq-eqb _ _ (ap (λ (x : Fork). x .depth) e))
 
 module _ (forks : List Fork) (k : Fork) where
   belong-first : (n i : ℕ) → belong forks k (suc n) i ≡ true → (getD forks i zeroFork ≡ k) × (belong forks k n (i + 1) ≡ true)
@@ -65,7 +64,7 @@ module _ (k : Fork) (depth : ℕ) (forks : List Fork) where
   pub is-fits : Fits k depth forks → fits k depth forks ≡ true
   unfolding fits
   is-fits x =
-      both-from (le-leb (k .depth) depth (x .shallow))
+      true-both (le-leb (k .depth) depth (x .shallow))
       (belong-from forks k (depth - k .depth) (k .depth) (λ i a b. x .belongs i a (omega (arith, x .shallow))))
 
   -- a task that waits by a record has its innermost fork under that record: so the fork tells `join` the continuation

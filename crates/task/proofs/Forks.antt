@@ -9,11 +9,11 @@ use lib.Dec.{eqb, ltb}
 use lib.ListN.{length, getD, set}
 use lib.Seq.{getD-set-same, getD-set-other}
 use borrow.Author.Tests.{eqb-true, eqb-false, lt-ltb, le-ltb}
+use Rattle.facts.proofs.Tests.{below-or-not}
 use Rattle.image.specs.Program.{Program}
 use Rattle.task.specs.declared.Fork.{Fork}
 use Rattle.task.specs.Frames.{zeroFork}
 use Rattle.task.specs.Formed.{isTarget, forkFits}
-use Rattle.task.proofs.Facts.{below-or-not}
 
 -- the six entries fit a task of depth d
 abbrev pub ForksFit : Program → ℕ → List Fork → Type 0

@@ -8,14 +8,15 @@ use native.Mathlib.Omega.{arith}
 use lib.Dec.{eqb, ltb}
 use lib.ListN.{length, getD, List·getD-eq-default}
 use borrow.Author.Tests.{eqb-true, ltb-true, eq-eqb, lt-ltb}
+use Rattle.facts.proofs.Tests.{both-true, true-both, below-or-not}
 use Rattle.image.specs.Program.{Program}
-use Rattle.image.proofs.Booleans.{both-true}
 use Rattle.task.specs.declared.Register.{Register}
 use Rattle.task.specs.declared.Frame.{Frame}
 use Rattle.task.specs.Frames.{zeroFork, zeroRegister, zeros}
 use Rattle.task.specs.Step.{register}
 use Rattle.task.specs.Formed.{isTarget, valueFits, registersFit, forkFits, forksFit, statusFits, isFull, formed}
-use Rattle.task.proofs.Facts.{both-from, below-or-not, every-at, every-from, constant-at}
+use Rattle.task.proofs.Facts.{constant-at}
+use Rattle.task.proofs.EveryLaws.{every-at, every-from}
 
 -- a live task's frame: 2 ^ h places in a job of 2 ^ D
 pub record Formed (program : Program) (D h : ℕ) (f : Frame) : Type 0 where
@@ -51,7 +52,7 @@ target-below program b h = ltb-true b (program .blocks) (both-true (ltb b (progr
 
 pub target-from : (program : Program) (b : ℕ) → b < program .blocks → eqb (program .block b .annotation) 2 ≡ true → isTarget program b ≡ true
 unfolding isTarget
-target-from program b h e = both-from (lt-ltb b (program .blocks) h) e
+target-from program b h e = true-both (lt-ltb b (program .blocks) h) e
 
 -- ---- the whole test
 
@@ -82,11 +83,11 @@ module _ (program : Program) (D h : ℕ) (f : Frame) where
   pub is-formed : Formed program D h f → formed program D h f ≡ true
   unfolding formed
   is-formed x =
-      both-from (both-from (eq-eqb _ _ (x .registers-full)) (eq-eqb _ _ (x .forks-full)))
-      (both-from (eq-eqb _ _ (x .has-places))
-      (both-from (eq-eqb _ _ (x .has-depth))
-      (both-from (lt-ltb _ _ (x .pc-below))
-      (both-from (x .status-fits)
-      (both-from
+      true-both (true-both (eq-eqb _ _ (x .registers-full)) (eq-eqb _ _ (x .forks-full)))
+      (true-both (eq-eqb _ _ (x .has-places))
+      (true-both (eq-eqb _ _ (x .has-depth))
+      (true-both (lt-ltb _ _ (x .pc-below))
+      (true-both (x .status-fits)
+      (true-both
       (every-from (λ i. forkFits program (ltb i (f .task .depth)) (getD (f .task .forks) i zeroFork)) 6 0 (λ k p q. x .forks-fit k (omega arith)))
       (every-from (λ i. valueFits program (register f i)) 16 0 (λ k p q. x .values-fit k)))))))

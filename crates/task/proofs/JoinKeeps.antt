@@ -8,8 +8,8 @@ use native.Mathlib.Omega.{arith}
 use lib.Dec.{ltb, leb}
 use lib.ListN.{length, getD, length-set}
 use borrow.Author.Tests.{leb-true, le-leb, lt-ltb}
+use Rattle.facts.proofs.Tests.{both-true, true-both}
 use Rattle.image.specs.Layout.{blockCount, instructionCount, programOf}
-use Rattle.image.proofs.Booleans.{both-true}
 use Rattle.image.proofs.Accepted.{Accepted}
 use Rattle.task.specs.declared.Register.{Register}
 use Rattle.task.specs.declared.Status.{Status}
@@ -18,7 +18,7 @@ use Rattle.task.specs.declared.Frame.{Frame}
 use Rattle.task.specs.Frames.{zeroFork, zeroRegister, zeros, faultOf}
 use Rattle.task.specs.Step.{copied, outward, firstFault, joinedBy, join}
 use Rattle.task.specs.Formed.{every, isTarget, valueFits, statusFits}
-use Rattle.task.proofs.Facts.{both-from, set-keeps}
+use Rattle.task.proofs.Facts.{set-keeps}
 use Rattle.task.proofs.Formation.{Formed, Listed, zeros-fit, target-below}
 use Rattle.task.proofs.Forks.{closed-fits}
 
@@ -93,7 +93,7 @@ module _ (cells : List ℕ) (ok : Accepted cells) (D : ℕ) (room : D ≤ 6) (h 
   unfolding every
   stops b n l =
       outward-formed (Faulted n) 0 zeros refl (ok .some-instruction)
-      (both-from (le-leb 31 n (l .0)) (both-from (le-leb n 38 (l .1)) refl)) (zeros-fit (programOf cells))
+      (true-both (le-leb 31 n (l .0)) (true-both (le-leb n 38 (l .1)) refl)) (zeros-fit (programOf cells))
 
   target : isTarget (programOf cells) (getD (p .task .forks) (p .task .depth - 1) zeroFork .continuation) ≡ true
   target =

@@ -7,11 +7,11 @@ use native.Mathlib.Omega.{arith}
 use lib.Dec.{eqb, leb}
 use lib.ListN.{getD, List·getD-eq-default}
 use borrow.Author.Tests.{eqb-true, leb-false}
+use Rattle.facts.proofs.Tests.{clash}
 use Rattle.image.specs.Questions.{same}
-use Rattle.image.proofs.Booleans.{clash}
 use Rattle.task.specs.Effect.{Op, move, plus, minus, times, divide, modulo, less, equal, word, ifJump, jralloc, fork, jump, halt, meet, unknown, opcodes}
 use Rattle.task.specs.Formed.{every}
-use Rattle.task.proofs.Facts.{every-at}
+use Rattle.task.proofs.EveryLaws.{every-at}
 
 -- whether an instruction is last in its block; none for what is no instruction
 abbrev pub lasts : Op → Option Bool

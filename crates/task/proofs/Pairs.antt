@@ -9,8 +9,8 @@ use lib.Dec.{ltb}
 use lib.ListN.{length, getD, set, length-set}
 use lib.Seq.{getD-set-same, getD-set-other}
 use borrow.Author.Tests.{ltb-true}
+use Rattle.facts.proofs.Tests.{both-true}
 use Rattle.image.specs.Questions.{rising}
-use Rattle.image.proofs.Booleans.{both-true}
 use Rattle.task.specs.declared.Register.{Register}
 use Rattle.task.specs.Frames.{zeroRegister}
 use Rattle.task.specs.Step.{copied}

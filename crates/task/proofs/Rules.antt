@@ -10,9 +10,9 @@ use lib.ListN.{getD}
 use lib.Signed.{ltZ}
 use borrow.Author.Tests.{eqb-true, eqb-false, leb-true, not-true, eq-eqb, ne-eqb, le-leb}
 use native.Mathlib.Omega.{arith}
+use Rattle.facts.proofs.Tests.{both-true, true-both, never}
 use Rattle.int64.specs.Equal.{eqZ}
 use Rattle.image.specs.Program.{Program}
-use Rattle.image.proofs.Booleans.{both-true}
 use Rattle.task.specs.declared.Value.{Value}
 use Rattle.task.specs.declared.Value.the-variants.{Int}
 use Rattle.task.specs.declared.Status.{Status}
@@ -26,8 +26,6 @@ use Rattle.task.specs.Values.{truth}
 use Rattle.task.specs.Effect.{stores, asked, fits}
 use Rattle.task.specs.Step.{promotes, enteredBy, entered, firstFault, joinedBy, join}
 use Rattle.task.specs.Rules.{JoinRules, Due, EntryRules, Entrances, Comparisons, TaskRules}
-use Rattle.task.proofs.Facts.{both-from}
-use Rattle.task.proofs.EveryLaws.{never}
 use Rattle.task.proofs.Fitting.{is-fits}
 
 -- ---- Joins
@@ -71,9 +69,9 @@ module _ (program : Program) (interval b : ℕ) (t : Task) where
   when-due : Due program interval b t → test ≡ true
   unfolding promotes
   when-due d =
-      both-from (eq-eqb _ _ (d .is-ready))
-      (both-from
-      (both-from (ap not (ne-eqb _ _ (d .has-beat))) (le-leb interval (t .counter) (d .is-reached)))
+      true-both (eq-eqb _ _ (d .is-ready))
+      (true-both
+      (true-both (ap not (ne-eqb _ _ (d .has-beat))) (le-leb interval (t .counter) (d .is-reached)))
       (le-leb 2 (t .places) (d .two-places)))
 
   is-due : test ≡ true → Due program interval b t

@@ -12,7 +12,7 @@ use Rattle.image.specs.Layout.{programOf}
 use Rattle.image.proofs.Accepted.{Accepted}
 use Rattle.task.specs.Frames.{zeroRegister, zeroFork, noForks, integers, startFrame}
 use Rattle.task.specs.Formed.{valueFits, every, forkFits}
-use Rattle.task.proofs.Facts.{every-at}
+use Rattle.task.proofs.EveryLaws.{every-at}
 use Rattle.task.proofs.Formation.{Formed}
 
 integers-fit : (program : Program) (zs : List ℤ) (i : ℕ) → valueFits program (getD (integers zs) i zeroRegister .value) ≡ true

@@ -9,11 +9,11 @@ use lib.IntN.{ℤ, pos}
 use lib.Signed.{ltZ}
 use lib.ListN.{length-set}
 use borrow.Author.Tests.{eqb-true, eqb-false, ltb-true, leb-true, le-leb, lt-ltb}
+use Rattle.facts.proofs.Tests.{clash, both-true, true-both}
 use Rattle.int64.specs.Equal.{eqZ}
 use Rattle.image.specs.declared.Instruction.{Instruction}
 use Rattle.image.specs.Program.{Program}
 use Rattle.image.specs.Layout.{blockCount, instructionCount, blockOf, instructionOf, programOf}
-use Rattle.image.proofs.Booleans.{clash, both-true}
 use Rattle.image.proofs.Accepted.{Accepted}
 use Rattle.task.specs.declared.Value.{Value}
 use Rattle.task.specs.declared.Value.the-variants.{Int, Label, Record}
@@ -35,7 +35,7 @@ use Rattle.task.proofs.Fitting.{fits-is}
 use Rattle.task.proofs.Forks.{opened-fits}
 use Rattle.task.proofs.Effects.{asked-keeps}
 use Rattle.task.proofs.Opcodes.{lasts, After, after}
-use Rattle.task.proofs.Facts.{both-from, set-keeps}
+use Rattle.task.proofs.Facts.{set-keeps}
 use Rattle.task.proofs.Formation.{Formed, Listed, zeros-fit, target-below, target-from}
 
 -- ---- values and status
@@ -184,15 +184,15 @@ module _ (cells : List ℕ) (ok : Accepted cells) (D : ℕ) (room : D ≤ 6) whe
         go true = moved-formed _ 0 x (block-below _ (ok .block b s .label-below))
         go false = moved-formed _ _ x (block-below b s)
     applied-leaves {h} {f} x (forks k b) s = splits-leave h f k b x s
-    applied-leaves {h} {f} x waits s = ended-formed Waiting (x .is) (both-from (lt-ltb 0 (f .task .depth) s) refl)
-    applied-leaves x halts s = ended-formed Halted (x .is) (both-from s refl)
+    applied-leaves {h} {f} x waits s = ended-formed Waiting (x .is) (true-both (lt-ltb 0 (f .task .depth) s) refl)
+    applied-leaves x halts s = ended-formed Halted (x .is) (true-both s refl)
     applied-leaves x (faults n) s = record {
       registers-full = refl;
       forks-full = x .is .forks-full;
       has-places = x .is .has-places;
       has-depth = x .is .has-depth;
       pc-below = ok .some-instruction;
-      status-fits = both-from (le-leb 31 n (s .0)) (both-from (le-leb n 38 (s .1)) refl);
+      status-fits = true-both (le-leb 31 n (s .0)) (true-both (le-leb n 38 (s .1)) refl);
       forks-fit = x .is .forks-fit;
       values-fit = zeros-fit program;
     }

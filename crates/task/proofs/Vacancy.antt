@@ -9,8 +9,8 @@ use lib.IntN.{ℤ, pos, negsuc}
 use lib.ListN.{length, getD, length-replicate, getD-replicate}
 use lib.Seq.{ext-getD}
 use borrow.Author.Tests.{eqb-true}
+use Rattle.facts.proofs.Tests.{clash, both-true}
 use Rattle.int64.specs.Equal.{eqZ}
-use Rattle.image.proofs.Booleans.{clash, both-true}
 use Rattle.task.specs.declared.Value.{Value}
 use Rattle.task.specs.declared.Value.the-variants.{Int, Label, Record}
 use Rattle.task.specs.declared.Status.{Status}
@@ -20,7 +20,7 @@ use Rattle.task.specs.declared.Frame.{Frame}
 use Rattle.task.specs.Frames.{zeroRegister, zeros, zeroFork, noForks, vacant, running}
 use Rattle.task.specs.Step.{register}
 use Rattle.task.specs.Formed.{every, isZero, registersZero, isZeroFork, isFull, atRest, isVacantStatus, isVacant}
-use Rattle.task.proofs.Facts.{every-at}
+use Rattle.task.proofs.EveryLaws.{every-at}
 
 pub vacant-passes : isVacant vacant ≡ true
 unfolding isVacant every

@@ -8,7 +8,7 @@ use native.Mathlib.Omega.{arith}
 use lib.Dec.{ltb}
 use lib.ListN.{length}
 use borrow.Author.Tests.{ltb-true, leb-true, eqb-true}
-use Rattle.agreement.proofs.Facts.{both-true}
+use Rattle.facts.proofs.Tests.{both-true}
 use Rattle.int64.specs.Little.{little}
 use Rattle.image.specs.Layout.{programCells, rows, buffer, cellsIn}
 use Rattle.image.specs.RoundTrip.{Cells}

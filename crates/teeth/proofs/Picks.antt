@@ -7,7 +7,7 @@ use native.Mathlib.Omega.{arith}
 use lib.Dec.{eqb}
 use lib.IntN.{ℤ}
 use lib.ListN.{getD}
-use Rattle.agreement.proofs.Facts.{clash, by-test}
+use Rattle.facts.proofs.Tests.{clash, by-test}
 use Rattle.image.specs.Doors.{unlessRefused}
 use Rattle.task.specs.declared.Status.{Status}
 use Rattle.task.specs.declared.Status.the-variants.{Vacant, Running, Waiting, Halted, Faulted}

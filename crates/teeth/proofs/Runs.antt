@@ -5,7 +5,7 @@ use mathlib.Core.Logic.{_⊎_, inl, inr}
 use mathlib.Core.Bool.{true}
 use mathlib.Core.List.{[]}
 use native.Mathlib.Omega.{arith}
-use Rattle.agreement.proofs.Facts.{clash, by-test}
+use Rattle.facts.proofs.Tests.{clash, by-test}
 use Rattle.machine.specs.declared.Machine.{Machine}
 use Rattle.machine.specs.declared.End.{End}
 use Rattle.machine.specs.declared.Outcome.{Outcome}

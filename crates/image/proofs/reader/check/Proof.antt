@@ -1,7 +1,7 @@
 -- `check` meets its contract.
 use mathlib.Core.Path.{refl}
-use Rattle.image.proofs.Booleans.{clash}
 use borrow.Author.Needs.{needs}
+use Rattle.facts.proofs.Tests.{clash}
 use Rattle.image.proofs.reader.check.Statement.{statement}
 use Rattle.image.proofs.reader.check.Tie as tie
 

@@ -10,7 +10,7 @@ use lib.ListN.{length, getD, set, length-set}
 use lib.Pow.{pow-pos}
 use lib.Seq.{getD-set-same, getD-set-other}
 use borrow.Author.Tests.{ltb-true, not-true, not-false}
-use Rattle.agreement.proofs.Facts.{clash, both-true}
+use Rattle.facts.proofs.Tests.{clash, both-true}
 use Rattle.agreement.specs.Plain.{one}
 use Rattle.agreement.specs.Slots.{due}
 use Rattle.machine.specs.Running.{Run}

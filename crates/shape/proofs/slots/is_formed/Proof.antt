@@ -1,10 +1,10 @@
 -- `is_formed` meets its contract.
+use Rattle.facts.proofs.Tests.{clash}
 use Rattle.image.specs.Layout.{programOf}
 use mathlib.Core.Path.{sym, ap, _∙_}
 use lib.Dec.{leb}
 use borrow.Author.Tests.{not-true, not-false}
 use mathlib.Core.Bool.{_&&_}
-use Rattle.agreement.proofs.Facts.{clash}
 use Rattle.shape.specs.Codes.{grade, framed}
 use Rattle.shape.proofs.SlotWise.{formed-but-forks, unformed}
 use borrow.Author.Needs.{needs}

@@ -1,4 +1,5 @@
 -- `is_vacant` meets its contract.
+use Rattle.facts.proofs.Tests.{clash}
 use Rattle.image.specs.Layout.{programOf}
 use mathlib.Core.Path.{sym, ap, _∙_}
 use lib.Dec.{eqb}
@@ -6,7 +7,6 @@ use borrow.Author.Tests.{not-true, not-false}
 use mathlib.Core.Bool.{_&&_}
 use Rattle.task.specs.Formed.{atRest, isVacantStatus}
 use Rattle.task.specs.declared.Frame.{Frame}
-use Rattle.agreement.proofs.Facts.{clash}
 use Rattle.shape.specs.Codes.{grade, framed}
 use Rattle.shape.proofs.SlotWise.{vacant-but-forks, not-vacant}
 use borrow.Author.Needs.{needs}

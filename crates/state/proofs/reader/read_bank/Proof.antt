@@ -7,7 +7,7 @@ use native.Mathlib.Omega.{arith}
 use lib.ListN.{length-replicate}
 use Rattle.task.specs.declared.Register.{Register}
 use Rattle.task.specs.Frames.{zeroRegister}
-use Rattle.task.proofs.Facts.{every-at}
+use Rattle.task.proofs.EveryLaws.{every-at}
 use Rattle.state.specs.Reading.{standsValue, registerIn, registerPlace}
 use Rattle.state.proofs.Filling.{Filled, filled-none, filled-more, filled-all}
 use Rattle.state.proofs.reader.read_bank.Statement.{statement}

@@ -4,7 +4,7 @@ use mathlib.Core.List.{List}
 use Prim.Native.Nat.{ℕ, _+_, _*_, _-_}
 use native.Mathlib.Omega.{arith}
 use Rattle.task.specs.declared.Fork.{Fork}
-use Rattle.task.proofs.Facts.{every-at}
+use Rattle.task.proofs.EveryLaws.{every-at}
 use Rattle.state.specs.Reading.{standsFork, forkIn}
 use Rattle.state.proofs.Filling.{Filled, filled-none, filled-more, filled-all}
 use Rattle.state.proofs.reader.read_forks.Statement.{statement}

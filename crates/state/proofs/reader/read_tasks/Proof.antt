@@ -5,7 +5,7 @@ use borrow.Author.Needs.{needs}
 use native.Mathlib.Omega.{arith}
 use lib.ListN.{length-replicate}
 use Rattle.task.specs.declared.Task.{Task}
-use Rattle.task.proofs.Facts.{every-at}
+use Rattle.task.proofs.EveryLaws.{every-at}
 use Rattle.state.specs.Reading.{standsTask, taskIn, slotPlace}
 use Rattle.state.proofs.Filling.{Filled, filled-none, filled-more, filled-all}
 use Rattle.state.proofs.reader.read_tasks.Statement.{statement}

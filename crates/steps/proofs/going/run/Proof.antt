@@ -7,7 +7,7 @@ use borrow.Author.Tests.{not-true, not-false, eqb-true}
 use lib.Dec.{eqb}
 use lib.IntN.{ℤ, pos}
 use lib.ListN.{length}
-use Rattle.agreement.proofs.Facts.{both-true}
+use Rattle.facts.proofs.Tests.{both-true}
 use Rattle.machine.specs.declared.Outcome.{Outcome}
 use Rattle.report.specs.Report.{reportOf, reportLength, reportBytes}
 use Rattle.state.specs.State.{stateLength, stateBytes}

@@ -1,7 +1,7 @@
--- Small facts on Bools and numbers that the library lacks.
+-- Tests: two that hold together, one that never holds, and cases by a test.
 use Prim.Native.Nat.{ℕ, _≤_, _<_}
 use mathlib.Core.Path.{_≡_, refl, sym, _∙_}
-use mathlib.Core.Logic.{_⊎_, inl, inr, _≢_}
+use mathlib.Core.Logic.{_⊎_, inl, inr}
 use mathlib.Core.Bool.{Bool, true, false, not, _&&_, true≢false}
 use native.Mathlib.Omega.{arith}
 use lib.Dec.{ltb}
@@ -20,7 +20,18 @@ true-both p q = rw (p, q)
 pub false-not : {a : Bool} → a ≡ false → not a ≡ true
 false-not p = rw p
 
--- by cases, each with what the case says
+pub never : (b : Bool) → (b ≡ true → ⊥) → b ≡ false
+never true h = absurd (h refl)
+never false h = refl
+
+-- two tests that pass together
+pub same : (a b : Bool) → (a ≡ true → b ≡ true) → (b ≡ true → a ≡ true) → a ≡ b
+same true b h k = sym (h refl)
+same false true h k = k refl
+same false false h k = refl
+
+-- ---- by cases, each with what the case says
+
 pub by-test : {A : Type 0} (b : Bool) → (b ≡ true → A) → (b ≡ false → A) → A
 by-test true passed failed = passed refl
 by-test false passed failed = failed refl
@@ -31,10 +42,5 @@ by-below i n below from = by-test (ltb i n) (λ t. below (ltb-true i n t)) (λ t
 pub by-order : {A : Type 0} (i n : ℕ) → (i < n → A) → (i ≡ n → A) → (n < i → A) → A
 by-order i n below equal above = by-below i n below (λ p. by-below n i above (λ q. equal (omega arith)))
 
--- a slot outside the slots from b up to n
-abbrev pub Outside : ℕ → ℕ → ℕ → Type 0
-Outside b n i = (i < b) ⊎ (n ≤ i)
-
-pub outside-apart : {b n i k : ℕ} → Outside b n i → b ≤ k → k < n → i ≢ k
-outside-apart (inl h) x y = omega arith
-outside-apart (inr h) x y = omega arith
+pub below-or-not : (i n : ℕ) → (i < n) ⊎ (n ≤ i)
+below-or-not i n = by-below i n inl inr
