@@ -9,6 +9,26 @@ ghost use lib.Seq.{sets};
 ghost use Rattle.int64.specs.Little.{bytesOf};
 ghost use Rattle.image.specs.Layout.{blockCount, instructionCount, blockIn, blockBytes, blockFrom, blockCell, blockOf, blockCells, instructionIn, instructionBytes, instructionFrom, instructionCell, instructionOf, instructionCells};
 
+// A program buffer: the numbers of blocks and of instructions, then the blocks' cells, then the instructions'.
+pub const BLOCK_COUNT: usize = 0;
+
+pub const INSTRUCTION_COUNT: usize = 1;
+
+pub const FIRST_BLOCK: usize = 2;
+
+pub const BLOCK_CELLS: usize = 6;
+
+pub const FIRST_INSTRUCTION: usize = 770;
+
+pub const INSTRUCTION_CELLS: usize = 5;
+
+pub const PROGRAM_CELLS: usize = 5890;
+
+// The most that it has room for (question 4).
+pub const MOST_BLOCKS: u64 = 128;
+
+pub const MOST_INSTRUCTIONS: u64 = 1024;
+
 // The block whose cells begin at `at`. The crate itself calls it, with the place of a block that the buffer has.
 pub fn block_from(cells: &[u64], at: usize) -> Block
     requires { ⌜ at + 6 ≤ length (now cells) ⌝ }
@@ -29,7 +49,7 @@ pub fn block_of(cells: &[u64], b: usize) -> Block
     requires { ⌜ blockCell b + 6 ≤ length (now cells) ⌝ }
     ensures { λ r. ⌜ r ≡ blockOf (now (cells .entry)) b ⌝ }
 {
-    block_from(cells, 2 + 6 * b)
+    block_from(cells, FIRST_BLOCK + BLOCK_CELLS * b)
 }
 
 // The numbers of blocks and of instructions. Our crates alone call them, with the buffer of an accepted program.
@@ -37,7 +57,7 @@ pub fn block_count(cells: &[u64]) -> u64
     requires { ⌜ 1 < length (now cells) ⌝ }
     ensures { λ r. ⌜ r ≡ blockCount (now (cells .entry)) ⌝ }
 {
-    cells[0]
+    cells[BLOCK_COUNT]
 }
 
 // As above.
@@ -45,7 +65,7 @@ pub fn instruction_count(cells: &[u64]) -> u64
     requires { ⌜ 1 < length (now cells) ⌝ }
     ensures { λ r. ⌜ r ≡ instructionCount (now (cells .entry)) ⌝ }
 {
-    cells[1]
+    cells[INSTRUCTION_COUNT]
 }
 
 // The fields of block b that control looks at, each by itself. `task` and `shape` alone call them, with a block of an accepted program.
@@ -53,7 +73,7 @@ pub fn first_of(cells: &[u64], b: usize) -> u64
     requires { ⌜ blockCell b + 6 ≤ length (now cells) ⌝ }
     ensures { λ r. ⌜ r ≡ blockOf (now (cells .entry)) b .first ⌝ }
 {
-    cells[2 + 6 * b]
+    cells[FIRST_BLOCK + BLOCK_CELLS * b]
 }
 
 // As above.
@@ -61,7 +81,7 @@ pub fn annotation_of(cells: &[u64], b: usize) -> u64
     requires { ⌜ blockCell b + 6 ≤ length (now cells) ⌝ }
     ensures { λ r. ⌜ r ≡ blockOf (now (cells .entry)) b .annotation ⌝ }
 {
-    cells[2 + 6 * b + 1]
+    cells[FIRST_BLOCK + BLOCK_CELLS * b + 1]
 }
 
 // As above.
@@ -69,7 +89,7 @@ pub fn label_of(cells: &[u64], b: usize) -> u64
     requires { ⌜ blockCell b + 6 ≤ length (now cells) ⌝ }
     ensures { λ r. ⌜ r ≡ blockOf (now (cells .entry)) b .label ⌝ }
 {
-    cells[2 + 6 * b + 3]
+    cells[FIRST_BLOCK + BLOCK_CELLS * b + 3]
 }
 
 // The instruction whose cells begin at `at`, as for a block.
@@ -91,7 +111,7 @@ pub fn instruction_of(cells: &[u64], i: usize) -> Instruction
     requires { ⌜ instructionCell i + 5 ≤ length (now cells) ⌝ }
     ensures { λ r. ⌜ r ≡ instructionOf (now (cells .entry)) i ⌝ }
 {
-    instruction_from(cells, 770 + 5 * i)
+    instruction_from(cells, FIRST_INSTRUCTION + INSTRUCTION_CELLS * i)
 }
 
 // The reader alone calls it, with a program buffer whose length it asked and a block below its count.

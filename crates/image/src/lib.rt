@@ -33,7 +33,7 @@ pub fn rewrite(image: &[u8], out: &mut [u8]) -> u8
     ensures { λ r. ⌜ r ≡ rewriteNo (now (image .entry)) (length (now (out .entry))) ⌝ }
     ensures { λ r. ⌜ now (out .exit) ≡ unlessRefused r (now (image .entry)) (now (out .entry)) ⌝ }
 {
-    let mut cells = [0u64; 5890];
+    let mut cells = [0u64; layout::PROGRAM_CELLS];
     let no = reader::scan(image, &mut cells);
     if no != 0 {
         return no;

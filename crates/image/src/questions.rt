@@ -7,8 +7,8 @@ ghost use Prim.Native.Nat.{ℕ, _+_, _-_, _*_, _<_, _≤_};
 ghost use lib.Dec.{eqb, leb};
 ghost use lib.ListN.{length};
 ghost use lib.Seq.{sets};
-ghost use Rattle.image.specs.Layout.{blockCount, instructionCount, blockOf};
-ghost use Rattle.image.specs.Questions.{countsNo, inOrder, rising, unjoined, joined, annotated, blockRecordNo, blockNo, firstNo, fields, laidOut, instructionRecordNo, instructionNo, recordsNo, programNo};
+ghost use Rattle.image.specs.Layout.{blockCount, instructionCount, blockCell, instructionCell, blockOf};
+ghost use Rattle.image.specs.Questions.{mostBlocks, mostInstructions, countsNo, inOrder, rising, unjoined, joined, annotated, blockRecordNo, blockNo, firstNo, fields, laidOut, instructionRecordNo, instructionNo, recordsNo, programNo};
 ghost use Rattle.image.specs.Marks.{flag, Marked, Ended};
 ghost use Rattle.image.specs.Limits.{limitRow, limitRows, largestOf, Limited, blocksBy};
 
@@ -45,13 +45,13 @@ pub fn ask_counts(blocks: u64, instructions: u64) -> u8
     if blocks < 1 {
         return 4;
     }
-    if 128 < blocks {
+    if layout::MOST_BLOCKS < blocks {
         return 4;
     }
     if instructions < 1 {
         return 4;
     }
-    if 1024 < instructions {
+    if layout::MOST_INSTRUCTIONS < instructions {
         return 4;
     }
     0
@@ -150,26 +150,32 @@ pub fn ask_block_record(blocks: u64, instructions: u64, b: usize, before: u64, k
 
 // Where the block before block b starts, which the buffer has; of block 0, which has none, where it starts itself.
 fn first_before(cells: &[u64], b: usize) -> u64
-    requires { ⌜ 2 + 6 * b + 6 ≤ length (now cells) ⌝ }
+    requires { ⌜ blockCell b + 6 ≤ length (now cells) ⌝ }
     ensures { λ r. ⌜ r ≡ blockOf (now (cells .entry)) (b - 1) .first ⌝ }
 {
     if b == 0 {
-        return cells[2];
+        return cells[layout::FIRST_BLOCK];
     }
-    cells[2 + 6 * (b - 1)]
+    cells[layout::FIRST_BLOCK + layout::BLOCK_CELLS * (b - 1)]
 }
 
 // Questions 6 and 7 of block b.
 fn ask_block(cells: &[u64], b: usize) -> u8
-    requires { ⌜ b < 128 ⌝ }
+    requires { ⌜ b < mostBlocks ⌝ }
     ensures { λ r. ⌜ r ≡ blockNo (now (cells .entry)) b ⌝ }
 {
-    if cells.len() < 2 + 6 * b + 6 {
+    if cells.len() < layout::FIRST_BLOCK + layout::BLOCK_CELLS * b + layout::BLOCK_CELLS {
         return 6;
     }
     let before = first_before(cells, b);
     let k = layout::block_of(cells, b);
-    ask_block_record(cells[0], cells[1], b, before, k)
+    ask_block_record(
+        cells[layout::BLOCK_COUNT],
+        cells[layout::INSTRUCTION_COUNT],
+        b,
+        before,
+        k,
+    )
 }
 
 // The limits of an opcode's fields, by its flags: the largest r and s, the least and the largest kind.
@@ -246,18 +252,18 @@ fn is_laid_out(limits: &[u64], largest: &[u64], x: Instruction) -> bool
 
 // Questions 6 and 7 of all blocks. Where all are answered with yes, marks the instructions that start a block.
 fn ask_blocks(cells: &[u64], marks: &mut [u8]) -> u8
-    requires { ⌜ (1 < length (now cells)) × (blockCount (now cells) ≤ 128) × (instructionCount (now cells) ≤ 1024) × Marked (now cells) 0 (now marks) ⌝ }
+    requires { ⌜ (1 < length (now cells)) × (blockCount (now cells) ≤ mostBlocks) × (instructionCount (now cells) ≤ mostInstructions) × Marked (now cells) 0 (now marks) ⌝ }
     ensures { λ r. ⌜ r ≡ firstNo (blockNo (now (cells .entry))) (blockCount (now (cells .entry))) 0 ⌝ }
     ensures { λ r. ⌜ (r ≡ 0 → Marked (now (cells .entry)) (blockCount (now (cells .entry))) (now (marks .exit))) ⌝ }
 {
-    let blocks = cells[0] as usize;
+    let blocks = cells[layout::BLOCK_COUNT] as usize;
     let mut b = 0;
     while b < blocks {
         let no = ask_block(cells, b);
         if no != 0 {
             return no;
         }
-        let first = cells[2 + 6 * b] as usize;
+        let first = cells[layout::FIRST_BLOCK + layout::BLOCK_CELLS * b] as usize;
         marks[first] = 1;
         b = b + 1;
     }
@@ -291,23 +297,23 @@ pub fn ask_instruction(limits: &[u64], largest: &[u64], x: Instruction, last: u8
 
 // How many of its instructions the buffer has, so that the loop need not ask at each.
 fn instructions_held(cells: &[u64]) -> usize
-    requires { ⌜ (1 < length (now cells)) × (instructionCount (now cells) ≤ 1024) ⌝ }
-    ensures { λ r. ⌜ (r ≤ instructionCount (now (cells .entry))) × ((i : ℕ) → i < r → 770 + 5 * i + 5 ≤ length (now (cells .entry)))
-        × (r < instructionCount (now (cells .entry)) → length (now (cells .entry)) < 770 + 5 * r + 5) ⌝ }
+    requires { ⌜ (1 < length (now cells)) × (instructionCount (now cells) ≤ mostInstructions) ⌝ }
+    ensures { λ r. ⌜ (r ≤ instructionCount (now (cells .entry))) × ((i : ℕ) → i < r → instructionCell i + 5 ≤ length (now (cells .entry)))
+        × (r < instructionCount (now (cells .entry)) → length (now (cells .entry)) < instructionCell r + 5) ⌝ }
 {
-    let instructions = cells[1] as usize;
-    if 770 + 5 * instructions <= cells.len() {
+    let instructions = cells[layout::INSTRUCTION_COUNT] as usize;
+    if layout::FIRST_INSTRUCTION + layout::INSTRUCTION_CELLS * instructions <= cells.len() {
         return instructions;
     }
-    if cells.len() < 770 {
+    if cells.len() < layout::FIRST_INSTRUCTION {
         return 0;
     }
-    (cells.len() - 770) / 5
+    (cells.len() - layout::FIRST_INSTRUCTION) / layout::INSTRUCTION_CELLS
 }
 
 // Questions 8 and 9 of all instructions.
 fn ask_instructions(limits: &[u64], largest: &[u64], cells: &[u64], marks: &[u8]) -> u8
-    requires { ⌜ Limited (blockCount (now cells)) (now limits) (now largest) × (1 < length (now cells)) × (instructionCount (now cells) ≤ 1024) × Ended (now cells) (now marks) ⌝ }
+    requires { ⌜ Limited (blockCount (now cells)) (now limits) (now largest) × (1 < length (now cells)) × (instructionCount (now cells) ≤ mostInstructions) × Ended (now cells) (now marks) ⌝ }
     ensures { λ r. ⌜ r ≡ firstNo (instructionNo (now (cells .entry))) (instructionCount (now (cells .entry))) 0 ⌝ }
 {
     let held = instructions_held(cells);
@@ -320,7 +326,7 @@ fn ask_instructions(limits: &[u64], largest: &[u64], cells: &[u64], marks: &[u8]
         }
         i = i + 1;
     }
-    if held < cells[1] as usize {
+    if held < cells[layout::INSTRUCTION_COUNT] as usize {
         return 8;
     }
     0
@@ -336,11 +342,11 @@ pub fn ask_records(cells: &[u64]) -> u8
     if no != 0 {
         return no;
     }
-    let end = cells[1] as usize;
+    let end = cells[layout::INSTRUCTION_COUNT] as usize;
     marks[end] = 1;
     let mut limits = [0u64; 60];
     all_limits(&mut limits);
-    let largest = largest_operands(cells[0]);
+    let largest = largest_operands(cells[layout::BLOCK_COUNT]);
     ask_instructions(&limits, &largest, cells, &marks)
 }
 
@@ -351,7 +357,7 @@ pub fn ask_program(cells: &[u64]) -> u8
     if cells.len() < 2 {
         return 4;
     }
-    let no = ask_counts(cells[0], cells[1]);
+    let no = ask_counts(cells[layout::BLOCK_COUNT], cells[layout::INSTRUCTION_COUNT]);
     if no != 0 {
         return no;
     }

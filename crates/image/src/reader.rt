@@ -101,12 +101,12 @@ pub fn read(image: &[u8], cells: &mut [u64]) -> u8
     ensures { λ r. ⌜ r ≡ readNo (now (image .entry)) (length (now (cells .entry))) ⌝ }
     ensures { λ r. ⌜ now (cells .exit) ≡ unlessRefused r (cellsIn (now (image .entry))) (now (cells .entry)) ⌝ }
 {
-    let mut program = [0u64; 5890];
+    let mut program = [0u64; layout::PROGRAM_CELLS];
     let no = scan(image, &mut program);
     if no != 0 {
         return no;
     }
-    if cells.len() != 5890 {
+    if cells.len() != layout::PROGRAM_CELLS {
         return 15;
     }
     copy(&program, cells);

@@ -8,7 +8,7 @@ ghost use mathlib.Core.List.{[], _∷_};
 ghost use Prim.Native.Nat.{_+_, _-_, _<_, _≤_};
 ghost use lib.ListN.{length};
 ghost use lib.Seq.{sets};
-ghost use Rattle.image.specs.Layout.{blockPlace, instructionPlace, blocksIn, instructionsIn, programCells, blockIn, instructionIn, blockCells, instructionCells, blockCellsIn, instructionCellsIn, recordsLaid, cellsIn};
+ghost use Rattle.image.specs.Layout.{blockPlace, instructionPlace, blocksIn, instructionsIn, programCells, firstInstructionCell, blockIn, instructionIn, blockCells, instructionCells, blockCellsIn, instructionCellsIn, recordsLaid, cellsIn};
 ghost use Rattle.image.specs.Questions.{firstNo, blockNo, instructionNo, recordsNo};
 ghost use Rattle.image.specs.Marks.{Marked, Ended};
 ghost use Rattle.image.specs.Limits.{Limited};
@@ -53,7 +53,7 @@ fn walk_blocks(image: &[u8], marks: &mut [u8], lays: bool, cells: &mut [u64]) ->
 {
     let blocks = layout::wide(image[5]) as usize;
     let mut at = 8;
-    let mut to = 2;
+    let mut to = layout::FIRST_BLOCK;
     let mut before = 0;
     let mut b = 0;
     while b < blocks {
@@ -114,11 +114,11 @@ fn walk_instructions(
     ensures { λ r. ⌜ r .no ≡ firstNo (instructionNo (cellsIn (now (image .entry)))) (instructionsIn (now (image .entry))) 0 ⌝ }
     ensures { λ r. ⌜ r .at ≡ instructionsOffset (now (image .entry)) ⌝ }
     ensures { λ r. ⌜ (r .no ≡ 0 → now (cells .exit) ≡ cond lays
-        (sets (now (cells .entry)) 770 (instructionCellsIn (now (image .entry)) (instructionsIn (now (image .entry))))) (now (cells .entry))) ⌝ }
+        (sets (now (cells .entry)) firstInstructionCell (instructionCellsIn (now (image .entry)) (instructionsIn (now (image .entry))))) (now (cells .entry))) ⌝ }
 {
     let instructions = int64::read_u16(image, 6) as usize;
     let mut at = start;
-    let mut to = 770;
+    let mut to = layout::FIRST_INSTRUCTION;
     let mut i = 0;
     while i < instructions {
         let no = ask_instruction_in(limits, largest, image, marks, i, at);
@@ -159,7 +159,7 @@ pub fn lay_counts(image: &[u8], lays: bool, cells: &mut [u64])
     ensures { λ _. ⌜ now (cells .exit) ≡ cond lays (sets (now (cells .entry)) 0 (blocksIn (now (image .entry)) ∷ instructionsIn (now (image .entry)) ∷ [])) (now (cells .entry)) ⌝ }
 {
     if lays {
-        cells[0] = layout::wide(image[5]);
-        cells[1] = int64::read_u16(image, 6);
+        cells[layout::BLOCK_COUNT] = layout::wide(image[5]);
+        cells[layout::INSTRUCTION_COUNT] = int64::read_u16(image, 6);
     }
 }

@@ -6,7 +6,7 @@ ghost use Prim.Native.Nat.{_<_, _≤_};
 ghost use lib.ListN.{length};
 ghost use lib.Seq.{sets};
 ghost use Rattle.image.specs.Layout.{rows, blockPlace, imageLength, programCells, blockCount, instructionCount, blockOf, instructionOf, blockBytes, instructionBytes, headerOf, imageOf};
-ghost use Rattle.image.specs.Questions.{countsNo};
+ghost use Rattle.image.specs.Questions.{mostBlocks, mostInstructions, countsNo};
 ghost use Rattle.image.specs.Doors.{writeNo, unlessRefused};
 
 // The mark, the version and the two counts.
@@ -19,19 +19,19 @@ fn encode_header(cells: &[u64], image: &mut [u8])
     image[1] = mark[1];
     image[2] = mark[2];
     int64::write_u16(image, 3, 1);
-    image[5] = (cells[0] % 256) as u8;
-    int64::write_u16(image, 6, cells[1]);
+    image[5] = (cells[layout::BLOCK_COUNT] % 256) as u8;
+    int64::write_u16(image, 6, cells[layout::INSTRUCTION_COUNT]);
 }
 
 // Writes the blocks' records one after the other, and hands back the offset of the last one's end.
 fn encode_blocks(cells: &[u64], image: &mut [u8]) -> usize
-    requires { ⌜ (length (now cells) ≡ programCells) × (blockCount (now cells) ≤ 128) × (blockPlace (blockCount (now cells)) ≤ length (now image)) ⌝ }
+    requires { ⌜ (length (now cells) ≡ programCells) × (blockCount (now cells) ≤ mostBlocks) × (blockPlace (blockCount (now cells)) ≤ length (now image)) ⌝ }
     ensures { λ r. ⌜ r ≡ blockPlace (blockCount (now (cells .entry))) ⌝ }
     ensures { λ _. ⌜ now (image .exit) ≡ sets (now (image .entry)) (blockPlace 0) (rows (λ b. blockBytes (blockOf (now (cells .entry)) b)) (blockCount (now (cells .entry)))) ⌝ }
 {
-    let blocks = cells[0];
+    let blocks = cells[layout::BLOCK_COUNT];
     let mut at = 8;
-    let mut from = 2;
+    let mut from = layout::FIRST_BLOCK;
     let mut b = 0;
     while b < blocks {
         let k = layout::block_from(cells, from);
@@ -45,15 +45,15 @@ fn encode_blocks(cells: &[u64], image: &mut [u8]) -> usize
 
 // The instructions' records likewise, from the last block's end on.
 fn encode_instructions(cells: &[u64], start: usize, image: &mut [u8]) -> usize
-    requires { ⌜ (length (now cells) ≡ programCells) × (instructionCount (now cells) ≤ 1024) × (start ≡ blockPlace (blockCount (now cells)))
+    requires { ⌜ (length (now cells) ≡ programCells) × (instructionCount (now cells) ≤ mostInstructions) × (start ≡ blockPlace (blockCount (now cells)))
         × (length (now image) ≡ imageLength (blockCount (now cells)) (instructionCount (now cells))) ⌝ }
     ensures { λ r. ⌜ r ≡ length (now (image .entry)) ⌝ }
     ensures { λ _. ⌜ now (image .exit) ≡ sets (now (image .entry)) (blockPlace (blockCount (now (cells .entry))))
         (rows (λ i. instructionBytes (instructionOf (now (cells .entry)) i)) (instructionCount (now (cells .entry)))) ⌝ }
 {
-    let instructions = cells[1];
+    let instructions = cells[layout::INSTRUCTION_COUNT];
     let mut at = start;
-    let mut from = 770;
+    let mut from = layout::FIRST_INSTRUCTION;
     let mut i = 0;
     while i < instructions {
         let x = layout::instruction_from(cells, from);
@@ -84,10 +84,12 @@ pub fn write(cells: &[u64], image: &mut [u8]) -> u8
     if no != 0 {
         return no;
     }
-    if cells.len() != 5890 {
+    if cells.len() != layout::PROGRAM_CELLS {
         return 15;
     }
-    if image.len() as u64 != 8 + 10 * cells[0] + 12 * cells[1] {
+    if image.len() as u64
+        != 8 + 10 * cells[layout::BLOCK_COUNT] + 12 * cells[layout::INSTRUCTION_COUNT]
+    {
         return 15;
     }
     encode(cells, image);

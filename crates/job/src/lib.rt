@@ -1,8 +1,13 @@
 // The exports: what a program in C or another language calls. Numbers and byte slices only.
 pub mod input;
 
+use image::layout::PROGRAM_CELLS;
 use machine::Machine;
+use machine::start::MOST_WORDS;
+use report::REPORT_BYTES;
 use report::Report;
+use report::TEXT_BYTES;
+use state::STATE_BYTES;
 ghost use mathlib.Core.Path.{_≡_};
 ghost use lib.ListN.{length};
 ghost use Rattle.image.specs.Layout.{cellsIn};
@@ -15,6 +20,9 @@ ghost use Rattle.report.specs.Report.{reportBytes};
 ghost use Rattle.job.specs.Replay.{jobIn, replayNo, replayOf};
 ghost use Rattle.steps.specs.Calls.{readNo, programAfter, writtenNo, imageAfter, startedNo, stateAfterStart, pickedNo, stateAfterPick, ranNo, stateAfterRun, reportAfterRun};
 ghost use Rattle.job.specs.Run.{reportIn, runNo, textLength, textStored};
+
+// The words that fit into the small one of a job's two buffers.
+const FEW_WORDS: usize = 256;
 
 // The image check: 0, or the number of the first question, 1 to 9, that is answered with no.
 #[no_mangle]
@@ -55,15 +63,15 @@ pub extern "C" fn tpal_replay(job: &[u8], order: &[u8], state: &mut [u8]) -> u8
     ensures { λ r. ⌜ now (state .exit) ≡ unlessRefused r (stateBytes (replayOf (now (job .entry)) (now (order .entry)))) (now (state .entry)) ⌝ }
     ensures { λ r. ⌜ (r ≡ 0 → WhateverTheOrder (jobIn (now (job .entry))) (startOn (jobIn (now (job .entry))) (empty 0 0)) (now (order .entry))) ⌝ }
 {
-    let mut cells = [0u64; 5890];
+    let mut cells = [0u64; PROGRAM_CELLS];
     let no = input::ask_job(job, &mut cells);
     if no != 0 {
         return no;
     }
-    if state.len() != 34328 {
+    if state.len() != STATE_BYTES {
         return 15;
     }
-    let mut words = [0i64; 4096];
+    let mut words = [0i64; MOST_WORDS];
     let count = input::word_count(job);
     let machine = carry_out(job, &cells, &mut words[..count], order);
     state::writer::write_state(machine, state);
@@ -93,11 +101,11 @@ fn run_accepted(job: &[u8], cells: &[u64], budget: u64) -> Report
     ensures { λ r. ⌜ r ≡ reportIn (now (job .entry)) budget ⌝ }
 {
     let count = input::word_count(job);
-    if count <= 256 {
-        let mut few = [0i64; 256];
+    if count <= FEW_WORDS {
+        let mut few = [0i64; FEW_WORDS];
         return run_job(job, cells, &mut few[..count], budget);
     }
-    let mut words = [0i64; 4096];
+    let mut words = [0i64; MOST_WORDS];
     run_job(job, cells, &mut words[..count], budget)
 }
 
@@ -108,12 +116,12 @@ pub extern "C" fn tpal_job_run(job: &[u8], budget: u64, out: &mut [u8]) -> u8
     ensures { λ r. ⌜ r ≡ runNo (now (job .entry)) (length (now (out .entry))) ⌝ }
     ensures { λ r. ⌜ now (out .exit) ≡ unlessRefused r (reportBytes (reportIn (now (job .entry)) budget)) (now (out .entry)) ⌝ }
 {
-    let mut cells = [0u64; 5890];
+    let mut cells = [0u64; PROGRAM_CELLS];
     let no = input::ask_job(job, &mut cells);
     if no != 0 {
         return no;
     }
-    if out.len() != 424 {
+    if out.len() != REPORT_BYTES {
         return 15;
     }
     let r = run_accepted(job, &cells, budget);
@@ -128,10 +136,10 @@ pub extern "C" fn tpal_job_text(job: &[u8], budget: u64, out: &mut [u8]) -> u64
     ensures { λ r. ⌜ r ≡ textLength (now (job .entry)) budget (length (now (out .entry))) ⌝ }
     ensures { λ r. ⌜ now (out .exit) ≡ textStored (now (job .entry)) budget (now (out .entry)) ⌝ }
 {
-    if out.len() != 1024 {
+    if out.len() != TEXT_BYTES {
         return 0;
     }
-    let mut cells = [0u64; 5890];
+    let mut cells = [0u64; PROGRAM_CELLS];
     let no = input::ask_job(job, &mut cells);
     if no != 0 {
         return report::text::write_refused(no, out) as u64;

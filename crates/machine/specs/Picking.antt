@@ -15,6 +15,7 @@ use Rattle.task.specs.Step.{step}
 use Rattle.machine.specs.declared.Machine.{Machine}
 use Rattle.machine.specs.Slots.{at, ticked, slotsOf}
 use Rattle.machine.specs.Ending.{jobEnded}
+use Rattle.machine.specs.Starting.{mostWords}
 use Rattle.machine.specs.Shape.{shape}
 
 -- Slot below P? (21) Job not ended? (22) A running task there? (23) Work below 4,294,967,295? (24)
@@ -27,7 +28,7 @@ slotNo m k =
 unfoldable pub stateNoBy : List ℕ → ℕ → Machine → ℕ
 stateNoBy cells words m =
     orElse (programNo cells)
-    (ask (leb words 4096) 14 (ask (eqb (length cells) programCells) 15 (ask (shape (programOf cells) m) 20 0)))
+    (ask (leb words mostWords) 14 (ask (eqb (length cells) programCells) 15 (ask (shape (programOf cells) m) 20 0)))
 
 abbrev pub stateNo : List ℕ → List ℤ → Machine → ℕ
 stateNo cells words m = stateNoBy cells (length words) m

@@ -7,7 +7,7 @@ use lib.Seq.{sets}
 use Rattle.agreement.specs.Slots.{Slots}
 use Rattle.image.specs.Program.{Program}
 use Rattle.task.specs.declared.Frame.{Frame}
-use Rattle.task.specs.Frames.{zeroRegister, vacant, noTask, running}
+use Rattle.task.specs.Frames.{bankLength, zeroRegister, vacant, noTask, running}
 use Rattle.task.specs.Step.{join}
 use Rattle.task.specs.Stretches.{reads}
 use Rattle.machine.specs.declared.Machine.{Machine}
@@ -28,7 +28,7 @@ put m k f = record {
 
 -- the arrays have their lengths, as in the code they always have
 pub record Sized (m : Machine) : Type 0 where
-  pub of-bank : length (m .bank) ≡ 1024
+  pub of-bank : length (m .bank) ≡ bankLength
   pub of-tasks : length (m .tasks) ≡ 64
 
 -- 1 more work

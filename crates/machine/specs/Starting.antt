@@ -8,7 +8,7 @@ use lib.ListN.{length, replicate}
 use Rattle.image.specs.Layout.{programCells}
 use Rattle.image.specs.Questions.{ask, orElse, programNo}
 use Rattle.image.specs.Doors.{unlessRefused}
-use Rattle.task.specs.Frames.{zeroRegister, vacantTask, integers, startFrame}
+use Rattle.task.specs.Frames.{bankLength, zeroRegister, vacantTask, integers, startFrame}
 use Rattle.machine.specs.declared.Machine.{Machine}
 use Rattle.machine.specs.Slots.{put}
 
@@ -29,6 +29,9 @@ placesAllowed places = ltb (rank places) 7
 abbrev pub intervalAllowed : ℕ → Bool
 intervalAllowed interval = eqb interval 0 || (leb 8 interval && leb interval 65535)
 
+abbrev pub mostWords : ℕ
+mostWords = 4096
+
 -- P allowed? (11) Interval 0 or 8 to 65,535? (12) Sixteen registers? (13) At most 4,096 words? (14) Every lent buffer of the length docs/
 -- names? (15) Of registers, words and the program buffer only their number counts
 abbrev pub settingsNo : ℕ → ℕ → ℕ → ℕ → ℕ → ℕ
@@ -36,7 +39,7 @@ settingsNo places interval registers words cells =
     ask (placesAllowed places) 11
     (ask (intervalAllowed interval) 12
     (ask (eqb registers 16) 13
-    (ask (leb words 4096) 14
+    (ask (leb words mostWords) 14
     (ask (eqb cells programCells) 15 0))))
 
 -- the program's questions first
@@ -53,7 +56,7 @@ empty places interval = record {
   places = places;
   interval = interval;
   work = 0;
-  bank = replicate 1024 zeroRegister;
+  bank = replicate bankLength zeroRegister;
   tasks = replicate 64 vacantTask;
 }
 

@@ -11,15 +11,15 @@ use task::Kind;
 use task::Register;
 use task::Status;
 use task::Task;
-use task::running::is_running;
 use task::Value;
+use task::running::is_running;
 ghost use mathlib.Core.Path.{_≡_};
 ghost use mathlib.Core.Bool.{true, cond, not, _&&_};
 ghost use Prim.Native.Nat.{_+_, _<_, _≤_};
 ghost use lib.ListN.{length};
 ghost use Rattle.image.specs.Layout.{programCells, programOf};
 ghost use Rattle.image.specs.Questions.{programNo};
-ghost use Rattle.task.specs.Frames.{zeroRegister};
+ghost use Rattle.task.specs.Frames.{zeroRegister, workLimit};
 ghost use Rattle.task.specs.Values.{recordOf};
 ghost use Rattle.task.specs.Step.{counted, ended, side};
 ghost use Rattle.machine.specs.Shape.{shape};
@@ -32,7 +32,7 @@ fn goes_on(left: u64, work: u32, idle: u64, places: u64) -> bool
     if left <= 0 {
         return false;
     }
-    if 4294967295 <= work {
+    if task::WORK_LIMIT <= work {
         return false;
     }
     idle < places
@@ -71,7 +71,7 @@ fn record_of(v: Value) -> Fork
 
 // The task that an instruction has ended: it waits, has halted or has faulted. The caller has found the work below its limit.
 fn ended_task(status: Status, t: Task) -> Task
-    requires { ⌜ t .span < 4294967295 ⌝ }
+    requires { ⌜ t .span < workLimit ⌝ }
     ensures { λ r. ⌜ r ≡ ended status (counted t) ⌝ }
 {
     let forks = t.forks;
@@ -89,7 +89,7 @@ fn ended_task(status: Status, t: Task) -> Task
 // A side of a fork opened under this record: the parent's goes on at pc with its counter, the child's begins there with counter 0. The
 // caller has found the work below its limit, and an instruction that forks leaves room for an open fork more.
 fn side_task(under: Fork, pc: u16, counter: u32, t: Task) -> Task
-    requires { ⌜ (t .span < 4294967295) × (t .depth < 6) ⌝ }
+    requires { ⌜ (t .span < workLimit) × (t .depth < 6) ⌝ }
     ensures { λ r. ⌜ r ≡ side under pc counter (counted t) ⌝ }
 {
     let mut n = t;

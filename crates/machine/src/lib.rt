@@ -13,7 +13,7 @@ pub struct Machine {
     pub places: u64,
     pub interval: u16,
     pub work: u32,
-    pub bank: [Register; 1024],
+    pub bank: [Register; task::BANK],
     pub tasks: [Task; 64],
 }
 

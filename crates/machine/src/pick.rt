@@ -81,7 +81,7 @@ fn ask_slot(m: Machine, t: Task, slot: u64) -> u8
     if !is_running(status) {
         return 23;
     }
-    if 4294967295 <= m.work {
+    if task::WORK_LIMIT <= m.work {
         return 24;
     }
     0
@@ -117,10 +117,10 @@ pub fn ask_state(cells: &[u64], words: usize, m: Machine) -> u8
     if no != 0 {
         return no;
     }
-    if 4096 < words {
+    if start::MOST_WORDS < words {
         return 14;
     }
-    if cells.len() != 5890 {
+    if cells.len() != image::layout::PROGRAM_CELLS {
         return 15;
     }
     if !meets_shape(cells, m) {

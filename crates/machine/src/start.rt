@@ -11,6 +11,9 @@ ghost use lib.ListN.{length};
 ghost use Rattle.task.specs.Frames.{noForks};
 ghost use Rattle.machine.specs.Starting.{rank, placesAllowed, intervalAllowed, settingsNo, startNoBy, startNo, empty, fresh, started};
 
+// The most words of a call record (question 14).
+pub const MOST_WORDS: usize = 4096;
+
 // The power of two that P is, or 7 where P is not allowed.
 pub fn rank_of(places: u64) -> usize
     ensures { λ r. ⌜ r ≡ rank places ⌝ }
@@ -65,10 +68,10 @@ pub fn ask_settings(places: u64, interval: u64, registers: usize, words: usize, 
     if registers != 16 {
         return 13;
     }
-    if 4096 < words {
+    if MOST_WORDS < words {
         return 14;
     }
-    if cells != 5890 {
+    if cells != image::layout::PROGRAM_CELLS {
         return 15;
     }
     0
@@ -113,7 +116,7 @@ fn empty_machine(places: u64, interval: u16) -> Machine
         value: Value::Int(0),
     };
     let vacant = unforked(Status::Vacant, 0);
-    let bank = [zero; 1024];
+    let bank = [zero; task::BANK];
     let tasks = [vacant; 64];
     Machine {
         places,
@@ -136,7 +139,7 @@ pub fn fresh_machine(places: u64, interval: u16, registers: &[i64]) -> Machine
     let vacant = unforked(Status::Vacant, 0);
     let mut tasks = [vacant; 64];
     tasks[0] = unforked(Status::Running, places);
-    let mut bank = [zero; 1024];
+    let mut bank = [zero; task::BANK];
     let mut i = 0;
     while i < 16 {
         bank[i] = Register {

@@ -15,6 +15,7 @@ use Rattle.task.specs.Frames.{running, workLimit}
 use Rattle.machine.specs.declared.Machine.{Machine}
 use Rattle.machine.specs.Slots.{at, Sized}
 use Rattle.machine.specs.Ending.{jobEnded}
+use Rattle.machine.specs.Starting.{mostWords}
 use Rattle.machine.specs.Shape.{shape}
 use Rattle.machine.specs.Picking.{pickNo, picked}
 use Rattle.orders.specs.Demand.{Job, Accepted, startOn, played}
@@ -46,7 +47,7 @@ pub record ShapeEnsures (cells : List ℕ) (words : List ℤ) (m : Machine) : Ty
   pub open-runs : jobEnded m ≡ false → (k : ℕ) × (k < m .places) × (running (at m k) ≡ true)
   pub ended-idle : jobEnded m ≡ true → (k : ℕ) → k < m .places → running (at m k) ≡ false
   -- below the limit, with lent buffers that 14 and 15 let pass, a running task can be picked
-  pub running-pickable : leb (length words) 4096 ≡ true → eqb (length cells) programCells ≡ true
+  pub running-pickable : leb (length words) mostWords ≡ true → eqb (length cells) programCells ≡ true
       → (k : ℕ) → k < m .places → running (at m k) ≡ true → m .work < workLimit → pickNo cells words m k ≡ 0
 
 abbrev pub EveryShape : Type 0

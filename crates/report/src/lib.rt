@@ -13,6 +13,11 @@ ghost use mathlib.Core.Path.{_≡_};
 ghost use mathlib.Core.Bool.{true};
 ghost use Rattle.report.specs.Report.{reportBy, reportOf};
 
+// The length of a report's bytes, and the room that its text is given.
+pub const REPORT_BYTES: usize = 424;
+
+pub const TEXT_BYTES: usize = 1024;
+
 // Of a spent job, one that has not ended, the span is 0 and the registers are 16 integers 0.
 pub struct Report {
     pub end: End,

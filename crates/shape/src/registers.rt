@@ -66,13 +66,13 @@ fn larger(a: u8, b: u8) -> u8
 }
 
 // The worst grade of each slot's 16 registers. `machine` alone calls it, in the shape test; `Stored`: as above.
-pub fn grade_slots(cells: &[u64], bank: [Register; 1024]) -> [u8; 64]
+pub fn grade_slots(cells: &[u64], bank: [Register; task::BANK]) -> [u8; 64]
     requires { ⌜ Stored (now cells) ⌝ }
     ensures { λ r. ⌜ GradedSlots (programOf (now (cells .entry))) bank r ⌝ }
 {
     let mut grades = [0u8; 64];
     let mut i: usize = 0;
-    while i < 1024 {
+    while i < task::BANK {
         let register = bank[i];
         let v = register.value;
         let grade = grade_of(cells, v);

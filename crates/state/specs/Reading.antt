@@ -7,6 +7,7 @@ use mir.Val.{toZ}
 use lib.Dec.{eqb, ltb, leb}
 use lib.ListN.{length}
 use Rattle.int64.specs.Little.{little}
+use Rattle.task.specs.Frames.{bankLength}
 use Rattle.task.specs.declared.Value.{Value}
 use Rattle.task.specs.declared.Value.the-variants.{Int, Label, Record}
 use Rattle.task.specs.declared.Register.{Register}
@@ -105,7 +106,7 @@ standsState bytes =
     eqb (length bytes) stateLength
     && (in16 (numberAt bytes 8)
     && (in32 (numberAt bytes 16)
-    && (every (λ k. standsTask bytes (slotPlace k)) 64 0 && every (λ i. standsValue bytes (registerPlace i)) 1024 0)))
+    && (every (λ k. standsTask bytes (slotPlace k)) 64 0 && every (λ i. standsValue bytes (registerPlace i)) bankLength 0)))
 
 -- then this is it
 unfoldable pub stateIn : List ℕ → Machine
@@ -113,6 +114,6 @@ stateIn bytes = record {
   places = numberAt bytes 0;
   interval = numberAt bytes 8;
   work = numberAt bytes 16;
-  bank = table (λ i. registerIn bytes (registerPlace i)) 1024;
+  bank = table (λ i. registerIn bytes (registerPlace i)) bankLength;
   tasks = table (λ k. taskIn bytes (slotPlace k)) 64;
 }

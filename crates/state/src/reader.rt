@@ -13,6 +13,7 @@ ghost use Rattle.task.specs.Formed.{every};
 ghost use Rattle.state.specs.State.{stateLength};
 ghost use Rattle.state.specs.Reading.{table, numberAt, in16, in32, isValue, standsValue, registerIn, isStatus, statusOf};
 ghost use Rattle.state.specs.Reading.{standsFork, forkIn, standsTask, taskIn, slotPlace, registerPlace, standsState, stateIn};
+ghost use Rattle.task.specs.Frames.{bankLength};
 
 // ---- Whether the bytes stand for a state
 
@@ -151,7 +152,7 @@ fn stands_tasks(bytes: &[u8]) -> bool
 
 // Where register i of the bank stands.
 fn register_place(i: usize) -> usize
-    requires { ⌜ i < 1024 ⌝ }
+    requires { ⌜ i < bankLength ⌝ }
     ensures { λ r. ⌜ (r ≡ registerPlace i) × (r + 24 ≤ stateLength) ⌝ }
 {
     24 + 536 * (i / 16) + 152 + 24 * (i % 16)
@@ -159,10 +160,10 @@ fn register_place(i: usize) -> usize
 
 fn stands_bank(bytes: &[u8]) -> bool
     requires { ⌜ length (now bytes) ≡ stateLength ⌝ }
-    ensures { λ r. ⌜ r ≡ every (λ i. standsValue (now (bytes .entry)) (registerPlace i)) 1024 0 ⌝ }
+    ensures { λ r. ⌜ r ≡ every (λ i. standsValue (now (bytes .entry)) (registerPlace i)) bankLength 0 ⌝ }
 {
     let mut i = 0;
-    while i < 1024 {
+    while i < task::BANK {
         if !stands_value(bytes, register_place(i)) {
             return false;
         }
@@ -174,7 +175,7 @@ fn stands_bank(bytes: &[u8]) -> bool
 pub fn stands_state(bytes: &[u8]) -> bool
     ensures { λ r. ⌜ r ≡ standsState (now (bytes .entry)) ⌝ }
 {
-    if bytes.len() != 34328 {
+    if bytes.len() != crate::STATE_BYTES {
         return false;
     }
     if !stands_16(bytes, 8) {
@@ -295,15 +296,15 @@ fn read_tasks(bytes: &[u8]) -> [Task; 64]
     tasks
 }
 
-fn read_bank(bytes: &[u8]) -> [Register; 1024]
-    requires { ⌜ (length (now bytes) ≡ stateLength) × (every (λ i. standsValue (now bytes) (registerPlace i)) 1024 0 ≡ true) ⌝ }
-    ensures { λ r. ⌜ r ≡ table (λ i. registerIn (now (bytes .entry)) (registerPlace i)) 1024 ⌝ }
+fn read_bank(bytes: &[u8]) -> [Register; task::BANK]
+    requires { ⌜ (length (now bytes) ≡ stateLength) × (every (λ i. standsValue (now bytes) (registerPlace i)) bankLength 0 ≡ true) ⌝ }
+    ensures { λ r. ⌜ r ≡ table (λ i. registerIn (now (bytes .entry)) (registerPlace i)) bankLength ⌝ }
 {
     let mut bank = [Register {
         value: Value::Int(0),
-    }; 1024];
+    }; task::BANK];
     let mut i = 0;
-    while i < 1024 {
+    while i < task::BANK {
         bank[i] = read_register(bytes, register_place(i));
         i = i + 1;
     }

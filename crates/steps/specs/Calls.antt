@@ -9,7 +9,7 @@ use Rattle.image.specs.Questions.{ask, orElse, programNo}
 use Rattle.image.specs.Doors.{imageNo, writeNo, unlessRefused}
 use Rattle.machine.specs.declared.Machine.{Machine}
 use Rattle.machine.specs.declared.Outcome.{Outcome}
-use Rattle.machine.specs.Starting.{empty, startNo, started}
+use Rattle.machine.specs.Starting.{mostWords, empty, startNo, started}
 use Rattle.machine.specs.Picking.{stateNo, pickNo, picked}
 use Rattle.machine.specs.Running.{outcome}
 use Rattle.state.specs.Numbers.{inBytes}
@@ -58,7 +58,7 @@ stateAfterStart program places interval registers words state =
 unfoldable pub lentNo : List ℕ → List ℕ → Bool → List ℕ → ℕ
 lentNo program words others state =
     orElse (programNo (cellsOf program))
-    (ask (leb (wholes words) 4096) 14
+    (ask (leb (wholes words) mostWords) 14
     (ask (eqb (length program) programBytes && (isWhole words && others)) 15 (ask (standsState state) 20 0)))
 
 -- these, and then the pick's questions of the state that they stand for: 20 to 24

@@ -1,4 +1,5 @@
 // Lent buffers of bytes: the cells of a program read and written, and the program's questions put to its bytes.
+use image::layout::PROGRAM_CELLS;
 ghost use mathlib.Core.Path.{_≡_};
 ghost use Prim.Native.Nat.{_*_, _/_, _<_, _≤_};
 ghost use lib.ListN.{length};
@@ -7,6 +8,9 @@ ghost use Rattle.image.specs.Questions.{programNo};
 ghost use Rattle.state.specs.Numbers.{inBytes};
 ghost use Rattle.state.specs.Reading.{table, numberAt};
 ghost use Rattle.steps.specs.Buffers.{cellsOf};
+
+// A program buffer's cells as bytes, eight of each.
+pub const PROGRAM_BYTES: usize = 47120;
 
 // As many cells as `out` has room for. This crate alone calls it, with no more room than the buffer has whole cells.
 pub fn read_cells(bytes: &[u8], out: &mut [u64])
@@ -36,8 +40,8 @@ pub fn write_cells(cells: &[u64], out: &mut [u8])
 fn cells_in(length: usize) -> usize
     ensures { λ r. ⌜ (r ≤ length / 8) × (r ≤ programCells) × (r < length / 8 → r ≡ programCells) ⌝ }
 {
-    if 5890 < length / 8 {
-        return 5890;
+    if PROGRAM_CELLS < length / 8 {
+        return PROGRAM_CELLS;
     }
     length / 8
 }
@@ -55,7 +59,7 @@ fn ask_read(program: &[u8], cells: &mut [u64]) -> u8
 pub fn ask_cells(program: &[u8]) -> u8
     ensures { λ r. ⌜ r ≡ programNo (cellsOf (now (program .entry))) ⌝ }
 {
-    let mut cells = [0u64; 5890];
+    let mut cells = [0u64; PROGRAM_CELLS];
     let count = cells_in(program.len());
     ask_read(program, &mut cells[..count])
 }

@@ -1,7 +1,11 @@
 // A job started, over bytes.
 use crate::buffers;
+use crate::buffers::PROGRAM_BYTES;
+use image::layout::PROGRAM_CELLS;
 use machine::Answered;
 use machine::Machine;
+use machine::start::MOST_WORDS;
+use state::STATE_BYTES;
 ghost use mathlib.Core.Path.{_≡_};
 ghost use mathlib.Core.Bool.{_&&_};
 ghost use Prim.Native.Nat.{_*_, _%_};
@@ -17,7 +21,7 @@ ghost use Rattle.steps.specs.Calls.{startedNo, stateAfterStart};
 fn lengths_fit(program: usize, registers: usize, words: usize, lent: usize) -> bool
     ensures { λ r. ⌜ r ≡ (eqb program programBytes && (eqb registers 128 && (eqb (words % 8) 0 && (leb words 32768 && eqb lent stateLength)))) ⌝ }
 {
-    if program != 47120 {
+    if program != PROGRAM_BYTES {
         return false;
     }
     if registers != 128 {
@@ -29,7 +33,7 @@ fn lengths_fit(program: usize, registers: usize, words: usize, lent: usize) -> b
     if 32768 < words {
         return false;
     }
-    lent == 34328
+    lent == STATE_BYTES
 }
 
 // Start's questions, where a buffer has not its length. Of registers and words only their number counts.
@@ -56,7 +60,7 @@ fn start_on(
     ensures { λ r. ⌜ r .no ≡ startNo (cellsOf (now (program .entry))) places interval (integersOf (now (registers .entry))) (integersOf (now (words .entry))) ⌝ }
     ensures { λ r. ⌜ r .machine ≡ started (empty 0 0) (cellsOf (now (program .entry))) places interval (integersOf (now (registers .entry))) (integersOf (now (words .entry))) ⌝ }
 {
-    let mut cells = [0u64; 5890];
+    let mut cells = [0u64; PROGRAM_CELLS];
     buffers::read_cells(program, &mut cells);
     let mut first = [0i64; 16];
     state::numbers::read_integers(registers, 0, &mut first);
@@ -89,7 +93,7 @@ pub fn start(
         }
         return 15;
     }
-    let mut held = [0i64; 4096];
+    let mut held = [0i64; MOST_WORDS];
     let count = words.len() / 8;
     let answer = start_on(
         program,

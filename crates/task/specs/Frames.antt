@@ -69,3 +69,7 @@ startFrame places registers = record {
 -- the most work that a state can show (24): no counter and no span is above it
 abbrev pub workLimit : ℕ
 workLimit = 4294967295
+
+-- the registers of a state: 16 of each of 64 slots
+abbrev pub bankLength : ℕ
+bankLength = 1024

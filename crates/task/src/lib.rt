@@ -8,6 +8,12 @@ pub mod joining;
 pub mod results;
 pub mod running;
 
+// The most work that a state can show (question 24): no counter and no span is above it.
+pub const WORK_LIMIT: u32 = 4294967295;
+
+// The registers of a state: 16 of each of 64 slots.
+pub const BANK: usize = 1024;
+
 pub enum Value {
     Int(i64),
     Label(u32),

@@ -72,7 +72,7 @@ fn run(input: &[u8], n: usize) {
         complain(b"tpal_run: the job is longer than its buffer\n");
         return;
     }
-    let mut text = [0u8; 1024];
+    let mut text = [0u8; report::TEXT_BYTES];
     let written = job::tpal_job_text(&input[..n], BUDGET, &mut text);
     print(&text, written as usize);
 }

@@ -29,12 +29,12 @@ returns : tie.Need-returns
 returns c = search needs
 
 returns-2 : tie.Need-returns-2
-returns-2 c = 
+returns-2 c =
     let a = c .before .before .before .before .before .args in
     ap (ltb _) (c .block-count .ensures) ∙ ap (valueFits (programOf (a .cells .now))) (sym (c .before .before .v .given .1))
 
 returns-3 : tie.Need-returns-3
-returns-3 c = 
+returns-3 c =
     let a = c .before .before .before .before .before .args in
     c .is-target .ensures ∙ ap (valueFits (programOf (a .cells .now))) (sym (c .before .before .v2 .given .1))
 

@@ -21,7 +21,7 @@ cast-annotation-of : tie.Need-cast-annotation-of
 cast-annotation-of c = search needs
 
 annotation-of-requires : tie.Need-annotation-of-requires
-annotation-of-requires c κs = 
+annotation-of-requires c κs =
     let a = c .before .before .before .before in
     accepted (a .args .cells .now) (a .pre .0) .block _ (label-fits (a .args .cells .now) (c .before .v .given .1) (a .pre .1)) .is-stored
 

@@ -14,7 +14,7 @@ label-of-requires : tie.Need-label-of-requires
 label-of-requires c κs = let a = c .before .before .before in accepted (a .args .cells .now) (a .pre .0) .block _ (a .pre .1) .is-stored
 
 first-of-requires : tie.Need-first-of-requires
-first-of-requires c κs = 
+first-of-requires c κs =
     let a = c .before .before .before .before in
     let k = accepted (a .args .cells .now) (a .pre .0) in
     (a .pre .0, rw (c .label-of .ensures) (k .block (a .args .b) (a .pre .1) .label-below))
@@ -23,7 +23,7 @@ go-requires : tie.Need-go-requires
 go-requires c κs = search needs
 
 returns : tie.Need-returns
-returns c = 
+returns c =
     let a = c .before .before .before .before .before .before .args in
     let label = c .before .before .label-of .ensures in
     c .go .ensures
@@ -38,7 +38,7 @@ go-requires-2 : tie.Need-go-requires-2
 go-requires-2 c κs = search needs
 
 returns-2 : tie.Need-returns-2
-returns-2 c = 
+returns-2 c =
     let a = c .before .before .before .before .before .args in
     c .go2 .ensures
     ∙ enters-block (a .cells .now) (a .interval) (a .b) (a .t) (c .before .before .before .is-promoted .ensures) (c .before .before .if1 .left)

@@ -9,7 +9,7 @@ first-of-requires : tie.Need-first-of-requires
 first-of-requires c κs = let a = c .before in accepted (a .args .cells .now) (a .pre .0) .block _ (a .pre .1) .is-stored
 
 cast-result : tie.Need-cast-result
-cast-result c = 
+cast-result c =
     let a = c .before .before in
     let k = accepted (a .args .cells .now) (a .pre .0) in
     omega (arith, c .first-of .ensures, k .block _ (a .pre .1) .first-below, k .few-instructions)

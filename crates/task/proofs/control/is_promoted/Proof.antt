@@ -22,13 +22,13 @@ cast-if3 c = search needs
 
 returns-3 : tie.Need-returns-3
 unfolding promotes
-returns-3 c = 
+returns-3 c =
     let a = c .before .before .before .before in
     rw (← (a .annotation-of .ensures), eq-eqb _ _ (c .before .before .before .if1 .left), ne-eqb _ _ (c .before .before .if2 .left), lt-leb _ _ (c .if3 .taken))
 
 returns-4 : tie.Need-returns-4
 unfolding promotes
-returns-4 c = 
+returns-4 c =
     let a = c .before .before .before .before .before in
     rw (← (a .annotation-of .ensures), eq-eqb _ _ (c .before .before .before .before .if1 .left), ne-eqb _ _ (c .before .before .before .if2 .left), le-leb _ _ (c .before .if3 .left))
 
