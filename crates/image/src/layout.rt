@@ -92,7 +92,7 @@ pub fn label_of(cells: &[u64], b: usize) -> u64
     cells[FIRST_BLOCK + BLOCK_CELLS * b + 3]
 }
 
-// The instruction whose cells begin at `at`, as for a block.
+// The instruction whose cells begin at `at`. The crate itself calls it, with the place of an instruction that the buffer has.
 pub fn instruction_from(cells: &[u64], at: usize) -> Instruction
     requires { ⌜ at + 5 ≤ length (now cells) ⌝ }
     ensures { λ r. ⌜ r ≡ instructionFrom (now (cells .entry)) at ⌝ }

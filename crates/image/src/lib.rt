@@ -6,7 +6,7 @@ ghost use Rattle.image.specs.Doors.{rewriteNo, unlessRefused};
 pub mod layout;
 pub mod questions;
 pub mod reader;
-pub mod walk;
+mod walk;
 pub mod writer;
 
 // A block record. `packed` has the four pair bytes, the first in its low eight bits.

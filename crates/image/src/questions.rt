@@ -332,7 +332,7 @@ fn ask_instructions(limits: &[u64], largest: &[u64], cells: &[u64], marks: &[u8]
     0
 }
 
-// Questions 6 to 9. The caller has put question 4.
+// Questions 6 to 9. This crate alone calls it, after question 4.
 pub fn ask_records(cells: &[u64]) -> u8
     requires { ⌜ countsNo (blockCount (now cells)) (instructionCount (now cells)) ≡ 0 ⌝ }
     ensures { λ r. ⌜ r ≡ recordsNo (now (cells .entry)) ⌝ }

@@ -65,7 +65,7 @@ fn encode_instructions(cells: &[u64], start: usize, image: &mut [u8]) -> usize
     at
 }
 
-// The image of an accepted program, into a buffer of its length.
+// The image of an accepted program, into a buffer of its length: write and `rewrite` alone call it, after the questions that ensure both.
 pub fn encode(cells: &[u64], image: &mut [u8])
     requires { ⌜ (length (now cells) ≡ programCells) × (countsNo (blockCount (now cells)) (instructionCount (now cells)) ≡ 0) × (length (now image) ≡ imageLength (blockCount (now cells)) (instructionCount (now cells))) ⌝ }
     ensures { λ _. ⌜ now (image .exit) ≡ imageOf (now (cells .entry)) ⌝ }

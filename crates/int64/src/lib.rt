@@ -104,7 +104,7 @@ fn wide(x: u8) -> u64
     x as u64
 }
 
-// The number of the 2 bytes at `at`, the lowest first.
+// The number of the 2 bytes at `at`, the lowest first. Here and below our crates alone call, with a place inside the buffer.
 pub fn read_u16(bytes: &[u8], at: usize) -> u64
     requires { ⌜ at + 2 ≤ length (now bytes) ⌝ }
     ensures { λ r. ⌜ NumberAt 2 (now (bytes .entry)) at r ⌝ }
@@ -114,7 +114,7 @@ pub fn read_u16(bytes: &[u8], at: usize) -> u64
     low + 256 * high
 }
 
-// The number of the 4 bytes at `at`.
+// The number of the 4 bytes at `at`, which are in the buffer.
 pub fn read_u32(bytes: &[u8], at: usize) -> u64
     requires { ⌜ at + 4 ≤ length (now bytes) ⌝ }
     ensures { λ r. ⌜ NumberAt 4 (now (bytes .entry)) at r ⌝ }
@@ -122,7 +122,7 @@ pub fn read_u32(bytes: &[u8], at: usize) -> u64
     read_u16(bytes, at) + 0x1_0000 * read_u16(bytes, at + 2)
 }
 
-// The number of the 8 bytes at `at`.
+// The number of the 8 bytes at `at`, which are in the buffer.
 pub fn read_u64(bytes: &[u8], at: usize) -> u64
     requires { ⌜ at + 8 ≤ length (now bytes) ⌝ }
     ensures { λ r. ⌜ NumberAt 8 (now (bytes .entry)) at r ⌝ }
@@ -130,7 +130,7 @@ pub fn read_u64(bytes: &[u8], at: usize) -> u64
     read_u32(bytes, at) + 0x1_0000_0000 * read_u32(bytes, at + 4)
 }
 
-// The 2 low bytes of x go to `at`, the lowest first.
+// The 2 low bytes of x go to `at`, the lowest first; the buffer has room for them.
 pub fn write_u16(bytes: &mut [u8], at: usize, x: u64)
     requires { ⌜ at + 2 ≤ length (now bytes) ⌝ }
     ensures { λ r. ⌜ now (bytes .exit) ≡ sets (now (bytes .entry)) at (bytesOf 2 x) ⌝ }
@@ -139,7 +139,7 @@ pub fn write_u16(bytes: &mut [u8], at: usize, x: u64)
     bytes[at + 1] = (x / 256 % 256) as u8;
 }
 
-// The 4 low bytes of x go to `at`.
+// The 4 low bytes of x go to `at`, as above.
 pub fn write_u32(bytes: &mut [u8], at: usize, x: u64)
     requires { ⌜ at + 4 ≤ length (now bytes) ⌝ }
     ensures { λ r. ⌜ now (bytes .exit) ≡ sets (now (bytes .entry)) at (bytesOf 4 x) ⌝ }
@@ -148,7 +148,7 @@ pub fn write_u32(bytes: &mut [u8], at: usize, x: u64)
     write_u16(bytes, at + 2, x / 0x1_0000);
 }
 
-// The 8 bytes of x go to `at`.
+// The 8 bytes of x go to `at`, as above.
 pub fn write_u64(bytes: &mut [u8], at: usize, x: u64)
     requires { ⌜ at + 8 ≤ length (now bytes) ⌝ }
     ensures { λ r. ⌜ now (bytes .exit) ≡ sets (now (bytes .entry)) at (bytesOf 8 x) ⌝ }

@@ -68,7 +68,7 @@ pub fn word_count(job: &[u8]) -> usize
     int64::read_u16(job, 133 + n) as usize
 }
 
-// The 16 start registers.
+// The 16 start registers. This crate alone calls it, as above.
 pub fn read_registers(job: &[u8], out: &mut [i64])
     requires { ⌜ (endsExactly (now job) ≡ true) × (length (now out) ≡ 16) ⌝ }
     ensures { λ _. ⌜ now (out .exit) ≡ jobRegisters (now (job .entry)) ⌝ }
@@ -77,7 +77,7 @@ pub fn read_registers(job: &[u8], out: &mut [i64])
     state::numbers::read_integers(job, at, out);
 }
 
-// The words of the call record.
+// The words of the call record. This crate alone calls it, with room for as many as the job has.
 pub fn read_words(job: &[u8], out: &mut [i64])
     requires { ⌜ (endsExactly (now job) ≡ true) × (length (now out) ≡ wordCount (now job)) ⌝ }
     ensures { λ _. ⌜ now (out .exit) ≡ jobWords (now (job .entry)) ⌝ }

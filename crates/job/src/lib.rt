@@ -1,5 +1,5 @@
 // The exports: what a program in C or another language calls. Numbers and byte slices only.
-pub mod input;
+mod input;
 
 use image::layout::PROGRAM_CELLS;
 use machine::Machine;

@@ -1,7 +1,7 @@
 // The state of a job.
 pub mod drive;
 pub mod pick;
-pub mod run;
+mod run;
 pub mod slots;
 pub mod start;
 

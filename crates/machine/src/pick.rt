@@ -88,7 +88,7 @@ fn ask_slot(m: Machine, t: Task, slot: u64) -> u8
 }
 
 // Question 20. The caller has put the program's questions, and the one on the buffer's length.
-pub fn meets_shape(cells: &[u64], m: Machine) -> bool
+fn meets_shape(cells: &[u64], m: Machine) -> bool
     requires { ⌜ (programNo (now cells) ≡ 0) × (length (now cells) ≡ programCells) ⌝ }
     ensures { λ r. ⌜ r ≡ shape (programOf (now (cells .entry))) m ⌝ }
 {

@@ -10,7 +10,7 @@ ghost use mathlib.Core.Path.{_≡_};
 ghost use mathlib.Core.Bool.{not, _&&_};
 ghost use Prim.Native.Nat.{_+_, _*_, _-_, _%_, _≤_, _<_};
 ghost use lib.Dec.{eqb, ltb};
-ghost use Rattle.task.specs.Frames.{isRunning, vacantTask};
+ghost use Rattle.task.specs.Frames.{isRunning, noForks, vacantTask};
 ghost use Rattle.machine.specs.Slots.{at};
 
 // Our own crates alone call it, with a slot below the state's 64.
@@ -30,23 +30,31 @@ pub fn frame_at(m: Machine, k: usize) -> Frame
     Frame { task, registers }
 }
 
-// A slot without a task.
-pub fn vacant_task() -> Task
-    ensures { λ r. ⌜ r ≡ vacantTask ⌝ }
+// A task record with no fork open, at the first instruction, and no count.
+pub fn unforked(status: Status, places: u64) -> Task
+    ensures { λ r. ⌜ r ≡ record { status = status; places = places; pc = 0; counter = 0; span = 0; depth = 0; forks = noForks } ⌝ }
 {
-    let forks = [Fork {
+    let none = Fork {
         continuation: 0,
         depth: 0,
-    }; 6];
+    };
+    let forks = [none; 6];
     Task {
-        status: Status::Vacant,
-        places: 0,
+        status,
+        places,
         pc: 0,
         counter: 0,
         span: 0,
         depth: 0,
         forks,
     }
+}
+
+// A slot without a task.
+pub fn vacant_task() -> Task
+    ensures { λ r. ⌜ r ≡ vacantTask ⌝ }
+{
+    unforked(Status::Vacant, 0)
 }
 
 // Whether a task at depth d has ended its side of the fork that made that depth.
@@ -76,7 +84,7 @@ pub fn both_ended(p: Task, c: Task, d: u32) -> bool
     false
 }
 
-// Whether a fork at slot q, of w places each side, has its child's slot in the state.
+// Whether a fork at slot q, of w places each side, has its child's slot in the state. Drive alone calls it, with a slot of the state.
 pub fn has_room(q: usize, w: u64) -> bool
     requires { ⌜ q < 64 ⌝ }
     ensures { λ r. ⌜ r ≡ (ltb 0 w && ltb (q + w) 64) ⌝ }
@@ -93,7 +101,7 @@ pub fn has_room(q: usize, w: u64) -> bool
     true
 }
 
-// The parent's slot of the innermost fork of a task of w places in slot k.
+// The parent's slot of the innermost fork of a task of w places in slot k. Drive alone calls it, with a slot of the state.
 pub fn first_slot(k: usize, w: u64) -> usize
     requires { ⌜ k < 64 ⌝ }
     ensures { λ r. ⌜ (r ≡ k - k % (2 * w)) × (r ≤ k) ⌝ }

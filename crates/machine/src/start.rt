@@ -1,14 +1,13 @@
 // Start: its questions, and the state that it makes.
 use crate::Answered;
 use crate::Machine;
-use task::Fork;
+use crate::slots::unforked;
+use crate::slots::vacant_task;
 use task::Register;
 use task::Status;
-use task::Task;
 use task::Value;
 ghost use mathlib.Core.Path.{_≡_};
 ghost use lib.ListN.{length};
-ghost use Rattle.task.specs.Frames.{noForks};
 ghost use Rattle.machine.specs.Starting.{rank, placesAllowed, intervalAllowed, settingsNo, startNoBy, startNo, empty, fresh, started};
 
 // The most words of a call record (question 14).
@@ -88,26 +87,6 @@ pub fn ask_start(cells: &[u64], places: u64, interval: u64, registers: usize, wo
     ask_settings(places, interval, registers, words, cells.len())
 }
 
-// A task record with no fork open, at the first instruction, and no count.
-fn unforked(status: Status, places: u64) -> Task
-    ensures { λ r. ⌜ r ≡ record { status = status; places = places; pc = 0; counter = 0; span = 0; depth = 0; forks = noForks } ⌝ }
-{
-    let none = Fork {
-        continuation: 0,
-        depth: 0,
-    };
-    let forks = [none; 6];
-    Task {
-        status,
-        places,
-        pc: 0,
-        counter: 0,
-        span: 0,
-        depth: 0,
-        forks,
-    }
-}
-
 // A state with no task.
 fn empty_machine(places: u64, interval: u16) -> Machine
     ensures { λ r. ⌜ r ≡ empty places interval ⌝ }
@@ -115,7 +94,7 @@ fn empty_machine(places: u64, interval: u16) -> Machine
     let zero = Register {
         value: Value::Int(0),
     };
-    let vacant = unforked(Status::Vacant, 0);
+    let vacant = vacant_task();
     let bank = [zero; task::BANK];
     let tasks = [vacant; 64];
     Machine {
@@ -136,7 +115,7 @@ pub fn fresh_machine(places: u64, interval: u16, registers: &[i64]) -> Machine
     let zero = Register {
         value: Value::Int(0),
     };
-    let vacant = unforked(Status::Vacant, 0);
+    let vacant = vacant_task();
     let mut tasks = [vacant; 64];
     tasks[0] = unforked(Status::Running, places);
     let mut bank = [zero; task::BANK];

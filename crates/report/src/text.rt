@@ -110,7 +110,7 @@ pub fn write_text(r: Report, out: &mut [u8]) -> usize
     }
 }
 
-// The same of a refusal.
+// The same of a refusal. `job` calls it, as above.
 pub fn write_refused(no: u8, out: &mut [u8]) -> usize
     requires { ⌜ length (now out) ≡ textRoom ⌝ }
     ensures { λ n. ⌜ (n ≡ length (refusedText no)) × (now (out .exit) ≡ sets (now (out .entry)) 0 (refusedText no)) ⌝ }

@@ -4,6 +4,7 @@ ghost use Prim.Native.Nat.{_+_, _≤_};
 ghost use lib.ListN.{length};
 ghost use Rattle.report.specs.Words.{Written, digit, digits, decimal, signed, line};
 
+// `text` alone calls it, with room for the word.
 pub fn write_word(out: &mut [u8], at: usize, word: &[u8]) -> usize
     requires { ⌜ at + length (now word) ≤ length (now out) ⌝ }
     ensures { λ r. ⌜ Written (length (now (word .entry))) (now (out .entry)) at (now (word .entry)) (now (out .exit)) r ⌝ }
@@ -39,6 +40,7 @@ fn write_digits(out: &mut [u8], at: usize, n: u64, fuel: usize) -> usize
     write_digit(out, next, n)
 }
 
+// `text` and write_signed call it, with room for twenty digits.
 pub fn write_decimal(out: &mut [u8], at: usize, n: u64) -> usize
     requires { ⌜ at + 20 ≤ length (now out) ⌝ }
     ensures { λ r. ⌜ Written 20 (now (out .entry)) at (decimal n) (now (out .exit)) r ⌝ }
@@ -46,7 +48,7 @@ pub fn write_decimal(out: &mut [u8], at: usize, n: u64) -> usize
     write_digits(out, at, n, 19)
 }
 
-// By its bits: the least integer has a magnitude that no i64 holds.
+// By its bits: the least integer has a magnitude that no i64 holds. `text` alone calls it, with room for a sign and twenty digits.
 pub fn write_signed(out: &mut [u8], at: usize, z: i64) -> usize
     requires { ⌜ at + 21 ≤ length (now out) ⌝ }
     ensures { λ r. ⌜ Written 21 (now (out .entry)) at (signed z) (now (out .exit)) r ⌝ }
@@ -59,7 +61,7 @@ pub fn write_signed(out: &mut [u8], at: usize, z: i64) -> usize
     write_decimal(out, next, u64::MAX - u + 1)
 }
 
-// A word, a number and the end of the line.
+// A word, a number and the end of the line. `text` alone calls it, with room for all three.
 pub fn write_line(out: &mut [u8], at: usize, word: &[u8], n: u64) -> usize
     requires { ⌜ at + length (now word) + 21 ≤ length (now out) ⌝ }
     ensures { λ r. ⌜ Written (length (now (word .entry)) + 21) (now (out .entry)) at (line (now (word .entry)) n) (now (out .exit)) r ⌝ }

@@ -8,6 +8,7 @@ ghost use lib.ListN.{length};
 ghost use lib.Seq.{sets};
 ghost use Rattle.state.specs.Numbers.{valueNumbers, inBytes, integersIn};
 
+// The writers of states and reports call it, with room for two numbers.
 pub fn write_two(out: &mut [u8], at: usize, a: u64, b: u64)
     requires { ⌜ at + 16 ≤ length (now out) ⌝ }
     ensures { λ _. ⌜ now (out .exit) ≡ sets (now (out .entry)) at (inBytes (a ∷ b ∷ [])) ⌝ }
@@ -16,6 +17,7 @@ pub fn write_two(out: &mut [u8], at: usize, a: u64, b: u64)
     int64::write_u64(out, at + 8, b);
 }
 
+// As above, for three.
 pub fn write_three(out: &mut [u8], at: usize, a: u64, b: u64, c: u64)
     requires { ⌜ at + 24 ≤ length (now out) ⌝ }
     ensures { λ _. ⌜ now (out .exit) ≡ sets (now (out .entry)) at (inBytes (a ∷ b ∷ c ∷ [])) ⌝ }
@@ -24,6 +26,7 @@ pub fn write_three(out: &mut [u8], at: usize, a: u64, b: u64, c: u64)
     write_two(out, at + 8, b, c);
 }
 
+// As above: a register is three numbers.
 pub fn write_register(out: &mut [u8], at: usize, r: Register)
     requires { ⌜ at + 24 ≤ length (now out) ⌝ }
     ensures { λ _. ⌜ now (out .exit) ≡ sets (now (out .entry)) at (inBytes (valueNumbers (r .value))) ⌝ }
@@ -36,7 +39,7 @@ pub fn write_register(out: &mut [u8], at: usize, r: Register)
     }
 }
 
-// As many integers as `out` has room for, the first at `at`.
+// As many integers as `out` has room for, the first at `at`. `job` and `steps` call it, where the bytes have that many.
 pub fn read_integers(bytes: &[u8], at: usize, out: &mut [i64])
     requires { ⌜ at + 8 * length (now out) ≤ length (now bytes) ⌝ }
     ensures { λ _. ⌜ now (out .exit) ≡ integersIn (now (bytes .entry)) at (length (now (out .entry))) ⌝ }

@@ -128,7 +128,7 @@ pub fn equal(s: Value, v: Value, t: Active) -> Executed
     store(truth_of(int64::equal(a, b)), t)
 }
 
-// Word v of the call record, counted from 0.
+// Word v of the call record, counted from 0. As above.
 pub fn fetch(words: &[i64], v: Value, t: Active) -> Executed
     requires { ⌜ t .pc < mostInstructions ⌝ }
     ensures { λ r. ⌜ ((p : Program) (c : Choices) → r ≡ handed p c t (fetches (now (words .entry)) v)) ⌝ }

@@ -1,6 +1,7 @@
 //! Jobs with budgets of picks put to the engine's job run and job text, and to the model.
 
 use crate::budgets_coverage::BudgetsCoverage;
+use crate::counts::Counts;
 use crate::jobs::{difference, job, refused};
 use crate::lent::{salt_of, Lent};
 use crate::random::Random;
@@ -200,7 +201,7 @@ pub fn run_case(seed: u64, number: u64, coverage: &mut BudgetsCoverage) -> Resul
 }
 
 /// Runs the cases of these numbers. What differs ends it.
-pub fn run(seed: u64, numbers: Range<u64>) -> Result<BudgetsCoverage, String> {
+pub fn run(seed: u64, numbers: Range<u64>) -> Result<Counts, String> {
     shares::run(numbers, |number, coverage| run_case(seed, number, coverage))
         .map_err(|(_, what)| what)
 }

@@ -2,21 +2,18 @@
 
 use crate::budgets::BudgetCase;
 use crate::counts::Counts;
-use crate::shares::Tally;
+use crate::names::{end, ends, kind, KINDS};
 use engine::{REPORT_BYTES, TEXT_BYTES};
 use model::job::{Report, BUDGET};
-use model::{fault, question, End, Value};
-use std::fmt;
+use model::question;
 
 pub struct BudgetsCoverage {
-    jobs: u64,
-    picks: u64,
     met: Counts,
 }
 
 const BUDGETS: [u64; 4] = [0, 1, BUDGET, u64::MAX];
-const KINDS: [&str; 3] = ["integer", "label", "record"];
 
+const END_SPENT: &str = "end spent";
 const SPENT_AT_ONCE: &str = "spent, budget 0";
 const SPENT_LAST: &str = "spent, one pick before the end";
 const SPENT: &str = "spent, more picks before the end";
@@ -28,9 +25,7 @@ const WRONG_TEXT: &str = "a text of another length";
 const TEXT_OF_REFUSAL: &str = "text of a refusal";
 const TEXT: &str = "text of a report";
 
-const NAMES: [&str; 12] = [
-    "end spent",
-    "end halt",
+const NAMES: [&str; 10] = [
     SPENT_AT_ONCE,
     SPENT_LAST,
     SPENT,
@@ -45,18 +40,6 @@ const NAMES: [&str; 12] = [
 
 fn answer(number: u8) -> String {
     format!("job answers {:2}", number)
-}
-
-fn end(report: &Report) -> String {
-    match report.end {
-        None => "end spent".to_string(),
-        Some(End::Halt) => "end halt".to_string(),
-        Some(End::Fault(number)) => end_fault(number),
-    }
-}
-
-fn end_fault(number: u8) -> String {
-    format!("end fault {}", number)
 }
 
 fn with_budget(budget: u64, outcome: &str) -> String {
@@ -78,7 +61,7 @@ impl Default for BudgetsCoverage {
         // Sixteen registers are always there, and 15 is counted with the lengths.
         let numbers = (0..=question::INTERVAL).chain([question::WORDS]);
         let mut names: Vec<String> = numbers.map(answer).collect();
-        names.extend((fault::FIRST..=fault::LAST).map(end_fault));
+        names.extend(ends(END_SPENT));
         for budget in BUDGETS {
             names.push(with_budget(budget, "refused"));
             // No job ends without a pick, and these that would be spent run too long.
@@ -92,16 +75,14 @@ impl Default for BudgetsCoverage {
         names.extend(KINDS.map(final_register));
         names.extend(NAMES.map(String::from));
         BudgetsCoverage {
-            jobs: 0,
-            picks: 0,
-            met: Counts::of(names),
+            met: Counts::of("jobs", names),
         }
     }
 }
 
 impl BudgetsCoverage {
     pub fn count(&mut self, case: &BudgetCase, answered: &Result<Report, u8>) {
-        self.jobs += 1;
+        self.met.cases += 1;
         let number = answered.as_ref().err().copied().unwrap_or(0);
         self.met.meet(&answer(number));
         let outcome = match answered {
@@ -129,8 +110,8 @@ impl BudgetsCoverage {
     }
 
     fn count_report(&mut self, case: &BudgetCase, report: &Report) {
-        self.picks += report.picks;
-        self.met.meet(&end(report));
+        self.met.sum("picks", report.picks);
+        self.met.meet(&end(report.end, END_SPENT));
         self.met.meet(match report.end {
             None if case.budget == 0 => SPENT_AT_ONCE,
             None if ends_with_one_more(case) => SPENT_LAST,
@@ -142,35 +123,13 @@ impl BudgetsCoverage {
             return;
         }
         for value in report.registers {
-            self.met.meet(&final_register(match value {
-                Value::Int(_) => KINDS[0],
-                Value::Label(_) => KINDS[1],
-                Value::Record(_) => KINDS[2],
-            }));
+            self.met.meet(&final_register(kind(value)));
         }
     }
 }
 
-impl Tally for BudgetsCoverage {
-    fn add(&mut self, other: &BudgetsCoverage) {
-        self.jobs += other.jobs;
-        self.picks += other.picks;
-        self.met.add(&other.met);
-    }
-
-    fn cases(&self) -> u64 {
-        self.jobs
-    }
-
-    fn lines(&self) -> Vec<(String, u64)> {
-        self.met.lines()
-    }
-}
-
-impl fmt::Display for BudgetsCoverage {
-    fn fmt(&self, f: &mut fmt::Formatter) -> fmt::Result {
-        self.write_lines(f)?;
-        writeln!(f, "{:>12}  picks", self.picks)?;
-        write!(f, "{:>12}  jobs", self.jobs)
+impl From<BudgetsCoverage> for Counts {
+    fn from(coverage: BudgetsCoverage) -> Self {
+        coverage.met
     }
 }

@@ -4,20 +4,13 @@ use crate::compare::Answers;
 use crate::counts::Counts;
 use crate::damage::{Field, BLOCK_FIELDS, HEADER_FIELDS, INSTRUCTION_FIELDS};
 use crate::generate::{Case, Shape, SHAPES};
-use crate::shares::Tally;
-use std::fmt;
+use model::{opcode, Block};
 
 pub struct Coverage {
-    cases: u64,
     met: Counts,
-    /// Counted apart, because every instruction of every accepted image is.
+    /// Named at the end, because every instruction of every accepted image is counted.
     operands: [[u64; 4]; 16],
-    annotations: [[u64; 5]; 4],
 }
-
-const PLAIN: usize = 0;
-const PROMOTION_READY: usize = 1;
-const JOIN_TARGET: [usize; 2] = [2, 3];
 
 fn shape_name(shape: Shape) -> String {
     format!("shape {:?}", shape)
@@ -33,6 +26,21 @@ fn damaged_name(field: Field) -> String {
             format!("damaged opcode {:2} {}", opcode, INSTRUCTION_FIELDS[field])
         }
     }
+}
+
+fn operand_name(opcode: u8, kind: u8) -> String {
+    format!("accepted opcode {:2} kind {}", opcode, kind)
+}
+
+fn annotation_name(block: &Block) -> String {
+    match block.annotation {
+        2 => join_target_name(block.policy, block.pair_count),
+        annotation => format!("accepted annotation {}", annotation),
+    }
+}
+
+fn join_target_name(policy: u8, pairs: u8) -> String {
+    format!("accepted annotation 2 policy {} pairs {}", policy, pairs)
 }
 
 impl Default for Coverage {
@@ -55,19 +63,23 @@ impl Default for Coverage {
         for opcode in 1..=15 {
             let fields = 0..INSTRUCTION_FIELDS.len();
             names.extend(fields.map(|field| damaged_name(Field::Instruction { opcode, field })));
+            let kinds = if opcode == opcode::HALT { 0..=0 } else { 1..=3 };
+            names.extend(kinds.map(|kind| operand_name(opcode, kind)));
+        }
+        names.extend(["accepted annotation 0", "accepted annotation 1"].map(String::from));
+        for policy in 0..=1 {
+            names.extend((0..=4).map(|pairs| join_target_name(policy, pairs)));
         }
         Coverage {
-            cases: 0,
-            met: Counts::of(names),
+            met: Counts::of("images", names),
             operands: [[0; 4]; 16],
-            annotations: [[0; 5]; 4],
         }
     }
 }
 
 impl Coverage {
     pub fn count(&mut self, case: &Case, answers: &Answers) {
-        self.cases += 1;
+        self.met.cases += 1;
         self.met.meet(&shape_name(case.shape));
         if let Some(field) = case.damaged {
             self.met.meet(&damaged_name(field));
@@ -109,58 +121,19 @@ impl Coverage {
             self.operands[usize::from(instruction.opcode)][usize::from(instruction.kind)] += 1;
         }
         for block in &program.blocks {
-            let row = match block.annotation {
-                0 => PLAIN,
-                1 => PROMOTION_READY,
-                _ => JOIN_TARGET[usize::from(block.policy)],
-            };
-            self.annotations[row][usize::from(block.pair_count)] += 1;
+            self.met.meet_listed(&annotation_name(block));
         }
     }
 }
 
-impl Tally for Coverage {
-    fn add(&mut self, other: &Coverage) {
-        self.cases += other.cases;
-        self.met.add(&other.met);
-        for (mine, theirs) in self.operands.iter_mut().zip(&other.operands) {
-            mine.iter_mut().zip(theirs).for_each(|(m, t)| *m += t);
+impl From<Coverage> for Counts {
+    fn from(coverage: Coverage) -> Self {
+        let mut met = coverage.met;
+        for (opcode, kinds) in (0..).zip(coverage.operands) {
+            for (kind, times) in (0..).zip(kinds) {
+                met.meet_times(&operand_name(opcode, kind), times);
+            }
         }
-        for (mine, theirs) in self.annotations.iter_mut().zip(&other.annotations) {
-            mine.iter_mut().zip(theirs).for_each(|(m, t)| *m += t);
-        }
-    }
-
-    fn cases(&self) -> u64 {
-        self.cases
-    }
-
-    fn lines(&self) -> Vec<(String, u64)> {
-        let mut lines = self.met.lines();
-        for opcode in 1..=15 {
-            let kinds = if opcode == 14 { 0..=0 } else { 1..=3 };
-            lines.extend(kinds.map(|kind: usize| {
-                let name = format!("accepted opcode {:2} kind {}", opcode, kind);
-                (name, self.operands[opcode][kind])
-            }));
-        }
-        let plain = self.annotations[PLAIN][0];
-        let promotion_ready = self.annotations[PROMOTION_READY][0];
-        lines.push(("accepted annotation 0".to_string(), plain));
-        lines.push(("accepted annotation 1".to_string(), promotion_ready));
-        for (policy, row) in JOIN_TARGET.iter().enumerate() {
-            lines.extend((0..=4).map(|pairs| {
-                let name = format!("accepted annotation 2 policy {} pairs {}", policy, pairs);
-                (name, self.annotations[*row][pairs])
-            }));
-        }
-        lines
-    }
-}
-
-impl fmt::Display for Coverage {
-    fn fmt(&self, f: &mut fmt::Formatter) -> fmt::Result {
-        self.write_lines(f)?;
-        write!(f, "{:>12}  images", self.cases)
+        met
     }
 }

@@ -3,6 +3,7 @@
 
 mod order;
 
+use crate::counts::Counts;
 use crate::job_coverage::JobCoverage;
 use crate::jobs::{job, JobCase};
 use crate::random::Random;
@@ -139,7 +140,7 @@ pub fn run_case(seed: u64, number: u64, coverage: &mut JobCoverage) -> Result<()
 }
 
 /// Runs the jobs of these numbers. What does not hold ends it.
-pub fn run(seed: u64, numbers: Range<u64>) -> Result<JobCoverage, String> {
+pub fn run(seed: u64, numbers: Range<u64>) -> Result<Counts, String> {
     shares::run(numbers, |number, coverage| run_case(seed, number, coverage))
         .map_err(|(_, what)| what)
 }

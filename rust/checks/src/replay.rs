@@ -1,6 +1,7 @@
 //! Jobs and orders of picks put to the engine's replay and to the model's machine.
 
 use crate::assemble::JobInput;
+use crate::counts::Counts;
 use crate::jobs::{difference, job, refused};
 use crate::lent::{salt_of, Lent};
 use crate::orders::{any_number, Manner, MANNERS};
@@ -21,8 +22,8 @@ pub struct ReplayCase {
 /// What an order that was not refused comes to on the model.
 pub struct Replayed {
     pub machine: Machine,
-    /// The refused picks by the number of the question, from 21 on.
-    pub refused: [u64; 3],
+    /// The numbers of the refused picks.
+    pub refused: Vec<u8>,
 }
 
 /// The case of this number under this seed.
@@ -134,12 +135,10 @@ fn replayed(case: &ReplayCase) -> Result<Replayed, u8> {
     if case.state_len != STATE_BYTES {
         return Err(question::BUFFER);
     }
-    let mut refused = [0; 3];
-    for &slot in &case.order {
-        if let Err(number) = machine.pick_in(call, slot.into()) {
-            refused[usize::from(number - question::SLOT)] += 1;
-        }
-    }
+    let picks = case.order.iter();
+    let refused = picks
+        .filter_map(|&slot| machine.pick_in(call, slot.into()).err())
+        .collect();
     Ok(Replayed { machine, refused })
 }
 
@@ -212,7 +211,7 @@ pub fn run_case(seed: u64, number: u64, coverage: &mut ReplayCoverage) -> Result
 }
 
 /// Runs the cases of these numbers. What differs ends it.
-pub fn run(seed: u64, numbers: Range<u64>) -> Result<ReplayCoverage, String> {
+pub fn run(seed: u64, numbers: Range<u64>) -> Result<Counts, String> {
     shares::run(numbers, |number, coverage| run_case(seed, number, coverage))
         .map_err(|(_, what)| what)
 }

@@ -1,6 +1,7 @@
 //! Many images put to model and engine.
 
 use crate::compare::compare;
+use crate::counts::Counts;
 use crate::coverage::Coverage;
 use crate::generate::case;
 use crate::random::Random;
@@ -53,7 +54,7 @@ pub fn run_case(seed: u64, number: u64, coverage: &mut Coverage) -> Result<(), D
 }
 
 /// Runs the cases of these numbers. A difference ends it; the one of least number is handed back.
-pub fn run(seed: u64, numbers: Range<u64>) -> Result<Coverage, Difference> {
+pub fn run(seed: u64, numbers: Range<u64>) -> Result<Counts, Difference> {
     shares::run(numbers, |number, coverage| run_case(seed, number, coverage))
         .map_err(|(_, difference)| difference)
 }

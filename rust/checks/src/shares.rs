@@ -1,67 +1,41 @@
 //! Many cases, on as many threads as the machine has processors.
 
-use std::fmt::{self, Display};
+use crate::counts::Counts;
+use std::fmt::Display;
 use std::ops::Range;
 use std::sync::atomic::{AtomicU64, Ordering};
 use std::sync::Mutex;
 use std::thread;
 
-/// What the cases of one thread come to. It prints as its lines, with totals.
-pub trait Tally: Default + Display + Send {
-    fn add(&mut self, other: &Self);
-
-    /// Number of cases.
-    fn cases(&self) -> u64;
-
-    /// How often each thing was met that ought to be, with its name.
-    fn lines(&self) -> Vec<(String, u64)>;
-
-    fn write_lines(&self, f: &mut fmt::Formatter) -> fmt::Result {
-        self.lines()
-            .into_iter()
-            .try_for_each(|(name, count)| writeln!(f, "{:>12}  {}", count, name))
-    }
-
-    /// What ought to be met and was not.
-    fn missing(&self) -> Vec<String> {
-        let unmet = self.lines().into_iter().filter(|(_, count)| *count == 0);
-        unmet.map(|(name, _)| name).collect()
-    }
-}
-
 /// Prints what a test's cases came to; panics at a difference, and when something was not met.
-pub fn expect_all_met<T: Tally, E: Display>(outcome: Result<T, E>, cases: u64) {
+pub fn expect_all_met<E: Display>(outcome: Result<Counts, E>, cases: u64) {
     match outcome {
         Err(difference) => panic!("{}", difference),
-        Ok(tally) => {
-            println!("{}", tally);
-            assert_eq!(tally.cases(), cases);
-            let missing = tally.missing();
+        Ok(counts) => {
+            println!("{}", counts);
+            assert_eq!(counts.cases, cases);
+            let missing = counts.missing();
             assert!(missing.is_empty(), "not covered: {}", missing.join("; "));
         }
     }
 }
 
-/// Adds each count of theirs to the same one of mine.
-pub fn add_all(mine: &mut [u64], theirs: &[u64]) {
-    mine.iter_mut().zip(theirs).for_each(|(m, t)| *m += t);
-}
-
-/// Runs the cases of these numbers. An error ends it; the one of least number is handed back.
-pub fn run<T: Tally, E: Send>(
+/// Runs the cases of these numbers, with a coverage for each thread. An error ends it; the one of
+/// least number is handed back.
+pub fn run<T: Default + Into<Counts>, E: Send>(
     numbers: Range<u64>,
     run_case: impl Fn(u64, &mut T) -> Result<(), E> + Sync,
-) -> Result<T, (u64, E)> {
+) -> Result<Counts, (u64, E)> {
     const SHARE: u64 = 500;
     let next = AtomicU64::new(numbers.start);
-    let total = Mutex::new(T::default());
+    let total: Mutex<Counts> = Mutex::new(T::default().into());
     let first_error: Mutex<Option<(u64, E)>> = Mutex::new(None);
     let workers = thread::available_parallelism().map_or(1, |count| count.get());
 
     thread::scope(|scope| {
         for _ in 0..workers {
             scope.spawn(|| {
-                let mut tally = T::default();
+                let mut coverage = T::default();
                 loop {
                     let from = next.fetch_add(SHARE, Ordering::Relaxed);
                     if from >= numbers.end {
@@ -69,7 +43,7 @@ pub fn run<T: Tally, E: Send>(
                     }
                     let to = numbers.end.min(from + SHARE);
                     let outcome = (from..to).try_for_each(|number| {
-                        run_case(number, &mut tally).map_err(|error| (number, error))
+                        run_case(number, &mut coverage).map_err(|error| (number, error))
                     });
                     if let Err(error) = outcome {
                         // No further shares; those begun are finished, so the least is found.
@@ -82,7 +56,7 @@ pub fn run<T: Tally, E: Send>(
                         break;
                     }
                 }
-                total.lock().unwrap().add(&tally);
+                total.lock().unwrap().add(&coverage.into());
             });
         }
     });

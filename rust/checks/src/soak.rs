@@ -1,16 +1,15 @@
 //! The command line of the long runs: `NAME [COUNT [SEED [FIRST]]]`.
 
-use crate::shares::Tally;
+use crate::counts::Counts;
 use std::env;
 use std::fmt::Display;
 use std::ops::Range;
 use std::process::exit;
 
-/// A long run: its program's name, how many cases it runs unless told, and of what kind.
+/// A long run: its program's name, and how many cases it runs unless told.
 pub struct Soak {
     pub name: &'static str,
     pub count: u64,
-    pub cases: &'static str,
     /// Fewer cases than this may miss something by chance.
     pub enough: u64,
 }
@@ -27,26 +26,24 @@ impl Soak {
     }
 
     /// Runs the cases and prints what they covered; status 1 for a difference or a gap.
-    pub fn run<T: Tally, E: Display>(&self, run: impl FnOnce(u64, Range<u64>) -> Result<T, E>) {
+    pub fn run<E: Display>(&self, run: impl FnOnce(u64, Range<u64>) -> Result<Counts, E>) {
         let count = self.argument(1, self.count);
         let seed = self.argument(2, 1);
         let first = self.argument(3, 0);
         let numbers = first..first.saturating_add(count);
-        let coverage = run(seed, numbers).unwrap_or_else(|difference| {
+        let counts = run(seed, numbers).unwrap_or_else(|difference| {
             println!("{}", difference);
             exit(1)
         });
-        println!("{}", coverage);
-        let missing = coverage.missing();
+        println!("{}", counts);
+        let missing = counts.missing();
         if count >= self.enough && !missing.is_empty() {
             println!("not covered: {}", missing.join("; "));
             exit(1);
         }
         println!(
             "seed {}: {} {}, no difference",
-            seed,
-            coverage.cases(),
-            self.cases
+            seed, counts.cases, counts.noun
         );
     }
 }

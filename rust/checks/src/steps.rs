@@ -7,6 +7,7 @@ pub mod damage;
 mod redraw;
 mod walk;
 
+use crate::counts::Counts;
 use crate::jobs::{difference, job};
 use crate::random::Random;
 use crate::steps_coverage::StepsCoverage;
@@ -77,7 +78,7 @@ pub fn run_case(seed: u64, number: u64, coverage: &mut StepsCoverage) -> Result<
 }
 
 /// Runs the cases of these numbers. What differs ends it.
-pub fn run(seed: u64, numbers: Range<u64>) -> Result<StepsCoverage, String> {
+pub fn run(seed: u64, numbers: Range<u64>) -> Result<Counts, String> {
     shares::run(numbers, |number, coverage| run_case(seed, number, coverage))
         .map_err(|(_, what)| what)
 }

@@ -3,13 +3,11 @@
 use crate::counts::Counts;
 use crate::numbers::number_at;
 use crate::report::{FAULT, HALT, SPENT};
-use crate::shares::Tally;
 use crate::steps::call::{Buffer, Call, Door, DOORS};
 use crate::steps::damage::{Damage, CELL_FIELDS, JOB_FIELDS, MANNERS, SITTERS, SLOT_FIELDS};
 use model::question;
 use model::state::{JOB_NUMBERS, SLOT_NUMBERS};
 use model::{MAX_PLACES, WORK_LIMIT};
-use std::fmt;
 
 /// Kinds of states that runs go on from.
 #[derive(Clone, Copy, Debug, PartialEq, Eq)]
@@ -74,11 +72,10 @@ const BUDGETS: [Budget; 5] = [
 ];
 
 pub struct StepsCoverage {
-    jobs: u64,
-    calls: u64,
-    picks: u64,
     met: Counts,
 }
+
+const PICKS: &str = "picks carried out";
 
 const BEYOND: &str = "pick of a slot from P on";
 const BEYOND_CUT: &str = "pick of a number that is a running task's slot when cut to size";
@@ -200,24 +197,21 @@ impl Default for StepsCoverage {
         }
         names.extend(TAKEN_CELLS.map(|field| cell(field, "taken")));
         StepsCoverage {
-            jobs: 0,
-            calls: 0,
-            picks: 0,
-            met: Counts::of(names),
+            met: Counts::of("jobs", names),
         }
     }
 }
 
 impl StepsCoverage {
     pub fn count_job(&mut self) {
-        self.jobs += 1;
+        self.met.cases += 1;
     }
 
     pub fn count_answer(&mut self, call: &Call, number: u8) {
-        self.calls += 1;
+        self.met.sum("calls", 1);
         self.met.meet(&answers(call.door, number));
         if call.door == Door::Pick && number == 0 {
-            self.picks += 1;
+            self.met.sum(PICKS, 1);
         }
     }
 
@@ -256,7 +250,7 @@ impl StepsCoverage {
     pub fn count_run(&mut self, kind: Kind, class: Budget, budget: u64, report: &[u8]) {
         self.met.meet(&run_of(kind, class));
         let [end, _, picks, work] = [0, 1, 2, 3].map(|index| number_at(report, index));
-        self.picks += picks;
+        self.met.sum(PICKS, picks);
         let limit = u64::from(WORK_LIMIT);
         self.met.meet(match end {
             SPENT if picks == budget && picks == 0 => RUNS[0],
@@ -322,28 +316,8 @@ impl StepsCoverage {
     }
 }
 
-impl Tally for StepsCoverage {
-    fn add(&mut self, other: &StepsCoverage) {
-        self.jobs += other.jobs;
-        self.calls += other.calls;
-        self.picks += other.picks;
-        self.met.add(&other.met);
-    }
-
-    fn cases(&self) -> u64 {
-        self.jobs
-    }
-
-    fn lines(&self) -> Vec<(String, u64)> {
-        self.met.lines()
-    }
-}
-
-impl fmt::Display for StepsCoverage {
-    fn fmt(&self, f: &mut fmt::Formatter) -> fmt::Result {
-        self.write_lines(f)?;
-        writeln!(f, "{:>12}  picks carried out", self.picks)?;
-        writeln!(f, "{:>12}  calls", self.calls)?;
-        write!(f, "{:>12}  jobs", self.jobs)
+impl From<StepsCoverage> for Counts {
+    fn from(coverage: StepsCoverage) -> Self {
+        coverage.met
     }
 }

@@ -6,7 +6,6 @@ fn main() {
     let soak = Soak {
         name: "soak",
         count: 10_000_000,
-        cases: "images",
         enough: 200_000,
     };
     soak.run(checks::run::run);

@@ -6,7 +6,6 @@ fn main() {
     let soak = Soak {
         name: "soak_jobs",
         count: 1_000_000,
-        cases: "jobs",
         enough: 20_000,
     };
     soak.run(checks::budgets::run);

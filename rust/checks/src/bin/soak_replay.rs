@@ -6,7 +6,6 @@ fn main() {
     let soak = Soak {
         name: "soak_replay",
         count: 100_000,
-        cases: "jobs",
         enough: 20_000,
     };
     soak.run(checks::replay::run);

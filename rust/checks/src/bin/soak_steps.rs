@@ -7,7 +7,6 @@ fn main() {
     let soak = Soak {
         name: "soak_steps",
         count: 100_000,
-        cases: "jobs",
         enough: 20_000,
     };
     soak.run(checks::steps::run);

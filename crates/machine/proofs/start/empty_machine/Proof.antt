@@ -3,11 +3,11 @@ use borrow.Author.Needs.{needs}
 use Rattle.machine.proofs.start.empty_machine.Statement.{statement}
 use Rattle.machine.proofs.start.empty_machine.Tie as tie
 
-unforked-requires : tie.Need-unforked-requires
-unforked-requires c κs = search needs
+vacant-task-requires : tie.Need-vacant-task-requires
+vacant-task-requires c κs = search needs
 
 returns : tie.Need-returns
-returns c = rw (c .unforked .ensures)
+returns c = rw (c .vacant-task .ensures)
 
 pub empty-machine-spec : {M : Type 1} → statement M
-empty-machine-spec = tie.close (tie.spec unforked-requires returns)
+empty-machine-spec = tie.close (tie.spec vacant-task-requires returns)

@@ -21,11 +21,11 @@ Inv-loop places interval registers tasks bank₀ i₀ bank i = (i ≤ 16) × (ba
 abbrev μ-loop : tie.MeasureT-loop
 μ-loop places interval registers tasks bank₀ i₀ bank i = 16 - i
 
+vacant-task-requires : tie.Need-vacant-task-requires Inv-loop μ-loop
+vacant-task-requires c κs = search needs
+
 unforked-requires : tie.Need-unforked-requires Inv-loop μ-loop
 unforked-requires c κs = search needs
-
-unforked-requires-2 : tie.Need-unforked-requires-2 Inv-loop μ-loop
-unforked-requires-2 c κs = search needs
 
 array-set-from-tasks : tie.Need-array-set-from-tasks Inv-loop μ-loop
 array-set-from-tasks c = search needs
@@ -60,7 +60,7 @@ returns c =
     let a = c .before .before .before .before .args in
     let all : c .before .loop .i ≡ 16 = omega arith in
     let filled = c .before .loop .inv .1 ∙ ap (λ (n : ℕ). sets (empty (a .places) (a .interval) .bank) 0 (reads zeroRegister (integers (a .registers .now)) 0 n)) all in
-    rw (filled, c .before .before .unforked2 .ensures, c .before .before .before .unforked .ensures)
+    rw (filled, c .before .before .unforked .ensures, c .before .before .before .vacant-task .ensures)
 
 pub fresh-machine-spec : {M : Type 1} → statement M
 fresh-machine-spec =
@@ -68,8 +68,8 @@ fresh-machine-spec =
     (tie.spec
     Inv-loop
     μ-loop
+    vacant-task-requires
     unforked-requires
-    unforked-requires-2
     array-set-from-tasks
     loop-holds
     mul-t15
