@@ -1,7 +1,7 @@
 -- What the shape test leaves open of a frame, an integer's 64 bits and the depth of a record or an open fork: an instruction and a join
 -- keep it within its field.
 use mathlib.Core.Path.{_≡_, refl}
-use mathlib.Core.Bool.{Bool, true, false}
+use mathlib.Core.Bool.{Bool, true, false, cond}
 use mathlib.Core.List.{List, [], _∷_}
 use mathlib.Core.Option.{Option, none, some}
 use Prim.Native.Nat.{ℕ, zero, suc, _-_, _/_, _%_, _^_, _<_}
@@ -27,13 +27,13 @@ use Rattle.task.specs.declared.Active.{Active}
 use Rattle.task.specs.declared.Task.{Task}
 use Rattle.task.specs.declared.Frame.{Frame}
 use Rattle.task.specs.Frames.{zeroRegister, zeros, zeroFork, noForks, vacant, integers, startFrame, faultOf}
-use Rattle.task.specs.Values.{integerOf, labelOf, recordOf, truth}
+use Rattle.task.specs.Values.{isLabel, integerOf, labelOf, recordOf, truth}
 use Rattle.task.specs.Choices.{Choices, chosen}
-use Rattle.task.specs.Effect.{Effect, stores, continues, enters, forks, waits, halts, faults, asked, jumpsIf, meetsAt, effectOf}
-use Rattle.task.specs.Effect.{Op, move, plus, minus, times, divide, modulo, less, equal, word, ifJump, jralloc, fork, jump, halt, meet, unknown}
-use Rattle.task.specs.Step.{register, operand, opOf, activeOf, counted, side, withTask, promotes, enteredBy, applied, step, copied, firstFault, joinedBy, join}
+use Rattle.task.specs.Effect.{Effect, stores, continues, enters, forks, waits, halts, faults, asked, effectOf}
+use Rattle.task.specs.Effect.{Op, move, plus, minus, times, divide, modulo, less, equal, word, ifJump, jralloc, fork, jump, halt, meet, unknown, opcodes}
+use Rattle.task.specs.Step.{register, operand, activeOf, counted, side, withTask, applied, step, copied, firstFault, joinedBy, join}
 use Rattle.task.proofs.Facts.{set-keeps, constant-at}
-use Rattle.task.proofs.Effects.{asked-keeps}
+use Rattle.task.proofs.Effects.{asked-keeps, entered-keeps}
 use Rattle.task.proofs.JoinKeeps.{copied-keeps}
 use Rattle.steps.specs.Fields.{IntegersInField}
 
@@ -129,11 +129,8 @@ module _ (program : Program) (choices : Choices) (r : ℕ) (f : Frame) (n : Narr
     forks = n .forks;
   }
   applied-narrow continues x = same-forks f _ n refl
-  applied-narrow (enters b) x = go (promotes program choices b (f .task .counter) (f .task .places))
-    where
-      go : (t : Bool) → Narrow (withTask (enteredBy t program b (f .task)) f)
-      go true = same-forks f _ n refl
-      go false = same-forks f _ n refl
+  applied-narrow (enters b) x =
+      entered-keeps (λ t. Narrow (withTask t f)) program choices b (f .task) (same-forks f _ n refl) (same-forks f _ n refl)
   applied-narrow (forks k b) x = (side-narrow k _ _ x, side-narrow k _ _ x)
   applied-narrow waits x = same-forks f _ n refl
   applied-narrow halts x = same-forks f _ n refl
@@ -144,11 +141,11 @@ module _ (program : Program) (words : List ℤ) (interval : ℕ) (fit : Integers
   asks : (z : Bool) (k : ℕ) (after : Effect) → NarrowEffect after → NarrowEffect (asked z k after)
   asks z k after x = asked-keeps NarrowEffect z k after tt (λ e. x)
 
-  branch-narrow : (z : Bool) → NarrowEffect (jumpsIf z v)
+  branch-narrow : (z : Bool) → NarrowEffect (cond z (asked (isLabel v) 34 (enters (labelOf v))) continues)
   branch-narrow true = asks _ _ _ tt
   branch-narrow false = tt
 
-  meet-narrow : (z : Bool) (b : ℕ) → NarrowEffect (meetsAt z b)
+  meet-narrow : (z : Bool) (b : ℕ) → NarrowEffect (cond z (enters b) waits)
   meet-narrow true b = tt
   meet-narrow false b = tt
 
@@ -178,9 +175,9 @@ step-narrow program words interval f fit shallow n =
     let e = program .instruction (f .task .pc) in
     let t = counted (f .task) in
     applied-narrow program (chosen interval) (e .r) (withTask t f) (same-forks f _ n refl)
-    (effectOf program words (chosen interval) (register f (e .s)) (operand f e) (activeOf t) (t .forks) (opOf e))
+    (effectOf program words (chosen interval) (register f (e .s)) (operand f e) (activeOf t) (t .forks) (getD opcodes (e .opcode) unknown))
     (effect-narrow program words interval fit (activeOf t) (t .forks) shallow (register f (e .s)) (operand f e)
-    (n .values (e .s)) (operand-narrow f e n) (opOf e))
+    (n .values (e .s)) (operand-narrow f e n) (getD opcodes (e .opcode) unknown))
 
 -- ---- a join
 

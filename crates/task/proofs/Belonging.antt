@@ -4,6 +4,7 @@ use mathlib.Core.Bool.{Bool, true, false}
 use mathlib.Core.List.{List}
 use Prim.Native.Nat.{ℕ, suc, _+_, _-_, _<_, _≤_}
 use native.Mathlib.Omega.{arith}
+use lib.IntN.{ℤ}
 use lib.ListN.{getD}
 use borrow.Author.Tests.{eq-eqb, ne-eqb, le-leb, lt-leb}
 use Rattle.image.specs.Layout.{blockOf, programOf}
@@ -14,8 +15,8 @@ use Rattle.task.specs.declared.Fork.{Fork}
 use Rattle.task.specs.declared.Active.{Active}
 use Rattle.task.specs.Frames.{zeroFork}
 use Rattle.task.specs.Choices.{Choices, chosen}
-use Rattle.task.specs.Effect.{asked, belong, fits, splits, meets}
-use Rattle.task.specs.Execute.{ending, forking, entering, handed}
+use Rattle.task.specs.Effect.{asked, belong, fits, fork, meet}
+use Rattle.task.specs.Execute.{ending, forking, entering, answered}
 use Rattle.task.proofs.Variants.{NotLabel, NotRecord, not-label, not-record}
 
 -- ---- the loop over the open forks, from i to d
@@ -46,54 +47,54 @@ module _ (l : List Fork) (k : Fork) (d i : ℕ) where
 
 -- ---- fork
 
-module _ (choices : Choices) (cells : List ℕ) (s v : Value) (t : Active) (l : List Fork) where
-  pub fork-other : NotRecord s → ending (Faults 36) ≡ handed (programOf cells) choices t (splits s v t l)
+module _ (words : List ℤ) (choices : Choices) (cells : List ℕ) (s v : Value) (t : Active) (l : List Fork) where
+  pub fork-other : NotRecord s → ending (Faults 36) ≡ answered (programOf cells) words choices s v t l fork
   unfolding asked
   fork-other k =
-      not-record (λ (w : Value). ending (Faults 36) ≡ handed (programOf cells) choices t (splits w v t l)) (λ z. refl) (λ b. refl) s k
+      not-record (λ (w : Value). ending (Faults 36) ≡ answered (programOf cells) words choices w v t l fork) (λ z. refl) (λ b. refl) s k
 
   module _ {c d : ℕ} {z : Bool} (p : s ≡ Record c d) (e : z ≡ fits (record { continuation = c; depth = d }) (t .depth) l) where
-    pub fork-unfit : z ≡ false → ending (Faults 36) ≡ handed (programOf cells) choices t (splits s v t l)
+    pub fork-unfit : z ≡ false → ending (Faults 36) ≡ answered (programOf cells) words choices s v t l fork
     unfolding asked
     fork-unfit k = rw (p, ← e, k)
 
     module _ (k : z ≡ true) where
-      pub fork-no-target : NotLabel v → ending (Faults 34) ≡ handed (programOf cells) choices t (splits s v t l)
+      pub fork-no-target : NotLabel v → ending (Faults 34) ≡ answered (programOf cells) words choices s v t l fork
       unfolding asked
       fork-no-target n =
           rw p
-          (not-label (λ (w : Value). ending (Faults 34) ≡ handed (programOf cells) choices t (splits (Record c d) w t l))
+          (not-label (λ (w : Value). ending (Faults 34) ≡ answered (programOf cells) words choices (Record c d) w t l fork)
           (λ z. rw (← e, k))
           (λ b d. rw (← e, k)) v n)
 
       module _ {b : ℕ} (q : v ≡ Label b) where
-        pub fork-no-places : t .places < 2 → ending (Faults 37) ≡ handed (programOf cells) choices t (splits s v t l)
+        pub fork-no-places : t .places < 2 → ending (Faults 37) ≡ answered (programOf cells) words choices s v t l fork
         unfolding asked
         fork-no-places h = rw (p, ← e, k, q, lt-leb 2 (t .places) h)
 
         pub opens : {pc : ℕ} → 2 ≤ t .places → pc ≡ blockOf cells b .first
-            → forking (Record c d) pc t ≡ handed (programOf cells) choices t (splits s v t l)
+            → forking (Record c d) pc t ≡ answered (programOf cells) words choices s v t l fork
         unfolding asked
         opens h f = rw (f, p, ← e, k, q, le-leb 2 (t .places) h)
 
 -- ---- join
 
-module _ (cells : List ℕ) (interval : ℕ) (v : Value) (t : Active) (l : List Fork) where
-  pub meet-other : NotRecord v → ending (Faults 36) ≡ handed (programOf cells) (chosen interval) t (meets v t l)
+module _ (words : List ℤ) (s : Value) (cells : List ℕ) (interval : ℕ) (v : Value) (t : Active) (l : List Fork) where
+  pub meet-other : NotRecord v → ending (Faults 36) ≡ answered (programOf cells) words (chosen interval) s v t l meet
   unfolding asked
   meet-other k =
-      not-record (λ (w : Value). ending (Faults 36) ≡ handed (programOf cells) (chosen interval) t (meets w t l)) (λ z. refl) (λ b. refl) v k
+      not-record (λ (w : Value). ending (Faults 36) ≡ answered (programOf cells) words (chosen interval) s w t l meet) (λ z. refl) (λ b. refl) v k
 
   module _ {c d : ℕ} {z : Bool} (p : v ≡ Record c d) (e : z ≡ fits (record { continuation = c; depth = d }) (t .depth) l) where
-    pub meet-unfit : z ≡ false → ending (Faults 36) ≡ handed (programOf cells) (chosen interval) t (meets v t l)
+    pub meet-unfit : z ≡ false → ending (Faults 36) ≡ answered (programOf cells) words (chosen interval) s v t l meet
     unfolding asked
     meet-unfit k = rw (p, ← e, k)
 
     pub meets-there : z ≡ true → d ≡ t .depth
-        → entering (programOf cells) (chosen interval) c t ≡ handed (programOf cells) (chosen interval) t (meets v t l)
+        → entering (programOf cells) (chosen interval) c t ≡ answered (programOf cells) words (chosen interval) s v t l meet
     unfolding asked
     meets-there k h = rw (p, ← e, k, eq-eqb d (t .depth) h)
 
-    pub waits-on : z ≡ true → (d ≡ t .depth → ⊥) → ending Waits ≡ handed (programOf cells) (chosen interval) t (meets v t l)
+    pub waits-on : z ≡ true → (d ≡ t .depth → ⊥) → ending Waits ≡ answered (programOf cells) words (chosen interval) s v t l meet
     unfolding asked
     waits-on k h = rw (p, ← e, k, ne-eqb d (t .depth) h)

@@ -1,12 +1,12 @@
 -- Each way through a function of opcodes 2 to 9, with plain variables for what the code has there. A signed value that goes to a call or
 -- comes from one is the number of its bits, `toZ w64 (ofZ w64 a)`.
 use mathlib.Core.Path.{_≡_, refl, sym, ap, _∙_}
-use mathlib.Core.Bool.{Bool, true, false, _&&_}
+use mathlib.Core.Bool.{Bool, true, false, not, _&&_}
 use mathlib.Core.List.{List}
 use Prim.Native.Nat.{_<_, _≤_, _^_}
 use native.Mathlib.Omega.{arith}
 use lib.Dec.{T}
-use lib.IntN.{ℤ, pos, negsuc, natAbs}
+use lib.IntN.{ℤ, pos, negsuc, natAbs, _+ℤ_, _-ℤ_, _*ℤ_}
 use lib.ListN.{length, getD}
 use lib.Signed.{mag, ltZ, nonNeg}
 use mir.Syntax.{w64}
@@ -15,18 +15,45 @@ use mir.ValLaws.{toZ-ofZ, ofZ-fits}
 use borrow.Author.Tests.{lt-ltb, le-ltb}
 use Rattle.facts.proofs.Tests.{clash}
 use Rattle.int64.specs.Equal.{eqZ}
+use Rattle.int64.specs.Wrapped.{wrapped}
 use Rattle.int64.proofs.Equality.{eq-eqZ}
 use Rattle.int64.proofs.Sign.{natural}
 use Rattle.image.specs.Program.{Program}
 use Rattle.task.specs.declared.Value.{Value}
 use Rattle.task.specs.declared.Value.the-variants.{Int}
+use Rattle.task.specs.declared.Fork.{Fork}
 use Rattle.task.specs.declared.Active.{Active}
 use Rattle.task.specs.declared.Kind.the-variants.{Faults}
-use Rattle.task.specs.Values.{isInt}
+use Rattle.task.specs.Values.{isInt, integerOf, truth}
 use Rattle.task.specs.Choices.{Choices}
-use Rattle.task.specs.Effect.{Effect, asked, computes, divides, fetches}
-use Rattle.task.specs.Execute.{storing, ending, handed}
+use Rattle.task.specs.Effect.{Effect, stores, asked, word}
+use Rattle.task.specs.Execute.{storing, ending, handed, answered}
 use Rattle.task.proofs.Variants.{NotInt, not-int}
+
+-- ---- the operations on two integers
+
+abbrev pub sum : ℤ → ℤ → Value
+sum a b = Int (wrapped (a +ℤ b))
+
+abbrev pub difference : ℤ → ℤ → Value
+difference a b = Int (wrapped (a -ℤ b))
+
+abbrev pub product : ℤ → ℤ → Value
+product a b = Int (wrapped (a *ℤ b))
+
+abbrev pub isLess : ℤ → ℤ → Value
+isLess a b = truth (ltZ a b)
+
+abbrev pub isEqual : ℤ → ℤ → Value
+isEqual a b = truth (eqZ a b)
+
+abbrev computes : (ℤ → ℤ → Value) → Value → Value → Effect
+computes op s v = asked (isInt s && isInt v) 31 (stores (op (integerOf s) (integerOf v)))
+
+abbrev divides : (ℤ → ℤ → ℤ) → Value → Value → Effect
+divides op s v =
+    asked (isInt s && isInt v) 31
+    (asked (not (eqZ (integerOf v) (pos 0))) 32 (stores (Int (op (integerOf s) (integerOf v)))))
 
 -- the value that a call gave
 pub given : {r z : ℤ} → mag r < 2 ^ 63 → r ≡ z → Int (toZ w64 (ofZ w64 r)) ≡ Int z
@@ -84,24 +111,24 @@ pub index-fits : (a : ℤ) → SFits w64 a → ltZ (toZ w64 (ofZ w64 a)) (pos 0)
     → T (nonNeg (toZ w64 (ofZ w64 a))) × Fits w64 (natAbs (toZ w64 (ofZ w64 a)))
 index-fits a f e = rw (natural a f e) (tt, ofZ-fits w64 a f)
 
-module _ (program : Program) (choices : Choices) (words : List ℤ) (v : Value) (t : Active) where
-  pub no-index : NotInt v → ending (Faults 31) ≡ handed program choices t (fetches words v)
+module _ (program : Program) (choices : Choices) (words : List ℤ) (s v : Value) (t : Active) (opened : List Fork) where
+  pub no-index : NotInt v → ending (Faults 31) ≡ answered program words choices s v t opened word
   unfolding asked
-  no-index k = not-int (λ (w : Value). ending (Faults 31) ≡ handed program choices t (fetches words w)) (λ b. refl) (λ b d. refl) v k
+  no-index k = not-int (λ (w : Value). ending (Faults 31) ≡ answered program words choices s w t opened word) (λ b. refl) (λ b d. refl) v k
 
   module _ {a : ℤ} (p : v ≡ Int a) (f : SFits w64 a) where
-    pub index-negative : ltZ (toZ w64 (ofZ w64 a)) (pos 0) ≡ true → ending (Faults 33) ≡ handed program choices t (fetches words v)
+    pub index-negative : ltZ (toZ w64 (ofZ w64 a)) (pos 0) ≡ true → ending (Faults 33) ≡ answered program words choices s v t opened word
     unfolding asked
     index-negative e = rw (p, asked, is-negative a (rw (toZ-ofZ w64 a f) at e))
 
     pub index-past : ltZ (toZ w64 (ofZ w64 a)) (pos 0) ≡ false → length words ≤ natAbs (toZ w64 (ofZ w64 a))
-        → ending (Faults 33) ≡ handed program choices t (fetches words v)
+        → ending (Faults 33) ≡ answered program words choices s v t opened word
     unfolding asked
     index-past e h =
         rw (p, asked, not-negative a (rw (toZ-ofZ w64 a f) at e), le-ltb (natAbs a) (length words) (rw (toZ-ofZ w64 a f) at h))
 
     pub gives-word : ltZ (toZ w64 (ofZ w64 a)) (pos 0) ≡ false → natAbs (toZ w64 (ofZ w64 a)) < length words
-        → {w : Value} → w ≡ Int (getD words (natAbs (toZ w64 (ofZ w64 a))) (pos 0)) → storing w t ≡ handed program choices t (fetches words v)
+        → {w : Value} → w ≡ Int (getD words (natAbs (toZ w64 (ofZ w64 a))) (pos 0)) → storing w t ≡ answered program words choices s v t opened word
     unfolding asked
     gives-word e h w =
         rw (w, p, toZ-ofZ w64 a f, asked, not-negative a (rw (toZ-ofZ w64 a f) at e), lt-ltb (natAbs a) (length words) (rw (toZ-ofZ w64 a f) at h))

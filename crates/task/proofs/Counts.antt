@@ -1,6 +1,6 @@
 -- Counter and span: an instruction adds at most 1 to them, a join nothing. So they are at most the work.
 use mathlib.Core.Path.{_≡_, refl, subst}
-use mathlib.Core.Bool.{Bool, true, false}
+use mathlib.Core.Bool.{true}
 use mathlib.Core.List.{List}
 use mathlib.Core.Option.{Option, none, some}
 use Prim.Native.Nat.{ℕ, suc, _-_, _≤_}
@@ -9,6 +9,7 @@ use lib.Dec.{leb}
 use lib.IntN.{ℤ}
 use lib.ListN.{getD}
 use borrow.Author.Tests.{leb-true, le-leb}
+use Rattle.task.proofs.Effects.{entered-keeps}
 use Rattle.facts.proofs.Tests.{both-true, true-both}
 use Rattle.image.specs.Program.{Program}
 use Rattle.task.specs.declared.Register.{Register}
@@ -17,8 +18,8 @@ use Rattle.task.specs.declared.Frame.{Frame}
 use Rattle.agreement.specs.Plain.{Stepped, one, two}
 use Rattle.task.specs.Frames.{zeroFork, vacant, startFrame, faultOf}
 use Rattle.task.specs.Choices.{Choices}
-use Rattle.task.specs.Effect.{Effect, stores, continues, enters, forks, waits, halts, faults, effectOf}
-use Rattle.task.specs.Step.{register, operand, opOf, activeOf, counted, withTask, promotes, enteredBy, applied, step, firstFault, joinedBy, join}
+use Rattle.task.specs.Effect.{Effect, stores, continues, enters, forks, waits, halts, faults, unknown, opcodes, effectOf}
+use Rattle.task.specs.Step.{register, operand, activeOf, counted, withTask, applied, step, firstFault, joinedBy, join}
 use Rattle.task.specs.Formed.{within}
 
 -- at most W, both
@@ -55,14 +56,10 @@ module _ (program : Program) (choices : Choices) (W r : ℕ) (f : Frame) (x : Wi
   cleared : (t : Task) → t .counter ≡ 0 → t .span ≡ f .task .span → Within W t
   cleared t c s = record { counter-most = omega arith; span-most = omega (arith, x .span-most) }
 
-  within-entered : (b : ℕ) (t : Bool) → Within W (enteredBy t program b (f .task))
-  within-entered b true = cleared _ refl refl
-  within-entered b false = kept _ refl refl
-
   within-applied : (e : Effect) → AllWithin W (applied program choices r f e)
   within-applied (stores v) = kept _ refl refl
   within-applied continues = kept _ refl refl
-  within-applied (enters b) = within-entered b (promotes program choices b (f .task .counter) (f .task .places))
+  within-applied (enters b) = entered-keeps (Within W) program choices b (f .task) (cleared _ refl refl) (kept _ refl refl)
   within-applied (forks k b) = (kept _ refl refl, cleared _ refl refl)
   within-applied waits = cleared _ refl refl
   within-applied halts = cleared _ refl refl
@@ -76,7 +73,7 @@ module _ (program : Program) (words : List ℤ) (choices : Choices) where
       let t = counted (f .task) in
       within-applied program choices (suc W) (e .r) (withTask t f)
       (record { counter-most = omega (arith, x .counter-most); span-most = omega (arith, x .span-most) })
-      (effectOf program words choices (register f (e .s)) (operand f e) (activeOf t) (t .forks) (opOf e))
+      (effectOf program words choices (register f (e .s)) (operand f e) (activeOf t) (t .forks) (getD opcodes (e .opcode) unknown))
 
   pub step-one-within : (W : ℕ) (f g : Frame) → Within W (f .task) → step program words choices f ≡ one g → Within (suc W) (g .task)
   step-one-within W f g x e = subst (AllWithin (suc W)) e (within-step W f x)

@@ -14,8 +14,8 @@ use Rattle.task.specs.declared.Fork.{Fork}
 use Rattle.task.specs.declared.Active.{Active}
 use Rattle.task.specs.declared.Kind.the-variants.{Faults}
 use Rattle.task.specs.Choices.{Choices}
-use Rattle.task.specs.Effect.{unknown, opcodes, effectOf}
-use Rattle.task.specs.Execute.{Ready, countedActive, ending, handed, executed}
+use Rattle.task.specs.Effect.{unknown, opcodes}
+use Rattle.task.specs.Execute.{Ready, countedActive, ending, answered, executed}
 use Rattle.task.proofs.Opcodes.{no-opcode}
 
 module _ (cells : List ℕ) {s v : Value} {t n : Active} (e : n ≡ countedActive t) (r : Ready cells s v t) where
@@ -28,7 +28,7 @@ module _ (cells : List ℕ) {s v : Value} {t n : Active} (e : n ≡ countedActiv
 module _ (program : Program) (words : List ℤ) (choices : Choices) (x : Instruction) (s v : Value) (t : Active) (l : List Fork) {n : Active}
     (e : n ≡ countedActive t) where
   pub sends : (m : ℕ) → x .opcode ≡ m
-      → handed program choices n (effectOf program words choices s v n l (getD opcodes m unknown)) ≡ executed program words choices x s v t l
+      → answered program words choices s v n l (getD opcodes m unknown) ≡ executed program words choices x s v t l
   unfolding executed
   sends m k = rw (e, k)
 

@@ -12,13 +12,14 @@ use Rattle.int64.specs.Equal.{eqZ}
 use Rattle.image.specs.Layout.{blockCount, blockOf, programOf}
 use Rattle.task.specs.declared.Value.{Value}
 use Rattle.task.specs.declared.Value.the-variants.{Int, Label, Record}
+use Rattle.task.specs.declared.Fork.{Fork}
 use Rattle.task.specs.declared.Active.{Active}
 use Rattle.task.specs.declared.Kind.the-variants.{Faults}
 use Rattle.task.specs.Choices.{Choices, chosen}
-use Rattle.task.specs.Effect.{asked, jumps, branches, allocates}
+use Rattle.task.specs.Effect.{asked, ifJump, jralloc, jump}
 use Rattle.task.specs.Step.{promotes}
 use Rattle.task.specs.Formed.{valueFits}
-use Rattle.task.specs.Execute.{storing, going, ending, entering, handed}
+use Rattle.task.specs.Execute.{storing, going, ending, entering, answered}
 use Rattle.task.proofs.Formation.{target-below}
 use Rattle.task.proofs.Variants.{NotInt, NotLabel, not-int, not-label}
 
@@ -43,50 +44,50 @@ module _ (cells : List ℕ) (interval b : ℕ) (t : Active) {z : Bool} {pc : ℕ
 
 -- ---- jump and if-jump
 
-module _ (cells : List ℕ) (interval : ℕ) (v : Value) (t : Active) where
-  pub no-target : NotLabel v → ending (Faults 34) ≡ handed (programOf cells) (chosen interval) t (jumps v)
+module _ (cells : List ℕ) (words : List ℤ) (interval : ℕ) (v : Value) (t : Active) (opened : List Fork) where
+  pub no-target : (s : Value) → NotLabel v → ending (Faults 34) ≡ answered (programOf cells) words (chosen interval) s v t opened jump
   unfolding asked
-  no-target k =
-      not-label (λ (w : Value). ending (Faults 34) ≡ handed (programOf cells) (chosen interval) t (jumps w)) (λ z. refl) (λ b d. refl) v k
+  no-target s k =
+      not-label (λ (w : Value). ending (Faults 34) ≡ answered (programOf cells) words (chosen interval) s w t opened jump) (λ z. refl) (λ b d. refl) v k
 
-  pub jumps-there : {b : ℕ} → v ≡ Label b
-      → entering (programOf cells) (chosen interval) b t ≡ handed (programOf cells) (chosen interval) t (jumps v)
+  pub jumps-there : (s : Value) {b : ℕ} → v ≡ Label b
+      → entering (programOf cells) (chosen interval) b t ≡ answered (programOf cells) words (chosen interval) s v t opened jump
   unfolding asked
-  jumps-there p = rw p
+  jumps-there s p = rw p
 
   module _ (s : Value) where
-    pub tests-other : NotInt s → ending (Faults 31) ≡ handed (programOf cells) (chosen interval) t (branches s v)
+    pub tests-other : NotInt s → ending (Faults 31) ≡ answered (programOf cells) words (chosen interval) s v t opened ifJump
     unfolding asked
     tests-other k =
-        not-int (λ (w : Value). ending (Faults 31) ≡ handed (programOf cells) (chosen interval) t (branches w v)) (λ b. refl) (λ b d. refl) s k
+        not-int (λ (w : Value). ending (Faults 31) ≡ answered (programOf cells) words (chosen interval) w v t opened ifJump) (λ b. refl) (λ b d. refl) s k
 
     module _ {a : ℤ} {z : Bool} (p : s ≡ Int a) (f : SFits w64 a) (e : z ≡ eqZ (toZ w64 (ofZ w64 a)) (pos 0)) where
       is-zero : {y : Bool} → z ≡ y → eqZ a (pos 0) ≡ y
       is-zero k = sym (rw (toZ-ofZ w64 a f) at e) ∙ k
 
       pub takes-branch : z ≡ true
-          → handed (programOf cells) (chosen interval) t (jumps v) ≡ handed (programOf cells) (chosen interval) t (branches s v)
+          → answered (programOf cells) words (chosen interval) s v t opened jump ≡ answered (programOf cells) words (chosen interval) s v t opened ifJump
       unfolding asked
       takes-branch k = rw (p, is-zero k)
 
-      pub falls-through : z ≡ false → going (t .pc + 1) (t .counter) ≡ handed (programOf cells) (chosen interval) t (branches s v)
+      pub falls-through : z ≡ false → going (t .pc + 1) (t .counter) ≡ answered (programOf cells) words (chosen interval) s v t opened ifJump
       unfolding asked
       falls-through k = rw (p, is-zero k)
 
 -- ---- jralloc
 
-module _ (choices : Choices) (cells : List ℕ) (v : Value) (t : Active) where
-  pub no-label : NotLabel v → ending (Faults 35) ≡ handed (programOf cells) choices t (allocates (programOf cells) v t)
+module _ (words : List ℤ) (choices : Choices) (cells : List ℕ) (s v : Value) (t : Active) (opened : List Fork) where
+  pub no-label : NotLabel v → ending (Faults 35) ≡ answered (programOf cells) words choices s v t opened jralloc
   unfolding asked
   no-label k =
-      not-label (λ (w : Value). ending (Faults 35) ≡ handed (programOf cells) choices t (allocates (programOf cells) w t)) (λ z. refl) (λ b d. refl) v k
+      not-label (λ (w : Value). ending (Faults 35) ≡ answered (programOf cells) words choices s w t opened jralloc) (λ z. refl) (λ b d. refl) v k
 
   pub no-join-target : {b : ℕ} → v ≡ Label b → (blockOf cells b .annotation ≡ 2 → ⊥)
-      → ending (Faults 35) ≡ handed (programOf cells) choices t (allocates (programOf cells) v t)
+      → ending (Faults 35) ≡ answered (programOf cells) words choices s v t opened jralloc
   unfolding asked
   no-join-target {b} p k = rw (p, ne-eqb (blockOf cells b .annotation) 2 k)
 
   pub gives-record : {b : ℕ} → v ≡ Label b → blockOf cells b .annotation ≡ 2
-      → storing (Record b (t .depth)) t ≡ handed (programOf cells) choices t (allocates (programOf cells) v t)
+      → storing (Record b (t .depth)) t ≡ answered (programOf cells) words choices s v t opened jralloc
   unfolding asked
   gives-record {b} p k = rw (p, eq-eqb (blockOf cells b .annotation) 2 k)

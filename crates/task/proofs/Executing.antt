@@ -1,11 +1,11 @@
 -- What the machine makes of a frame with what `execute` hands it is `step`.
 use mathlib.Core.Path.{_≡_, refl}
-use mathlib.Core.Bool.{Bool, true, false}
+use mathlib.Core.Bool.{Bool, true, false, cond}
 use mathlib.Core.List.{List}
 use Prim.Native.Nat.{ℕ}
 use lib.IntN.{ℤ}
 use lib.Dec.{eqb}
-use lib.ListN.{set}
+use lib.ListN.{getD, set}
 use borrow.Author.Tests.{eqb-true}
 use Rattle.image.specs.declared.Instruction.{Instruction}
 use Rattle.image.specs.Program.{Program}
@@ -21,9 +21,9 @@ use Rattle.task.specs.declared.Executed.{Executed}
 use Rattle.task.specs.Frames.{zeros}
 use Rattle.task.specs.Values.{recordOf}
 use Rattle.task.specs.Choices.{Choices}
-use Rattle.task.specs.Effect.{Effect, stores, continues, enters, forks, waits, halts, faults, effectOf}
-use Rattle.task.specs.Step.{register, operand, opOf, activeOf, counted, movedTo, ended, side, withTask, promotes, enteredBy, entered, applied, step}
-use Rattle.task.specs.Execute.{countedActive, enteringBy, entering, handed, executed, selected}
+use Rattle.task.specs.Effect.{Effect, stores, continues, enters, forks, waits, halts, faults, unknown, opcodes, effectOf}
+use Rattle.task.specs.Step.{register, operand, activeOf, counted, movedTo, ended, side, withTask, promotes, applied, step}
+use Rattle.task.specs.Execute.{countedActive, enteringBy, handed, executed, selected}
 
 -- ---- What the machine makes of the frame as it was before the instruction
 
@@ -65,7 +65,7 @@ module _ (program : Program) (choices : Choices) (f : Frame) (x : Instruction) w
   makes continues = refl
   makes (enters b) = go (promotes program choices b (t .counter) (t .places))
     where
-      go : (z : Bool) → one (withTask (enteredBy z program b (g .task)) g) ≡ made f x (enteringBy program choices z b t)
+      go : (z : Bool) → one (withTask (cond z (movedTo (program .block (program .block b .label) .first) 0 (g .task)) (movedTo (program .block b .first) (t .counter) (g .task))) g) ≡ made f x (enteringBy program choices z b t)
       go true = refl
       go false = refl
   makes (forks k b) = refl
@@ -81,7 +81,7 @@ unfolding step executed
 step-executed program words choices f =
     let x = program .instruction (f .task .pc) in
     makes program choices f x
-    (effectOf program words choices (register f (x .s)) (operand f x) (countedActive (activeOf (f .task))) (f .task .forks) (opOf x))
+    (effectOf program words choices (register f (x .s)) (operand f x) (countedActive (activeOf (f .task))) (f .task .forks) (getD opcodes (x .opcode) unknown))
 
 -- the operand is read from the registers once: for another kind than 1 what was read does not count
 pub selected-is : (f : Frame) (x : Instruction) (held : Value) → (x .kind ≡ 1 → held ≡ register f (x .operand)) → selected x held ≡ operand f x

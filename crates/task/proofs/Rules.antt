@@ -24,7 +24,7 @@ use Rattle.task.specs.Frames.{zeroFork, faultOf}
 use Rattle.task.specs.Choices.{Choices, chosen}
 use Rattle.task.specs.Values.{truth}
 use Rattle.task.specs.Effect.{stores, asked, fits}
-use Rattle.task.specs.Step.{promotes, enteredBy, entered, firstFault, joinedBy, join}
+use Rattle.task.specs.Step.{movedTo, promotes, firstFault, joinedBy, join}
 use Rattle.task.specs.Rules.{JoinRules, Due, EntryRules, Entrances, Comparisons, TaskRules}
 use Rattle.task.proofs.Fitting.{is-fits}
 
@@ -88,16 +88,19 @@ module _ (program : Program) (interval b : ℕ) (t : Task) where
       }
 
   -- by the test's answer
+  abbrev by : Bool → Task
+  by z = cond z (movedTo (program .block (program .block b .label) .first) 0 t) (movedTo (program .block b .first) (t .counter) t)
+
   abbrev u : Task
-  u = entered program (chosen interval) b t
+  u = by test
 
   stays : test ≡ false → (u .counter ≡ t .counter) × (u .pc ≡ program .block b .first)
-  stays e = (ap (λ o. enteredBy o program b t .counter) e, ap (λ o. enteredBy o program b t .pc) e)
+  stays e = (ap (λ z. by z .counter) e, ap (λ z. by z .pc) e)
 
   entry-rules : EntryRules program interval b t u
   unfolding promotes
   entry-rules = record {
-    promoted = λ d. (ap (λ o. enteredBy o program b t .counter) (when-due d), ap (λ o. enteredBy o program b t .pc) (when-due d));
+    promoted = λ d. (ap (λ z. by z .counter) (when-due d), ap (λ z. by z .pc) (when-due d));
     not-promoted = λ n. stays (never test (λ h. n (is-due h)));
     target-stays = λ e. stays (rw e);
   }

@@ -1,13 +1,13 @@
 -- In an accepted program, an instruction of a formed running task leaves formed tasks.
 use mathlib.Core.Path.{_≡_, refl, subst}
-use mathlib.Core.Bool.{Bool, true, false}
+use mathlib.Core.Bool.{Bool, true, false, cond}
 use mathlib.Core.List.{List}
 use Prim.Native.Nat.{ℕ, zero, suc, _+_, _<_, _≤_}
 use native.Mathlib.Omega.{arith}
 use lib.Dec.{eqb}
 use lib.IntN.{ℤ, pos}
 use lib.Signed.{ltZ}
-use lib.ListN.{length-set}
+use lib.ListN.{getD, length-set}
 use borrow.Author.Tests.{eqb-true, eqb-false, ltb-true, leb-true, le-leb, lt-ltb}
 use Rattle.facts.proofs.Tests.{clash, both-true, true-both}
 use Rattle.int64.specs.Equal.{eqZ}
@@ -27,13 +27,13 @@ use Rattle.agreement.specs.Plain.{Stepped, one, two}
 use Rattle.task.specs.Frames.{isRunning, running, zeroRegister}
 use Rattle.task.specs.Values.{isLabel, isRecord, integerOf, labelOf, recordOf, truth}
 use Rattle.task.specs.Choices.{Choices}
-use Rattle.task.specs.Effect.{Effect, stores, continues, enters, forks, waits, halts, faults, asked, fits, jumps, jumpsIf, meetsAt}
-use Rattle.task.specs.Effect.{Op, move, plus, minus, times, divide, modulo, less, equal, word, ifJump, jralloc, fork, jump, halt, meet, unknown, effectOf}
-use Rattle.task.specs.Step.{register, operand, opOf, activeOf, counted, movedTo, ended, side, withTask, promotes, enteredBy, applied, step}
+use Rattle.task.specs.Effect.{Effect, stores, continues, enters, forks, waits, halts, faults, asked, fits}
+use Rattle.task.specs.Effect.{Op, move, plus, minus, times, divide, modulo, less, equal, word, ifJump, jralloc, fork, jump, halt, meet, unknown, opcodes, effectOf}
+use Rattle.task.specs.Step.{register, operand, activeOf, counted, movedTo, ended, side, withTask, applied, step}
 use Rattle.task.specs.Formed.{every, isTarget, valueFits, statusFits}
 use Rattle.task.proofs.Fitting.{fits-is}
 use Rattle.task.proofs.Forks.{opened-fits}
-use Rattle.task.proofs.Effects.{asked-keeps}
+use Rattle.task.proofs.Effects.{asked-keeps, entered-keeps}
 use Rattle.task.proofs.Opcodes.{lasts, After, after}
 use Rattle.task.proofs.Facts.{set-keeps}
 use Rattle.task.proofs.Formation.{Formed, Listed, zeros-fit, target-below, target-from}
@@ -178,11 +178,9 @@ module _ (cells : List ℕ) (ok : Accepted cells) (D : ℕ) (room : D ≤ 6) whe
           (x .is .values-fit i);
     }
     applied-leaves x continues s = moved-formed _ _ x s
-    applied-leaves {h} {f} x (enters b) s = go (promotes program choices b (f .task .counter) (f .task .places))
-      where
-        go : (t : Bool) → Is h (withTask (enteredBy t program b (f .task)) f)
-        go true = moved-formed _ 0 x (block-below _ (ok .block b s .label-below))
-        go false = moved-formed _ _ x (block-below b s)
+    applied-leaves {h} {f} x (enters b) s =
+        entered-keeps (λ t. Is h (withTask t f)) program choices b (f .task) (moved-formed _ 0 x (block-below _ (ok .block b s .label-below)))
+        (moved-formed _ _ x (block-below b s))
     applied-leaves {h} {f} x (forks k b) s = splits-leave h f k b x s
     applied-leaves {h} {f} x waits s = ended-formed Waiting (x .is) (true-both (lt-ltb 0 (f .task .depth) s) refl)
     applied-leaves x halts s = ended-formed Halted (x .is) (true-both s refl)
@@ -203,21 +201,21 @@ module _ (cells : List ℕ) (ok : Accepted cells) (D : ℕ) (room : D ≤ 6) whe
     asks : (z : Bool) (n : ℕ) (after : Effect) → Listed n → (z ≡ true → Sound t after) → Sound t (asked z n after)
     asks z n after l g = asked-keeps (Sound t) z n after l g
 
-    sound-jump : Sound t (jumps v)
+    sound-jump : Sound t (asked (isLabel v) 34 (enters (labelOf v)))
     sound-jump = asks _ _ _ (omega arith) λ e. label-below program v fv e
 
-    sound-branch : (z : Bool) → t .pc + 1 < instructionCount cells → Sound t (jumpsIf z v)
+    sound-branch : (z : Bool) → t .pc + 1 < instructionCount cells → Sound t (cond z (asked (isLabel v) 34 (enters (labelOf v))) continues)
     sound-branch true next = sound-jump
     sound-branch false next = next
 
     sound-meet : (k : Fork) → isTarget program (k .continuation) ≡ true → fits k (t .depth) (t .forks) ≡ true
-        → Sound t (meetsAt (eqb (k .depth) (t .depth)) (k .continuation))
+        → Sound t (cond (eqb (k .depth) (t .depth)) (enters (k .continuation)) waits)
     sound-meet k target fit = go (eqb (k .depth) (t .depth)) refl
       where
         shallow : k .depth ≤ t .depth
         shallow = fits-is k (t .depth) (t .forks) fit .shallow
 
-        go : (z : Bool) → eqb (k .depth) (t .depth) ≡ z → Sound t (meetsAt z (k .continuation))
+        go : (z : Bool) → eqb (k .depth) (t .depth) ≡ z → Sound t (cond z (enters (k .continuation)) waits)
         go true e = target-below program (k .continuation) target
         go false e = let apart = eqb-false (k .depth) (t .depth) e in omega (arith, shallow)
 
@@ -254,11 +252,11 @@ module _ (cells : List ℕ) (ok : Accepted cells) (D : ℕ) (room : D ≤ 6) whe
       let e = instructionOf cells (f .task .pc) in
       let t = counted (f .task) in
       applied-leaves choices (e .r) (record { is = counted-formed; runs = running-is (f .task .status) runs })
-      (effectOf program words choices (register f (e .s)) (operand f e) (activeOf t) (t .forks) (opOf e))
+      (effectOf program words choices (register f (e .s)) (operand f e) (activeOf t) (t .forks) (getD opcodes (e .opcode) unknown))
       (sound words choices t (register f (e .s)) (operand f e)
       (x .values-fit (e .s))
       (operand-fits program f e (x .values-fit) (i .label-below))
-      (opOf e)
+      (getD opcodes (e .opcode) unknown)
       (after (f .task .pc + 1 < instructionCount cells) (e .opcode) (i .opcode-least) (i .opcode-most) (i .next-below)))
     where
       counted-formed : Is h (withTask (counted (f .task)) f)

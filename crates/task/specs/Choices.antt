@@ -14,14 +14,11 @@ pub record Choices : Type 0 where
   pub quotient : ℤ → ℤ → ℤ
   pub remainder : ℤ → ℤ → ℤ
 
--- with an interval of 0 never; otherwise when the counter is at least the interval (02, request 1)
-abbrev pub dueAt : ℕ → ℕ → Bool
-dueAt interval counter = not (eqb interval 0) && leb interval counter
-
--- division goes toward zero; the least integer divided by -1 gives itself, remainder 0
-abbrev pub towardZero : ℤ → ℤ → ℤ
-towardZero a b = wrapped (quotZ a b)
-
--- the engine's, for a job with this interval
+-- the engine's, for a job with this interval. Of an interval of 0 never; otherwise when the counter is at least the interval (02, request 1).
+-- Division goes toward zero; the least integer divided by -1 gives itself, remainder 0
 abbrev pub chosen : ℕ → Choices
-chosen interval = record { due = dueAt interval; quotient = towardZero; remainder = remZ }
+chosen interval = record {
+  due = λ counter. not (eqb interval 0) && leb interval counter;
+  quotient = λ a b. wrapped (quotZ a b);
+  remainder = remZ;
+}

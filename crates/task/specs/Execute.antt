@@ -28,8 +28,8 @@ use Rattle.task.specs.declared.Executed.{Executed}
 use Rattle.task.specs.declared.Joint.{Joint}
 use Rattle.task.specs.Frames.{zeros, zeroFork, faultOf, workLimit}
 use Rattle.task.specs.Choices.{Choices}
-use Rattle.task.specs.Effect.{Effect, stores, continues, enters, forks, waits, halts, faults, effectOf}
-use Rattle.task.specs.Step.{promotes, opOf, copied, firstFault, outwardTask}
+use Rattle.task.specs.Effect.{Effect, stores, continues, enters, forks, waits, halts, faults, Op, unknown, opcodes, effectOf}
+use Rattle.task.specs.Step.{promotes, copied, firstFault, outwardTask}
 use Rattle.task.specs.Formed.{valueFits}
 
 -- ---- An instruction
@@ -73,10 +73,11 @@ module _ (program : Program) (choices : Choices) where
   handed t (faults n) = ending (Faults n)
 
 module _ (program : Program) (words : List ℤ) (choices : Choices) where
+  abbrev pub answered : Value → Value → Active → List Fork → Op → Executed
+  answered s v t opened op = handed program choices t (effectOf program words choices s v t opened op)
+
   unfoldable pub executed : Instruction → Value → Value → Active → List Fork → Executed
-  executed x s v t opened =
-      let n = countedActive t in
-      handed program choices n (effectOf program words choices s v n opened (opOf x))
+  executed x s v t opened = answered s v (countedActive t) opened (getD opcodes (x .opcode) unknown)
 
 -- the value of operand v, where `held` is that of the register that an operand of kind 1 names
 unfoldable pub selected : Instruction → Value → Value

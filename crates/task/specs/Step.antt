@@ -1,5 +1,5 @@
 -- One instruction carried out on one task (`step`): what its effect makes of the task. And the task that two ended sides make (`join`).
-use mathlib.Core.Bool.{Bool, true, false, _&&_}
+use mathlib.Core.Bool.{Bool, true, false, cond, _&&_}
 use mathlib.Core.List.{List}
 use mathlib.Core.Option.{Option, none, some}
 use Prim.Native.Nat.{ℕ, zero, suc, _+_, _-_, _/_, _%_, max}
@@ -22,7 +22,7 @@ use Rattle.task.specs.declared.Task.{Task}
 use Rattle.task.specs.declared.Frame.{Frame}
 use Rattle.task.specs.Frames.{zeroRegister, zeros, zeroFork, faultOf}
 use Rattle.task.specs.Choices.{Choices}
-use Rattle.task.specs.Effect.{Effect, stores, continues, enters, forks, waits, halts, faults, Op, unknown, opcodes, effectOf}
+use Rattle.task.specs.Effect.{Effect, stores, continues, enters, forks, waits, halts, faults, unknown, opcodes, effectOf}
 
 -- ---- Operands
 
@@ -37,45 +37,28 @@ operand f x = elim (eqb (x .kind) 1) [
   | false ↦ elim (eqb (x .kind) 2) [ true ↦ Label (x .operand) | false ↦ Int (toZ w64 (x .operand)) ]
 ]
 
-abbrev pub opOf : Instruction → Op
-opOf x = getD opcodes (x .opcode) unknown
-
 -- what an instruction looks at of a task, besides its open forks
 abbrev pub activeOf : Task → Active
 activeOf t = record { places = t .places; pc = t .pc; counter = t .counter; depth = t .depth }
 
 -- ---- What an instruction leaves of a task
 
+-- places, depth and open forks as they were
+abbrev pub went : Status → ℕ → ℕ → ℕ → Task → Task
+went s pc counter span t =
+    record { status = s; places = t .places; pc = pc; counter = counter; span = span; depth = t .depth; forks = t .forks }
+
 -- it adds 1 to the task's counter and span
 abbrev pub counted : Task → Task
-counted t = record {
-  status = t .status;
-  places = t .places;
-  pc = t .pc;
-  counter = t .counter + 1;
-  span = t .span + 1;
-  depth = t .depth;
-  forks = t .forks;
-}
+counted t = went (t .status) (t .pc) (t .counter + 1) (t .span + 1) t
 
 -- the task at another instruction
 abbrev pub movedTo : ℕ → ℕ → Task → Task
-movedTo pc counter t = record {
-  status = t .status;
-  places = t .places;
-  pc = pc;
-  counter = counter;
-  span = t .span;
-  depth = t .depth;
-  forks = t .forks;
-}
+movedTo pc counter t = went (t .status) pc counter (t .span) t
 
-abbrev pub onward : Task → Task
-onward t = movedTo (t .pc + 1) (t .counter) t
-
--- the task waits, has halted or has faulted: it keeps its places
+-- the task waits, has halted or has faulted
 abbrev pub ended : Status → Task → Task
-ended s t = record { status = s; places = t .places; pc = 0; counter = 0; span = t .span; depth = t .depth; forks = t .forks }
+ended s t = went s 0 0 (t .span) t
 
 -- one side of a fork: half of the places, and an open fork more, under the record
 abbrev pub side : Fork → ℕ → ℕ → Task → Task
@@ -100,12 +83,10 @@ promotes program choices b counter places =
     eqb (program .block b .annotation) 1 && (choices .due counter && leb 2 places)
 
 -- then the counter becomes 0 and control goes to the handler; otherwise it enters the block
-abbrev pub enteredBy : Bool → Program → ℕ → Task → Task
-enteredBy true program b t = movedTo (program .block (program .block b .label) .first) 0 t
-enteredBy false program b t = movedTo (program .block b .first) (t .counter) t
-
 abbrev pub entered : Program → Choices → ℕ → Task → Task
-entered program choices b t = enteredBy (promotes program choices b (t .counter) (t .places)) program b t
+entered program choices b t =
+    cond (promotes program choices b (t .counter) (t .places)) (movedTo (program .block (program .block b .label) .first) 0 t)
+    (movedTo (program .block b .first) (t .counter) t)
 
 -- ---- An instruction
 
@@ -113,8 +94,8 @@ module _ (program : Program) where
   -- what an effect makes of a task that has counted the instruction, whose register is r
   module _ (choices : Choices) where
     abbrev pub applied : ℕ → Frame → Effect → Stepped Frame
-    applied r f (stores v) = one (record { task = onward (f .task); registers = set (f .registers) r (record { value = v }) })
-    applied r f continues = one (withTask (onward (f .task)) f)
+    applied r f (stores v) = one (record { task = movedTo (f .task .pc + 1) (f .task .counter) (f .task); registers = set (f .registers) r (record { value = v }) })
+    applied r f continues = one (withTask (movedTo (f .task .pc + 1) (f .task .counter) (f .task)) f)
     applied r f (enters b) = one (withTask (entered program choices b (f .task)) f)
     -- the child has the parent's registers and span, counter 0, and starts the block
     applied r f (forks k b) =
@@ -131,7 +112,7 @@ module _ (program : Program) where
       let x = program .instruction (f .task .pc) in
       let t = counted (f .task) in
       applied choices (x .r) (withTask t f)
-      (effectOf program words choices (register f (x .s)) (operand f x) (activeOf t) (t .forks) (opOf x))
+      (effectOf program words choices (register f (x .s)) (operand f x) (activeOf t) (t .forks) (getD opcodes (x .opcode) unknown))
 
 -- ---- When both sides of a fork have ended
 

@@ -5,14 +5,16 @@ use crate::Value;
 use crate::results::fault;
 use crate::results::store;
 ghost use mathlib.Core.Path.{_≡_};
-ghost use Prim.Native.Nat.{_<_};
+ghost use Prim.Native.Nat.{ℕ, _<_};
 ghost use Rattle.task.specs.Values.{truth};
-ghost use lib.Signed.{remZ};
+ghost use mathlib.Core.List.{List};
+ghost use lib.IntN.{ℤ};
 ghost use Rattle.image.specs.Program.{Program};
 ghost use Rattle.image.specs.Questions.{mostInstructions};
-ghost use Rattle.task.specs.Choices.{Choices, towardZero};
-ghost use Rattle.task.specs.Effect.{computes, divides, sum, difference, product, isLess, isEqual, fetches};
-ghost use Rattle.task.specs.Execute.{handed};
+ghost use Rattle.task.specs.declared.Fork.{Fork};
+ghost use Rattle.task.specs.Choices.{Choices, chosen};
+ghost use Rattle.task.specs.Effect.{plus, minus, times, divide, modulo, less, equal, word};
+ghost use Rattle.task.specs.Execute.{answered};
 
 // Comparisons give 0 when true, 1 when false.
 fn truth_of(holds: bool) -> Value
@@ -27,7 +29,7 @@ fn truth_of(holds: bool) -> Value
 // Execute alone calls it; the shape test has put pc inside the program.
 pub fn add(s: Value, v: Value, t: Active) -> Executed
     requires { ⌜ t .pc < mostInstructions ⌝ }
-    ensures { λ r. ⌜ ((p : Program) (c : Choices) → r ≡ handed p c t (computes sum s v)) ⌝ }
+    ensures { λ r. ⌜ ((p : Program) (w : List ℤ) (c : Choices) (o : List Fork) → r ≡ answered p w c s v t o plus) ⌝ }
 {
     let Value::Int(a) = s else {
         return fault(31);
@@ -41,7 +43,7 @@ pub fn add(s: Value, v: Value, t: Active) -> Executed
 // As above.
 pub fn subtract(s: Value, v: Value, t: Active) -> Executed
     requires { ⌜ t .pc < mostInstructions ⌝ }
-    ensures { λ r. ⌜ ((p : Program) (c : Choices) → r ≡ handed p c t (computes difference s v)) ⌝ }
+    ensures { λ r. ⌜ ((p : Program) (w : List ℤ) (c : Choices) (o : List Fork) → r ≡ answered p w c s v t o minus) ⌝ }
 {
     let Value::Int(a) = s else {
         return fault(31);
@@ -55,7 +57,7 @@ pub fn subtract(s: Value, v: Value, t: Active) -> Executed
 // As above.
 pub fn multiply(s: Value, v: Value, t: Active) -> Executed
     requires { ⌜ t .pc < mostInstructions ⌝ }
-    ensures { λ r. ⌜ ((p : Program) (c : Choices) → r ≡ handed p c t (computes product s v)) ⌝ }
+    ensures { λ r. ⌜ ((p : Program) (w : List ℤ) (c : Choices) (o : List Fork) → r ≡ answered p w c s v t o times) ⌝ }
 {
     let Value::Int(a) = s else {
         return fault(31);
@@ -69,7 +71,7 @@ pub fn multiply(s: Value, v: Value, t: Active) -> Executed
 // As above.
 pub fn divide(s: Value, v: Value, t: Active) -> Executed
     requires { ⌜ t .pc < mostInstructions ⌝ }
-    ensures { λ r. ⌜ ((p : Program) (c : Choices) → r ≡ handed p c t (divides towardZero s v)) ⌝ }
+    ensures { λ r. ⌜ ((p : Program) (w : List ℤ) (n : ℕ) (o : List Fork) → r ≡ answered p w (chosen n) s v t o divide) ⌝ }
 {
     let Value::Int(a) = s else {
         return fault(31);
@@ -86,7 +88,7 @@ pub fn divide(s: Value, v: Value, t: Active) -> Executed
 // As above.
 pub fn modulo(s: Value, v: Value, t: Active) -> Executed
     requires { ⌜ t .pc < mostInstructions ⌝ }
-    ensures { λ r. ⌜ ((p : Program) (c : Choices) → r ≡ handed p c t (divides remZ s v)) ⌝ }
+    ensures { λ r. ⌜ ((p : Program) (w : List ℤ) (n : ℕ) (o : List Fork) → r ≡ answered p w (chosen n) s v t o modulo) ⌝ }
 {
     let Value::Int(a) = s else {
         return fault(31);
@@ -103,7 +105,7 @@ pub fn modulo(s: Value, v: Value, t: Active) -> Executed
 // As above.
 pub fn less(s: Value, v: Value, t: Active) -> Executed
     requires { ⌜ t .pc < mostInstructions ⌝ }
-    ensures { λ r. ⌜ ((p : Program) (c : Choices) → r ≡ handed p c t (computes isLess s v)) ⌝ }
+    ensures { λ r. ⌜ ((p : Program) (w : List ℤ) (c : Choices) (o : List Fork) → r ≡ answered p w c s v t o less) ⌝ }
 {
     let Value::Int(a) = s else {
         return fault(31);
@@ -117,7 +119,7 @@ pub fn less(s: Value, v: Value, t: Active) -> Executed
 // As above.
 pub fn equal(s: Value, v: Value, t: Active) -> Executed
     requires { ⌜ t .pc < mostInstructions ⌝ }
-    ensures { λ r. ⌜ ((p : Program) (c : Choices) → r ≡ handed p c t (computes isEqual s v)) ⌝ }
+    ensures { λ r. ⌜ ((p : Program) (w : List ℤ) (c : Choices) (o : List Fork) → r ≡ answered p w c s v t o equal) ⌝ }
 {
     let Value::Int(a) = s else {
         return fault(31);
@@ -131,7 +133,7 @@ pub fn equal(s: Value, v: Value, t: Active) -> Executed
 // Word v of the call record, counted from 0. As above.
 pub fn fetch(words: &[i64], v: Value, t: Active) -> Executed
     requires { ⌜ t .pc < mostInstructions ⌝ }
-    ensures { λ r. ⌜ ((p : Program) (c : Choices) → r ≡ handed p c t (fetches (now (words .entry)) v)) ⌝ }
+    ensures { λ r. ⌜ ((p : Program) (c : Choices) (s : Value) (o : List Fork) → r ≡ answered p (now (words .entry)) c s v t o word) ⌝ }
 {
     let Value::Int(index) = v else {
         return fault(31);

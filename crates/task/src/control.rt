@@ -10,15 +10,18 @@ use crate::results::store;
 use image::layout;
 ghost use mathlib.Core.Path.{_≡_};
 ghost use mathlib.Core.Bool.{true};
+ghost use mathlib.Core.List.{List};
+ghost use lib.IntN.{ℤ};
 ghost use Prim.Native.Nat.{_<_};
 ghost use Rattle.image.specs.Program.{Program};
 ghost use Rattle.image.specs.Layout.{blockCount, blockOf, programOf};
 ghost use Rattle.image.specs.Questions.{mostInstructions, programNo};
 ghost use Rattle.task.specs.Choices.{Choices, chosen};
-ghost use Rattle.task.specs.Effect.{jumps, branches, allocates, finishes};
+ghost use Rattle.task.specs.declared.Fork.{Fork};
+ghost use Rattle.task.specs.Effect.{ifJump, jralloc, jump, halt};
 ghost use Rattle.task.specs.Step.{promotes};
 ghost use Rattle.task.specs.Formed.{valueFits};
-ghost use Rattle.task.specs.Execute.{entering, handed};
+ghost use Rattle.task.specs.Execute.{entering, answered};
 
 // The first instruction of block b. This crate alone calls it, with a block of an accepted program.
 pub fn first_of(cells: &[u64], b: usize) -> u16
@@ -61,7 +64,7 @@ pub fn enter(cells: &[u64], interval: u64, b: u32, t: Active) -> Executed
 // This crate alone calls it, with an accepted program and a value whose label the shape test has put inside it.
 pub fn jump(cells: &[u64], interval: u64, v: Value, t: Active) -> Executed
     requires { ⌜ (programNo (now cells) ≡ 0) × (valueFits (programOf (now cells)) v ≡ true) ⌝ }
-    ensures { λ r. ⌜ r ≡ handed (programOf (now (cells .entry))) (chosen interval) t (jumps v) ⌝ }
+    ensures { λ r. ⌜ ((w : List ℤ) (s : Value) (o : List Fork) → r ≡ answered (programOf (now (cells .entry))) w (chosen interval) s v t o jump) ⌝ }
 {
     let Value::Label(b) = v else {
         return fault(34);
@@ -72,7 +75,7 @@ pub fn jump(cells: &[u64], interval: u64, v: Value, t: Active) -> Executed
 // If-jump looks at its target only when it jumps. Execute alone calls it, as above; the shape test has put pc inside the program.
 pub fn branch(cells: &[u64], interval: u64, s: Value, v: Value, t: Active) -> Executed
     requires { ⌜ (programNo (now cells) ≡ 0) × (valueFits (programOf (now cells)) v ≡ true) × (t .pc < mostInstructions) ⌝ }
-    ensures { λ r. ⌜ r ≡ handed (programOf (now (cells .entry))) (chosen interval) t (branches s v) ⌝ }
+    ensures { λ r. ⌜ ((w : List ℤ) (o : List Fork) → r ≡ answered (programOf (now (cells .entry))) w (chosen interval) s v t o ifJump) ⌝ }
 {
     let Value::Int(a) = s else {
         return fault(31);
@@ -86,7 +89,7 @@ pub fn branch(cells: &[u64], interval: u64, s: Value, v: Value, t: Active) -> Ex
 // A record: the continuation block and the task's present depth. As above.
 pub fn allocate(cells: &[u64], v: Value, t: Active) -> Executed
     requires { ⌜ (programNo (now cells) ≡ 0) × (valueFits (programOf (now cells)) v ≡ true) × (t .pc < mostInstructions) ⌝ }
-    ensures { λ r. ⌜ ((c : Choices) → r ≡ handed (programOf (now (cells .entry))) c t (allocates (programOf (now (cells .entry))) v t)) ⌝ }
+    ensures { λ r. ⌜ ((w : List ℤ) (c : Choices) (s : Value) (o : List Fork) → r ≡ answered (programOf (now (cells .entry))) w c s v t o jralloc) ⌝ }
 {
     let Value::Label(b) = v else {
         return fault(35);
@@ -98,7 +101,7 @@ pub fn allocate(cells: &[u64], v: Value, t: Active) -> Executed
 }
 
 pub fn halt(t: Active) -> Executed
-    ensures { λ r. ⌜ ((p : Program) (c : Choices) → r ≡ handed p c t (finishes t)) ⌝ }
+    ensures { λ r. ⌜ ((p : Program) (w : List ℤ) (c : Choices) (s v : Value) (o : List Fork) → r ≡ answered p w c s v t o halt) ⌝ }
 {
     if t.depth != 0 {
         return fault(38);

@@ -10,13 +10,15 @@ use crate::results::end;
 use crate::results::fault;
 ghost use mathlib.Core.Path.{_≡_};
 ghost use mathlib.Core.Bool.{true};
+ghost use mathlib.Core.List.{List};
+ghost use lib.IntN.{ℤ};
 ghost use Prim.Native.Nat.{_-_, _<_, _≤_};
 ghost use Rattle.image.specs.Layout.{programOf};
 ghost use Rattle.image.specs.Questions.{mostInstructions, programNo};
 ghost use Rattle.task.specs.Choices.{Choices, chosen};
-ghost use Rattle.task.specs.Effect.{belong, fits, splits, meets};
+ghost use Rattle.task.specs.Effect.{belong, fits, fork, meet};
 ghost use Rattle.task.specs.Formed.{valueFits};
-ghost use Rattle.task.specs.Execute.{handed};
+ghost use Rattle.task.specs.Execute.{answered};
 
 // Whether the open forks beyond the record's depth belong to it.
 fn all_belong(forks: [Fork; 6], under: Fork, depth: u32) -> bool
@@ -52,7 +54,7 @@ fn does_fit(under: Fork, depth: u32, forks: [Fork; 6]) -> bool
 // pc and v's label inside it, and the depth below 7.
 pub fn fork(cells: &[u64], s: Value, v: Value, t: Active, forks: [Fork; 6]) -> Executed
     requires { ⌜ (programNo (now cells) ≡ 0) × (valueFits (programOf (now cells)) v ≡ true) × (t .pc < mostInstructions) × (t .depth ≤ 6) ⌝ }
-    ensures { λ r. ⌜ ((c : Choices) → r ≡ handed (programOf (now (cells .entry))) c t (splits s v t forks)) ⌝ }
+    ensures { λ r. ⌜ ((w : List ℤ) (c : Choices) → r ≡ answered (programOf (now (cells .entry))) w c s v t forks fork) ⌝ }
 {
     let Value::Record(continuation, depth) = s else {
         return fault(36);
@@ -82,7 +84,7 @@ pub fn fork(cells: &[u64], s: Value, v: Value, t: Active, forks: [Fork; 6]) -> E
 // The record's depth equal to the task's: to the continuation. Otherwise the task waits. As above.
 pub fn meet(cells: &[u64], interval: u64, v: Value, t: Active, forks: [Fork; 6]) -> Executed
     requires { ⌜ (programNo (now cells) ≡ 0) × (valueFits (programOf (now cells)) v ≡ true) × (t .depth ≤ 6) ⌝ }
-    ensures { λ r. ⌜ r ≡ handed (programOf (now (cells .entry))) (chosen interval) t (meets v t forks) ⌝ }
+    ensures { λ r. ⌜ ((w : List ℤ) (s : Value) → r ≡ answered (programOf (now (cells .entry))) w (chosen interval) s v t forks meet) ⌝ }
 {
     let Value::Record(continuation, depth) = v else {
         return fault(36);

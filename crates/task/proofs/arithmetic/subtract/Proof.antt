@@ -1,7 +1,6 @@
 -- `subtract` meets its contract.
 use mathlib.Core.Path.{_∙_}
-use Rattle.task.specs.Effect.{difference}
-use Rattle.task.proofs.Computing.{given, left-other, right-other, gives}
+use Rattle.task.proofs.Computing.{difference, given, left-other, right-other, gives}
 use borrow.Author.Needs.{needs}
 use Rattle.task.proofs.arithmetic.subtract.Statement.{statement}
 use Rattle.task.proofs.arithmetic.subtract.Tie as tie
@@ -13,7 +12,7 @@ fault-requires : tie.Need-fault-requires
 fault-requires c κs = search needs
 
 returns : tie.Need-returns
-returns c = λ p k. c .fault .ensures ∙ left-other p k _ (c .before .before .args .s) (c .before .before .args .v) _ (c .before .match .keys2)
+returns c = λ p w k o. c .fault .ensures ∙ left-other p k _ (c .before .before .args .s) (c .before .before .args .v) _ (c .before .match .keys2)
 
 enum-known-v : tie.Need-enum-known-v
 enum-known-v c = search needs
@@ -22,7 +21,7 @@ fault-requires-2 : tie.Need-fault-requires-2
 fault-requires-2 c κs = search needs
 
 returns-2 : tie.Need-returns-2
-returns-2 c = λ p k. c .fault2 .ensures ∙ right-other p k _ (c .before .before .before .before .before .args .s) (c .before .before .before .before .before .args .v) _ (c .before .before .before .s .given .1) (c .before .match2 .keys2)
+returns-2 c = λ p w k o. c .fault2 .ensures ∙ right-other p k _ (c .before .before .before .before .before .args .s) (c .before .before .before .before .before .args .v) _ (c .before .before .before .s .given .1) (c .before .match2 .keys2)
 
 wrapping-sub-requires : tie.Need-wrapping-sub-requires
 wrapping-sub-requires c κs = search needs
@@ -31,7 +30,7 @@ store-requires : tie.Need-store-requires
 store-requires c κs = search needs
 
 returns-3 : tie.Need-returns-3
-returns-3 c = λ p k. c .store .ensures ∙ gives p k _ (c .before .before .before .before .before .before .before .before .args .s) (c .before .before .before .before .before .before .before .before .args .v) (c .before .before .before .before .before .before .s .given .1) (c .before .before .before .v .given .1) (search needs) (search needs) difference (given (c .before .wrapping-sub .ok) (c .before .wrapping-sub .ensures))
+returns-3 c = λ p w k o. c .store .ensures ∙ gives p k _ (c .before .before .before .before .before .before .before .before .args .s) (c .before .before .before .before .before .before .before .before .args .v) (c .before .before .before .before .before .before .s .given .1) (c .before .before .before .v .given .1) (search needs) (search needs) difference (given (c .before .wrapping-sub .ok) (c .before .wrapping-sub .ensures))
 
 pub subtract-spec : {M : Type 1} → statement M
 subtract-spec =

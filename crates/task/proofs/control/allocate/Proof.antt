@@ -13,9 +13,9 @@ fault-requires : tie.Need-fault-requires
 fault-requires c κs = search needs
 
 returns : tie.Need-returns
-returns c = λ k.
+returns c = λ w k s o.
     let a = c .before .before .before .args in
-    c .fault .ensures ∙ no-label k (a .cells .now) (a .v) (a .t) (c .before .match .keys2)
+    c .fault .ensures ∙ no-label w k (a .cells .now) s (a .v) (a .t) o (c .before .match .keys2)
 
 cast-annotation-of : tie.Need-cast-annotation-of
 cast-annotation-of c = search needs
@@ -29,20 +29,20 @@ fault-requires-2 : tie.Need-fault-requires-2
 fault-requires-2 c κs = search needs
 
 returns-2 : tie.Need-returns-2
-returns-2 c = λ k.
+returns-2 c = λ w k s o.
     let a = c .before .before .before .before .before .before .before .args in
     c .fault2 .ensures
-    ∙ no-join-target k (a .cells .now) (a .v) (a .t) (c .before .before .before .before .v .given .1)
+    ∙ no-join-target w k (a .cells .now) s (a .v) (a .t) o (c .before .before .before .before .v .given .1)
     (λ e. c .before .if1 .taken (c .before .before .annotation-of .ensures ∙ e))
 
 store-requires : tie.Need-store-requires
 store-requires c κs = search needs
 
 returns-3 : tie.Need-returns-3
-returns-3 c = λ k.
+returns-3 c = λ w k s o.
     let a = c .before .before .before .before .before .before .before .args in
     c .store .ensures
-    ∙ gives-record k (a .cells .now) (a .v) (a .t) (c .before .before .before .before .v .given .1)
+    ∙ gives-record w k (a .cells .now) s (a .v) (a .t) o (c .before .before .before .before .v .given .1)
     (sym (c .before .before .annotation-of .ensures) ∙ c .before .if1 .left)
 
 pub allocate-spec : {M : Type 1} → statement M

@@ -10,14 +10,14 @@ fault-requires c κs = search needs
 
 returns : tie.Need-returns
 unfolding asked
-returns c = λ p k. rw (ne-eqb _ _ (c .before .if1 .taken)) (c .fault .ensures)
+returns c = λ p w k s v o. rw (ne-eqb _ _ (c .before .if1 .taken)) (c .fault .ensures)
 
 end-requires : tie.Need-end-requires
 end-requires c κs = search needs
 
 returns-2 : tie.Need-returns-2
 unfolding asked
-returns-2 c = λ p k. rw (eq-eqb _ _ (c .before .if1 .left)) (c .end .ensures)
+returns-2 c = λ p w k s v o. rw (eq-eqb _ _ (c .before .if1 .left)) (c .end .ensures)
 
 pub halt-spec : {M : Type 1} → statement M
 halt-spec = tie.close (tie.spec fault-requires returns end-requires returns-2)

@@ -68,98 +68,98 @@ returns c =
 returns-2 : tie.Need-returns-2
 returns-2 c =
     let a = c .before .before .before .before .args in
-    c .add .ensures (programOf (a .cells .now)) (chosen (a .interval))
+    c .add .ensures (programOf (a .cells .now)) (a .words .now) (chosen (a .interval)) (a .forks)
     ∙ sends (programOf (a .cells .now)) (a .words .now) (chosen (a .interval)) (a .x) (a .s) (a .v) (a .active) (a .forks)
     (c .before .before .count .ensures) 2 (c .before .match .keys2)
 
 returns-3 : tie.Need-returns-3
 returns-3 c =
     let a = c .before .before .before .before .args in
-    c .subtract .ensures (programOf (a .cells .now)) (chosen (a .interval))
+    c .subtract .ensures (programOf (a .cells .now)) (a .words .now) (chosen (a .interval)) (a .forks)
     ∙ sends (programOf (a .cells .now)) (a .words .now) (chosen (a .interval)) (a .x) (a .s) (a .v) (a .active) (a .forks)
     (c .before .before .count .ensures) 3 (c .before .match .keys3)
 
 returns-4 : tie.Need-returns-4
 returns-4 c =
     let a = c .before .before .before .before .args in
-    c .multiply .ensures (programOf (a .cells .now)) (chosen (a .interval))
+    c .multiply .ensures (programOf (a .cells .now)) (a .words .now) (chosen (a .interval)) (a .forks)
     ∙ sends (programOf (a .cells .now)) (a .words .now) (chosen (a .interval)) (a .x) (a .s) (a .v) (a .active) (a .forks)
     (c .before .before .count .ensures) 4 (c .before .match .keys4)
 
 returns-5 : tie.Need-returns-5
 returns-5 c =
     let a = c .before .before .before .before .args in
-    c .divide .ensures (programOf (a .cells .now)) (chosen (a .interval))
+    c .divide .ensures (programOf (a .cells .now)) (a .words .now) (a .interval) (a .forks)
     ∙ sends (programOf (a .cells .now)) (a .words .now) (chosen (a .interval)) (a .x) (a .s) (a .v) (a .active) (a .forks)
     (c .before .before .count .ensures) 5 (c .before .match .keys5)
 
 returns-6 : tie.Need-returns-6
 returns-6 c =
     let a = c .before .before .before .before .args in
-    c .modulo .ensures (programOf (a .cells .now)) (chosen (a .interval))
+    c .modulo .ensures (programOf (a .cells .now)) (a .words .now) (a .interval) (a .forks)
     ∙ sends (programOf (a .cells .now)) (a .words .now) (chosen (a .interval)) (a .x) (a .s) (a .v) (a .active) (a .forks)
     (c .before .before .count .ensures) 6 (c .before .match .keys6)
 
 returns-7 : tie.Need-returns-7
 returns-7 c =
     let a = c .before .before .before .before .args in
-    c .less .ensures (programOf (a .cells .now)) (chosen (a .interval))
+    c .less .ensures (programOf (a .cells .now)) (a .words .now) (chosen (a .interval)) (a .forks)
     ∙ sends (programOf (a .cells .now)) (a .words .now) (chosen (a .interval)) (a .x) (a .s) (a .v) (a .active) (a .forks)
     (c .before .before .count .ensures) 7 (c .before .match .keys7)
 
 returns-8 : tie.Need-returns-8
 returns-8 c =
     let a = c .before .before .before .before .args in
-    c .equal .ensures (programOf (a .cells .now)) (chosen (a .interval))
+    c .equal .ensures (programOf (a .cells .now)) (a .words .now) (chosen (a .interval)) (a .forks)
     ∙ sends (programOf (a .cells .now)) (a .words .now) (chosen (a .interval)) (a .x) (a .s) (a .v) (a .active) (a .forks)
     (c .before .before .count .ensures) 8 (c .before .match .keys8)
 
 returns-9 : tie.Need-returns-9
 returns-9 c =
     let a = c .before .before .before .before .args in
-    c .fetch .ensures (programOf (a .cells .now)) (chosen (a .interval))
+    c .fetch .ensures (programOf (a .cells .now)) (chosen (a .interval)) (a .s) (a .forks)
     ∙ sends (programOf (a .cells .now)) (a .words .now) (chosen (a .interval)) (a .x) (a .s) (a .v) (a .active) (a .forks)
     (c .before .before .count .ensures) 9 (c .before .match .keys9)
 
 returns-10 : tie.Need-returns-10
 returns-10 c =
     let a = c .before .before .before .before .args in
-    c .branch .ensures
+    c .branch .ensures (a .words .now) (a .forks)
     ∙ sends (programOf (a .cells .now)) (a .words .now) (chosen (a .interval)) (a .x) (a .s) (a .v) (a .active) (a .forks)
     (c .before .before .count .ensures) 10 (c .before .match .keys10)
 
 returns-11 : tie.Need-returns-11
 returns-11 c =
     let a = c .before .before .before .before .args in
-    c .allocate .ensures (chosen (a .interval))
+    c .allocate .ensures (a .words .now) (chosen (a .interval)) (a .s) (a .forks)
     ∙ sends (programOf (a .cells .now)) (a .words .now) (chosen (a .interval)) (a .x) (a .s) (a .v) (a .active) (a .forks)
     (c .before .before .count .ensures) 11 (c .before .match .keys11)
 
 returns-12 : tie.Need-returns-12
 returns-12 c =
     let a = c .before .before .before .before .args in
-    c .fork .ensures (chosen (a .interval))
+    c .fork .ensures (a .words .now) (chosen (a .interval))
     ∙ sends (programOf (a .cells .now)) (a .words .now) (chosen (a .interval)) (a .x) (a .s) (a .v) (a .active) (a .forks)
     (c .before .before .count .ensures) 12 (c .before .match .keys12)
 
 returns-13 : tie.Need-returns-13
 returns-13 c =
     let a = c .before .before .before .before .args in
-    c .jump .ensures
+    c .jump .ensures (a .words .now) (a .s) (a .forks)
     ∙ sends (programOf (a .cells .now)) (a .words .now) (chosen (a .interval)) (a .x) (a .s) (a .v) (a .active) (a .forks)
     (c .before .before .count .ensures) 13 (c .before .match .keys13)
 
 returns-14 : tie.Need-returns-14
 returns-14 c =
     let a = c .before .before .before .before .args in
-    c .halt .ensures (programOf (a .cells .now)) (chosen (a .interval))
+    c .halt .ensures (programOf (a .cells .now)) (a .words .now) (chosen (a .interval)) (a .s) (a .v) (a .forks)
     ∙ sends (programOf (a .cells .now)) (a .words .now) (chosen (a .interval)) (a .x) (a .s) (a .v) (a .active) (a .forks)
     (c .before .before .count .ensures) 14 (c .before .match .keys14)
 
 returns-15 : tie.Need-returns-15
 returns-15 c =
     let a = c .before .before .before .before .args in
-    c .meet .ensures
+    c .meet .ensures (a .words .now) (a .s)
     ∙ sends (programOf (a .cells .now)) (a .words .now) (chosen (a .interval)) (a .x) (a .s) (a .v) (a .active) (a .forks)
     (c .before .before .count .ensures) 15 (c .before .match .keys15)
 

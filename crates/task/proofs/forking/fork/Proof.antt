@@ -15,7 +15,7 @@ fault-requires : tie.Need-fault-requires
 fault-requires c κs = search needs
 
 returns : tie.Need-returns
-returns c = λ k. c .fault .ensures ∙ fork-other k (c .before .before .before .args .cells .now) (c .before .before .before .args .s) (c .before .before .before .args .v) (c .before .before .before .args .t) (c .before .before .before .args .forks) (c .before .match .keys2)
+returns c = λ w k. c .fault .ensures ∙ fork-other w k (c .before .before .before .args .cells .now) (c .before .before .before .args .s) (c .before .before .before .args .v) (c .before .before .before .args .t) (c .before .before .before .args .forks) (c .before .match .keys2)
 
 does-fit-requires : tie.Need-does-fit-requires
 does-fit-requires c κs = search needs
@@ -24,7 +24,7 @@ fault-requires-2 : tie.Need-fault-requires-2
 fault-requires-2 c κs = search needs
 
 returns-2 : tie.Need-returns-2
-returns-2 c = λ k. c .fault2 .ensures ∙ fork-unfit k (c .before .before .before .before .before .before .before .args .cells .now) (c .before .before .before .before .before .before .before .args .s) (c .before .before .before .before .before .before .before .args .v) (c .before .before .before .before .before .before .before .args .t) (c .before .before .before .before .before .before .before .args .forks) (c .before .before .before .before .s .given .1) (c .before .before .does-fit .ensures) (not-true (c .before .before .does-fit .result) (c .before .if1 .taken))
+returns-2 c = λ w k. c .fault2 .ensures ∙ fork-unfit w k (c .before .before .before .before .before .before .before .args .cells .now) (c .before .before .before .before .before .before .before .args .s) (c .before .before .before .before .before .before .before .args .v) (c .before .before .before .before .before .before .before .args .t) (c .before .before .before .before .before .before .before .args .forks) (c .before .before .before .before .s .given .1) (c .before .before .does-fit .ensures) (not-true (c .before .before .does-fit .result) (c .before .if1 .taken))
 
 enum-known-v : tie.Need-enum-known-v
 enum-known-v c = search needs
@@ -33,13 +33,13 @@ fault-requires-3 : tie.Need-fault-requires-3
 fault-requires-3 c κs = search needs
 
 returns-3 : tie.Need-returns-3
-returns-3 c = λ k. c .fault3 .ensures ∙ fork-no-target k (c .before .before .before .before .before .before .before .before .args .cells .now) (c .before .before .before .before .before .before .before .before .args .s) (c .before .before .before .before .before .before .before .before .args .v) (c .before .before .before .before .before .before .before .before .args .t) (c .before .before .before .before .before .before .before .before .args .forks) (c .before .before .before .before .before .s .given .1) (c .before .before .before .does-fit .ensures) (not-false (c .before .before .before .does-fit .result) (c .before .before .if1 .left)) (c .before .match2 .keys2)
+returns-3 c = λ w k. c .fault3 .ensures ∙ fork-no-target w k (c .before .before .before .before .before .before .before .before .args .cells .now) (c .before .before .before .before .before .before .before .before .args .s) (c .before .before .before .before .before .before .before .before .args .v) (c .before .before .before .before .before .before .before .before .args .t) (c .before .before .before .before .before .before .before .before .args .forks) (c .before .before .before .before .before .s .given .1) (c .before .before .before .does-fit .ensures) (not-false (c .before .before .before .does-fit .result) (c .before .before .if1 .left)) (c .before .match2 .keys2)
 
 fault-requires-4 : tie.Need-fault-requires-4
 fault-requires-4 c κs = search needs
 
 returns-4 : tie.Need-returns-4
-returns-4 c = λ k. c .fault4 .ensures ∙ fork-no-places k (c .before .before .before .before .before .before .before .before .before .before .before .before .args .cells .now) (c .before .before .before .before .before .before .before .before .before .before .before .before .args .s) (c .before .before .before .before .before .before .before .before .before .before .before .before .args .v) (c .before .before .before .before .before .before .before .before .before .before .before .before .args .t) (c .before .before .before .before .before .before .before .before .before .before .before .before .args .forks) (c .before .before .before .before .before .before .before .before .before .s .given .1) (c .before .before .before .before .before .before .before .does-fit .ensures) (not-false (c .before .before .before .before .before .before .before .does-fit .result) (c .before .before .before .before .before .before .if1 .left)) (c .before .before .before .before .v .given .1) (c .before .if2 .taken)
+returns-4 c = λ w k. c .fault4 .ensures ∙ fork-no-places w k (c .before .before .before .before .before .before .before .before .before .before .before .before .args .cells .now) (c .before .before .before .before .before .before .before .before .before .before .before .before .args .s) (c .before .before .before .before .before .before .before .before .before .before .before .before .args .v) (c .before .before .before .before .before .before .before .before .before .before .before .before .args .t) (c .before .before .before .before .before .before .before .before .before .before .before .before .args .forks) (c .before .before .before .before .before .before .before .before .before .s .given .1) (c .before .before .before .before .before .before .before .does-fit .ensures) (not-false (c .before .before .before .before .before .before .before .does-fit .result) (c .before .before .before .before .before .before .if1 .left)) (c .before .before .before .before .v .given .1) (c .before .if2 .taken)
 
 cast-first-of : tie.Need-cast-first-of
 cast-first-of c = search needs
@@ -51,7 +51,7 @@ add-t15 : tie.Need-add-t15
 add-t15 c = search needs
 
 returns-5 : tie.Need-returns-5
-returns-5 c = λ k. opens k (c .before .before .before .before .before .before .before .before .before .before .before .before .before .args .cells .now) (c .before .before .before .before .before .before .before .before .before .before .before .before .before .args .s) (c .before .before .before .before .before .before .before .before .before .before .before .before .before .args .v) (c .before .before .before .before .before .before .before .before .before .before .before .before .before .args .t) (c .before .before .before .before .before .before .before .before .before .before .before .before .before .args .forks) (c .before .before .before .before .before .before .before .before .before .before .s .given .1) (c .before .before .before .before .before .before .before .before .does-fit .ensures) (not-false (c .before .before .before .before .before .before .before .before .does-fit .result) (c .before .before .before .before .before .before .before .if1 .left)) (c .before .before .before .before .before .v .given .1) (c .before .before .if2 .left) (c .before .first-of .ensures)
+returns-5 c = λ w k. opens w k (c .before .before .before .before .before .before .before .before .before .before .before .before .before .args .cells .now) (c .before .before .before .before .before .before .before .before .before .before .before .before .before .args .s) (c .before .before .before .before .before .before .before .before .before .before .before .before .before .args .v) (c .before .before .before .before .before .before .before .before .before .before .before .before .before .args .t) (c .before .before .before .before .before .before .before .before .before .before .before .before .before .args .forks) (c .before .before .before .before .before .before .before .before .before .before .s .given .1) (c .before .before .before .before .before .before .before .before .does-fit .ensures) (not-false (c .before .before .before .before .before .before .before .before .does-fit .result) (c .before .before .before .before .before .before .before .if1 .left)) (c .before .before .before .before .before .v .given .1) (c .before .before .if2 .left) (c .before .first-of .ensures)
 
 pub fork-spec : {M : Type 1} → statement M
 fork-spec =
