@@ -20,7 +20,7 @@ use Rattle.shape.proofs.TiledLaws.{tiled-whole, tiled-none, tiled-lower-fails, 
 use Rattle.shape.proofs.CodeLaws.{formed-height, code-vacant, code-formed, code-ended}
 use Rattle.machine.specs.declared.Machine.{Machine}
 use Rattle.machine.specs.Slots.{at, slotsOf}
-use Rattle.machine.specs.Shape.{testsOf}
+use Rattle.machine.proofs.ShapeTests.{testsOf}
 
 module _ (cells : List ℕ) (D : ℕ) (small : D ≤ 6) (m : Machine) (codes : List ℕ) (coded : (k : ℕ) → k < 64 → getD codes k 0 ≡ codeOf (programOf cells) D (at m k)) where
   abbrev tilesOf : ℕ → ℕ → Bool

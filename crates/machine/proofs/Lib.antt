@@ -2,6 +2,7 @@ pub mod SlotLaws
 pub mod RankLaws
 pub mod Models
 pub mod EndingLaws
+pub mod ShapeTests
 pub mod ShapeLaws
 pub mod Quiet
 pub mod PickLaws

@@ -14,7 +14,8 @@ use Rattle.shape.proofs.TiledLaws.{power-small}
 use Rattle.machine.specs.declared.Machine.{Machine}
 use Rattle.machine.specs.Slots.{at}
 use Rattle.machine.specs.Starting.{rank, intervalAllowed}
-use Rattle.machine.specs.Shape.{countsFit, shape}
+use Rattle.machine.specs.Shape.{shape}
+use Rattle.machine.proofs.ShapeTests.{countsFit}
 use Rattle.machine.proofs.CodedSlots.{codes-clear, codes-tiled}
 
 module _ (cells : List ℕ) (m : Machine) (D : ℕ) (ranked : D ≡ rank (m .places)) where

@@ -30,7 +30,8 @@ use Rattle.task.proofs.Counts.{Within, within-is, is-within, within-more, vacan
 use Rattle.machine.specs.declared.Machine.{Machine}
 use Rattle.machine.specs.Slots.{at, put, Sized, ticked, slotsOf}
 use Rattle.machine.specs.Starting.{rank, placesAllowed, intervalAllowed}
-use Rattle.machine.specs.Shape.{testsOf, countsFit, shape}
+use Rattle.machine.specs.Shape.{shape}
+use Rattle.machine.proofs.ShapeTests.{testsOf, countsFit}
 use Rattle.machine.proofs.SlotLaws.{put-tasks}
 use Rattle.machine.proofs.Models.{modelOf, formsOf, Allowed, laws-hold}
 

@@ -25,7 +25,7 @@ use Rattle.task.specs.Stretches.{reads}
 use Rattle.machine.specs.declared.Machine.{Machine}
 use Rattle.machine.specs.Slots.{at, Sized, slotsOf}
 use Rattle.machine.specs.Starting.{rank, placesAllowed, intervalAllowed, startNo, startNoBy, empty, fresh, started}
-use Rattle.machine.specs.Shape.{testsOf}
+use Rattle.machine.proofs.ShapeTests.{testsOf}
 use Rattle.machine.proofs.SlotLaws.{put-sized, put-same, put-other, put-tasks}
 use Rattle.machine.proofs.RankLaws.{rank-power}
 use Rattle.machine.proofs.Models.{modelOf, formsOf, Allowed, laws-hold}

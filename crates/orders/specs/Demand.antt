@@ -58,14 +58,10 @@ module _ (engine : Engine) (j : Job) where
   playedOf m [] = m
   playedOf m (k ∷ ks) = playedOf (engine .picked cells words m k) ks
 
-  -- a pick is carried out when it isn't refused
-  abbrev pub isCarriedOut : Machine → ℕ → Bool
-  isCarriedOut m k = eqb (engine .pickNo cells words m k) 0
-
-  -- the picks of an order that are carried out, each counted as much as `count` says of its slot
+  -- the picks of an order that are carried out, that is, not refused, each counted as much as `count` says of its slot
   unfoldable pub carriedOutOf : (ℕ → ℕ) → Machine → List ℕ → ℕ
   carriedOutOf count m [] = 0
-  carriedOutOf count m (k ∷ ks) = ifPicked (isCarriedOut m k) (count k) + carriedOutOf count (engine .picked cells words m k) ks
+  carriedOutOf count m (k ∷ ks) = ifPicked (eqb (engine .pickNo cells words m k) 0) (count k) + carriedOutOf count (engine .picked cells words m k) ks
 
   -- a task can be picked
   abbrev pub PickableOf : Machine → Type 0

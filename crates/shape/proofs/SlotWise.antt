@@ -14,8 +14,8 @@ use Rattle.task.specs.declared.Register.{Register}
 use Rattle.task.specs.declared.Task.{Task}
 use Rattle.task.specs.declared.Frame.{Frame}
 use Rattle.task.specs.Frames.{zeroFork, vacant, running}
-use Rattle.task.specs.Formed.{every, isZeroFork, forkFits, forksFit, atRest, isVacantStatus, statusFits, formed, isVacant}
-use Rattle.task.proofs.Formation.{Formed, formed-is}
+use Rattle.task.specs.Formed.{every, isZeroFork, forkFits, atRest, isVacantStatus, statusFits, formed, isVacant}
+use Rattle.task.proofs.Formation.{Formed, forksFit, formed-is}
 use Rattle.task.proofs.Vacancy.{vacant-is}
 use Rattle.shape.specs.Codes.{Graded, framed, code, codeOf}
 use Rattle.task.proofs.EveryLaws.{every-alike}

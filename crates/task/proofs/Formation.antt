@@ -1,7 +1,7 @@
 -- What the test `formed` of a live frame says, field by field.
 use mathlib.Core.Path.{_≡_, ap}
 use mathlib.Core.Logic.{⊎-elim}
-use mathlib.Core.Bool.{true}
+use mathlib.Core.Bool.{Bool, true}
 use mathlib.Core.List.{List}
 use Prim.Native.Nat.{ℕ, _+_, _^_, _<_, _≤_}
 use native.Mathlib.Omega.{arith}
@@ -11,10 +11,11 @@ use borrow.Author.Tests.{eqb-true, ltb-true, eq-eqb, lt-ltb}
 use Rattle.facts.proofs.Tests.{both-true, true-both, below-or-not}
 use Rattle.image.specs.Program.{Program}
 use Rattle.task.specs.declared.Register.{Register}
+use Rattle.task.specs.declared.Task.{Task}
 use Rattle.task.specs.declared.Frame.{Frame}
 use Rattle.task.specs.Frames.{zeroFork, zeroRegister, zeros}
 use Rattle.task.specs.Step.{register}
-use Rattle.task.specs.Formed.{isTarget, valueFits, registersFit, forkFits, forksFit, statusFits, isFull, formed}
+use Rattle.task.specs.Formed.{every, isTarget, valueFits, forkFits, statusFits, isFull, formed}
 use Rattle.task.proofs.Facts.{constant-at}
 use Rattle.task.proofs.EveryLaws.{every-at, every-from}
 
@@ -28,6 +29,12 @@ pub record Formed (program : Program) (D h : ℕ) (f : Frame) : Type 0 where
   pub status-fits : statusFits f (f .task .status) ≡ true
   pub forks-fit : (i : ℕ) → i < 6 → forkFits program (ltb i (f .task .depth)) (getD (f .task .forks) i zeroFork) ≡ true
   pub values-fit : (i : ℕ) → valueFits program (register f i) ≡ true
+
+abbrev pub registersFit : Program → Frame → Bool
+registersFit program f = every (λ i. valueFits program (register f i)) 16 0
+
+abbrev pub forksFit : Program → Task → Bool
+forksFit program t = every (λ i. forkFits program (ltb i (t .depth)) (getD (t .forks) i zeroFork)) 6 0
 
 -- a number of the fault list
 abbrev pub Listed : ℕ → Type 0

@@ -14,9 +14,10 @@ use Rattle.image.proofs.Accepted.{Accepted}
 use Rattle.task.specs.declared.Register.{Register}
 use Rattle.task.specs.declared.Status.{Status}
 use Rattle.task.specs.declared.Status.the-variants.{Vacant, Running, Waiting, Halted, Faulted}
+use Rattle.task.specs.declared.Task.{Task}
 use Rattle.task.specs.declared.Frame.{Frame}
 use Rattle.task.specs.Frames.{zeroFork, zeroRegister, zeros, faultOf}
-use Rattle.task.specs.Step.{copied, outward, firstFault, joinedBy, join}
+use Rattle.task.specs.Step.{copied, outwardTask, firstFault, joinedBy, join}
 use Rattle.task.specs.Formed.{every, isTarget, valueFits, statusFits}
 use Rattle.task.proofs.Facts.{set-keeps}
 use Rattle.task.proofs.Formation.{Formed, Listed, zeros-fit, target-below}
@@ -59,6 +60,9 @@ first-listed none c x y = y
 first-listed (some n) c x y = x
 
 -- ---- the join
+
+abbrev outward : Status → ℕ → List Register → Task → Task → Frame
+outward s pc registers p c = record { task = outwardTask s pc p c; registers = registers }
 
 module _ (cells : List ℕ) (ok : Accepted cells) (D : ℕ) (room : D ≤ 6) (h : ℕ) (p c : Frame) (x : Formed (programOf cells) D h p) (y : Formed (programOf cells) D h c)
     (below : h < D) where

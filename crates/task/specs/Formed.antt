@@ -38,9 +38,6 @@ isZero (Int z) = eqZ z (pos 0)
 isZero (Label b) = false
 isZero (Record c d) = false
 
-abbrev pub registersFit : Program → Frame → Bool
-registersFit program f = every (λ i. valueFits program (register f i)) 16 0
-
 -- 16 integers 0
 abbrev pub registersZero : Frame → Bool
 registersZero f = every (λ i. isZero (register f i)) 16 0
@@ -54,10 +51,6 @@ isZeroFork k = eqb (k .continuation) 0 && eqb (k .depth) 0
 abbrev pub forkFits : Program → Bool → Fork → Bool
 forkFits program true k = isTarget program (k .continuation)
 forkFits program false k = isZeroFork k
-
--- the task's depth is its number of open forks
-abbrev pub forksFit : Program → Task → Bool
-forksFit program t = every (λ i. forkFits program (ltb i (t .depth)) (getD (t .forks) i zeroFork)) 6 0
 
 -- ---- Status
 
@@ -79,14 +72,16 @@ statusFits f (Faulted n) = leb 31 n && (leb n 38 && (atRest (f .task) && registe
 abbrev pub isFull : Frame → Bool
 isFull f = eqb (length (f .registers)) 16 && eqb (length (f .task .forks)) 6
 
--- a live task with 2 ^ h places in a job of 2 ^ D: at depth D - h
+-- a live task with 2 ^ h places in a job of 2 ^ D: at depth D - h, its number of open forks
 unfoldable pub formed : Program → ℕ → ℕ → Frame → Bool
 formed program D h f =
     isFull f
     && (eqb (f .task .places) (2 ^ h)
     && (eqb (f .task .depth + h) D
     && (ltb (f .task .pc) (program .instructions)
-    && (statusFits f (f .task .status) && (forksFit program (f .task) && registersFit program f)))))
+    && (statusFits f (f .task .status)
+    && (every (λ i. forkFits program (ltb i (f .task .depth)) (getD (f .task .forks) i zeroFork)) 6 0
+    && every (λ i. valueFits program (register f i)) 16 0)))))
 
 abbrev pub isVacantStatus : Status → Bool
 isVacantStatus Vacant = true

@@ -134,9 +134,6 @@ outwardTask s pc p c = record {
   forks = set (p .forks) (p .depth - 1) zeroFork;
 }
 
-abbrev pub outward : Status → ℕ → List Register → Task → Task → Frame
-outward s pc registers p c = record { task = outwardTask s pc p c; registers = registers }
-
 -- the parent's number if it has one, else the child's
 abbrev pub firstFault : Option ℕ → Option ℕ → Option ℕ
 firstFault none c = c
@@ -145,10 +142,11 @@ firstFault (some n) c = some n
 -- where one or both faulted, the joined task is itself faulted; else it has the parent's registers with the pairs of the
 -- continuation block b copied from the child's, and starts the combining block
 abbrev pub joinedBy : Option ℕ → Program → ℕ → Frame → Frame → Frame
-joinedBy (some n) program b p c = outward (Faulted n) 0 zeros (p .task) (c .task)
-joinedBy none program b p c =
-    outward Running (program .block (program .block b .label) .first)
-    (copied (c .registers) (program .block b .pairs) (program .block b .packed) (p .registers)) (p .task) (c .task)
+joinedBy (some n) program b p c = record { task = outwardTask (Faulted n) 0 (p .task) (c .task); registers = zeros }
+joinedBy none program b p c = record {
+  task = outwardTask Running (program .block (program .block b .label) .first) (p .task) (c .task);
+  registers = copied (c .registers) (program .block b .pairs) (program .block b .packed) (p .registers);
+}
 
 -- the continuation is that of the parent's innermost fork
 unfoldable pub join : Program → Frame → Frame → Frame
