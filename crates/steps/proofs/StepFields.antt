@@ -27,13 +27,13 @@ use Rattle.task.specs.declared.Active.{Active}
 use Rattle.task.specs.declared.Task.{Task}
 use Rattle.task.specs.declared.Frame.{Frame}
 use Rattle.task.specs.Frames.{zeroRegister, zeros, zeroFork, noForks, vacant, integers, startFrame, faultOf}
-use Rattle.task.specs.Values.{isLabel, integerOf, labelOf, recordOf, truth}
+use Rattle.task.specs.Values.{truth}
 use Rattle.task.specs.Choices.{Choices, chosen}
-use Rattle.task.specs.Effect.{Effect, stores, continues, enters, forks, waits, halts, faults, asked, effectOf}
+use Rattle.task.specs.Effect.{Effect, stores, continues, enters, forks, waits, halts, faults, asked, integer, label, effectOf}
 use Rattle.task.specs.Effect.{Op, move, plus, minus, times, divide, modulo, less, equal, word, ifJump, jralloc, fork, jump, halt, meet, unknown, opcodes}
 use Rattle.task.specs.Step.{register, operand, activeOf, counted, side, withTask, applied, step, copied, firstFault, joinedBy, join}
 use Rattle.task.proofs.Facts.{set-keeps, constant-at}
-use Rattle.task.proofs.Effects.{asked-keeps, entered-keeps}
+use Rattle.task.proofs.Effects.{asked-keeps, integer-keeps, label-keeps, record-keeps, entered-keeps}
 use Rattle.task.proofs.JoinKeeps.{copied-keeps}
 use Rattle.steps.specs.Fields.{IntegersInField}
 
@@ -65,16 +65,6 @@ read-fits n = go (ltb n (2 ^ 63)) refl
     go : (t : Bool) → ltb n (2 ^ 63) ≡ t → SFits w64 (toZ w64 n)
     go true t = rw t (record { sfits = ltb-true n (2 ^ 63) t })
     go false t = let h = ltb-false n (2 ^ 63) t in rw t (record { sfits = omega arith })
-
-integer-fits : (v : Value) → NarrowValue v → SFits w64 (integerOf v)
-integer-fits (Int z) x = x
-integer-fits (Label b) x = zero-narrow
-integer-fits (Record c d) x = zero-narrow
-
-record-narrow : (v : Value) → NarrowValue v → NarrowFork (recordOf v)
-record-narrow (Int z) x = omega arith
-record-narrow (Label b) x = omega arith
-record-narrow (Record c d) x = x
 
 truth-narrow : (t : Bool) → NarrowValue (truth t)
 truth-narrow true = zero-narrow
@@ -141,8 +131,17 @@ module _ (program : Program) (words : List ℤ) (interval : ℕ) (fit : Integers
   asks : (z : Bool) (k : ℕ) (after : Effect) → NarrowEffect after → NarrowEffect (asked z k after)
   asks z k after x = asked-keeps NarrowEffect z k after tt (λ e. x)
 
-  branch-narrow : (z : Bool) → NarrowEffect (cond z (asked (isLabel v) 34 (enters (labelOf v))) continues)
-  branch-narrow true = asks _ _ _ tt
+  -- both operands integers of 64 bits
+  computes : (after : ℤ → ℤ → Effect) → ((a b : ℤ) → SFits w64 a → SFits w64 b → NarrowEffect (after a b))
+      → NarrowEffect (integer s 31 λ a. integer v 31 (after a))
+  computes after g =
+      integer-keeps NarrowEffect s 31 _ tt λ a e. integer-keeps NarrowEffect v 31 _ tt λ b f. g a b (rw e at ns) (rw f at nv)
+
+  jump-narrow : NarrowEffect (label v 34 enters)
+  jump-narrow = label-keeps NarrowEffect v 34 _ tt λ b e. tt
+
+  branch-narrow : (z : Bool) → NarrowEffect (cond z (label v 34 enters) continues)
+  branch-narrow true = jump-narrow
   branch-narrow false = tt
 
   meet-narrow : (z : Bool) (b : ℕ) → NarrowEffect (cond z (enters b) waits)
@@ -152,20 +151,22 @@ module _ (program : Program) (words : List ℤ) (interval : ℕ) (fit : Integers
   -- jralloc records the task's own depth
   effect-narrow : (op : Op) → NarrowEffect (effectOf program words (chosen interval) s v t opened op)
   effect-narrow move = nv
-  effect-narrow plus = asks _ _ _ (wrapped-fits (integerOf s +ℤ integerOf v))
-  effect-narrow minus = asks _ _ _ (wrapped-fits (integerOf s -ℤ integerOf v))
-  effect-narrow times = asks _ _ _ (wrapped-fits (integerOf s *ℤ integerOf v))
-  effect-narrow divide = asks _ _ _ (asks _ _ _ (wrapped-fits (quotZ (integerOf s) (integerOf v))))
-  effect-narrow modulo = asks _ _ _ (asks _ _ _ (sfits-le (mag-rem (integerOf s) (integerOf v)) (integer-fits s ns)))
-  effect-narrow less = asks _ _ _ (truth-narrow (ltZ (integerOf s) (integerOf v)))
-  effect-narrow equal = asks _ _ _ (truth-narrow (eqZ (integerOf s) (integerOf v)))
-  effect-narrow word = asks _ _ _ (asks _ _ _ (fit (natAbs (integerOf v))))
-  effect-narrow ifJump = asks _ _ _ (branch-narrow (eqZ (integerOf s) (pos 0)))
-  effect-narrow jralloc = asks _ _ _ shallow
-  effect-narrow fork = asks _ _ _ (asks _ _ _ (asks _ _ _ (record-narrow s ns)))
-  effect-narrow jump = asks _ _ _ tt
+  effect-narrow plus = computes _ λ a b f g. wrapped-fits (a +ℤ b)
+  effect-narrow minus = computes _ λ a b f g. wrapped-fits (a -ℤ b)
+  effect-narrow times = computes _ λ a b f g. wrapped-fits (a *ℤ b)
+  effect-narrow divide = computes _ λ a b f g. asks _ _ _ (wrapped-fits (quotZ a b))
+  effect-narrow modulo = computes _ λ a b f g. asks _ _ _ (sfits-le (mag-rem a b) f)
+  effect-narrow less = computes _ λ a b f g. truth-narrow (ltZ a b)
+  effect-narrow equal = computes _ λ a b f g. truth-narrow (eqZ a b)
+  effect-narrow word = integer-keeps NarrowEffect v 31 _ tt λ i e. asks _ _ _ (fit (natAbs i))
+  effect-narrow ifJump = integer-keeps NarrowEffect s 31 _ tt λ a e. branch-narrow (eqZ a (pos 0))
+  effect-narrow jralloc = label-keeps NarrowEffect v 35 _ tt λ b e. asks _ _ _ shallow
+  effect-narrow fork =
+      record-keeps NarrowEffect s 36 _ tt λ k e. asks _ _ _ (label-keeps NarrowEffect v 34 _ tt λ b f. asks _ _ _ (rw e at ns))
+  effect-narrow jump = jump-narrow
   effect-narrow halt = asks _ _ _ tt
-  effect-narrow meet = asks _ _ _ (meet-narrow (eqb (recordOf v .depth) (t .depth)) (recordOf v .continuation))
+  effect-narrow meet =
+      record-keeps NarrowEffect v 36 _ tt λ k e. asks _ _ _ (meet-narrow (eqb (k .depth) (t .depth)) (k .continuation))
   effect-narrow unknown = tt
 
 pub step-narrow : (program : Program) (words : List ℤ) (interval : ℕ) (f : Frame) → IntegersInField words → f .task .depth < 2 ^ 32 → Narrow f

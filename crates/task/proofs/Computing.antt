@@ -1,7 +1,7 @@
 -- Each way through a function of opcodes 2 to 9, with plain variables for what the code has there. A signed value that goes to a call or
 -- comes from one is the number of its bits, `toZ w64 (ofZ w64 a)`.
 use mathlib.Core.Path.{_≡_, refl, sym, ap, _∙_}
-use mathlib.Core.Bool.{Bool, true, false, not, _&&_}
+use mathlib.Core.Bool.{Bool, true, false, not}
 use mathlib.Core.List.{List}
 use Prim.Native.Nat.{_<_, _≤_, _^_}
 use native.Mathlib.Omega.{arith}
@@ -24,9 +24,9 @@ use Rattle.task.specs.declared.Value.the-variants.{Int}
 use Rattle.task.specs.declared.Fork.{Fork}
 use Rattle.task.specs.declared.Active.{Active}
 use Rattle.task.specs.declared.Kind.the-variants.{Faults}
-use Rattle.task.specs.Values.{isInt, integerOf, truth}
+use Rattle.task.specs.Values.{truth}
 use Rattle.task.specs.Choices.{Choices}
-use Rattle.task.specs.Effect.{Effect, stores, asked, word}
+use Rattle.task.specs.Effect.{Effect, stores, asked, integer, word}
 use Rattle.task.specs.Execute.{storing, ending, handed, answered}
 use Rattle.task.proofs.Variants.{NotInt, not-int}
 
@@ -48,12 +48,10 @@ abbrev pub isEqual : ℤ → ℤ → Value
 isEqual a b = truth (eqZ a b)
 
 abbrev computes : (ℤ → ℤ → Value) → Value → Value → Effect
-computes op s v = asked (isInt s && isInt v) 31 (stores (op (integerOf s) (integerOf v)))
+computes op s v = integer s 31 λ a. integer v 31 λ b. stores (op a b)
 
 abbrev divides : (ℤ → ℤ → ℤ) → Value → Value → Effect
-divides op s v =
-    asked (isInt s && isInt v) 31
-    (asked (not (eqZ (integerOf v) (pos 0))) 32 (stores (Int (op (integerOf s) (integerOf v)))))
+divides op s v = integer s 31 λ a. integer v 31 λ b. asked (not (eqZ b (pos 0))) 32 (stores (Int (op a b)))
 
 -- the value that a call gave
 pub given : {r z : ℤ} → mag r < 2 ^ 63 → r ≡ z → Int (toZ w64 (ofZ w64 r)) ≡ Int z
@@ -61,16 +59,14 @@ given {r} h e = ap Int (toZ-ofZ w64 r (record { sfits = h }) ∙ e)
 
 module _ (program : Program) (choices : Choices) (t : Active) (s v : Value) where
   -- the left operand is no integer, or the right one
-  pub left-other : (after : Effect) → NotInt s → ending (Faults 31) ≡ handed program choices t (asked (isInt s && isInt v) 31 after)
-  unfolding asked
+  pub left-other : (after : ℤ → Effect) → NotInt s → ending (Faults 31) ≡ handed program choices t (integer s 31 after)
   left-other after k =
-      not-int (λ (w : Value). ending (Faults 31) ≡ handed program choices t (asked (isInt w && isInt v) 31 after)) (λ b. refl) (λ b d. refl) s k
+      not-int (λ (w : Value). ending (Faults 31) ≡ handed program choices t (integer w 31 after)) (λ b. refl) (λ b d. refl) s k
 
-  pub right-other : (after : Effect) {a : ℤ} → s ≡ Int a → NotInt v
-      → ending (Faults 31) ≡ handed program choices t (asked (isInt s && isInt v) 31 after)
-  unfolding asked
-  right-other after p k =
-      rw p (not-int (λ (w : Value). ending (Faults 31) ≡ handed program choices t (asked (isInt w) 31 after)) (λ b. refl) (λ b d. refl) v k)
+  pub right-other : (after : ℤ → ℤ → Effect) {a : ℤ} → s ≡ Int a → NotInt v
+      → ending (Faults 31) ≡ handed program choices t (integer s 31 λ x. integer v 31 (after x))
+  right-other after {a} p k =
+      rw p (not-int (λ (w : Value). ending (Faults 31) ≡ handed program choices t (integer w 31 (after a))) (λ b. refl) (λ b d. refl) v k)
 
   module _ {a b : ℤ} (p : s ≡ Int a) (q : v ≡ Int b) (f : SFits w64 a) (g : SFits w64 b) where
     pub gives : (op : ℤ → ℤ → Value) {w : Value} → w ≡ op (toZ w64 (ofZ w64 a)) (toZ w64 (ofZ w64 b))

@@ -9,7 +9,7 @@ use lib.IntN.{ℤ, pos}
 use lib.Signed.{ltZ}
 use lib.ListN.{getD, length-set}
 use borrow.Author.Tests.{eqb-true, eqb-false, ltb-true, leb-true, le-leb, lt-ltb}
-use Rattle.facts.proofs.Tests.{clash, both-true, true-both}
+use Rattle.facts.proofs.Tests.{clash, true-both}
 use Rattle.int64.specs.Equal.{eqZ}
 use Rattle.image.specs.declared.Instruction.{Instruction}
 use Rattle.image.specs.Program.{Program}
@@ -25,15 +25,15 @@ use Rattle.task.specs.declared.Task.{Task}
 use Rattle.task.specs.declared.Frame.{Frame}
 use Rattle.agreement.specs.Plain.{Stepped, one, two}
 use Rattle.task.specs.Frames.{isRunning, running, zeroRegister}
-use Rattle.task.specs.Values.{isLabel, isRecord, integerOf, labelOf, recordOf, truth}
+use Rattle.task.specs.Values.{truth}
 use Rattle.task.specs.Choices.{Choices}
-use Rattle.task.specs.Effect.{Effect, stores, continues, enters, forks, waits, halts, faults, asked, fits}
+use Rattle.task.specs.Effect.{Effect, stores, continues, enters, forks, waits, halts, faults, asked, integer, label, fits}
 use Rattle.task.specs.Effect.{Op, move, plus, minus, times, divide, modulo, less, equal, word, ifJump, jralloc, fork, jump, halt, meet, unknown, opcodes, effectOf}
 use Rattle.task.specs.Step.{register, operand, activeOf, counted, movedTo, ended, side, withTask, applied, step}
 use Rattle.task.specs.Formed.{every, isTarget, valueFits, statusFits}
 use Rattle.task.proofs.Fitting.{fits-is}
 use Rattle.task.proofs.Forks.{opened-fits}
-use Rattle.task.proofs.Effects.{asked-keeps, entered-keeps}
+use Rattle.task.proofs.Effects.{asked-keeps, integer-keeps, label-keeps, record-keeps, entered-keeps}
 use Rattle.task.proofs.Opcodes.{lasts, After, after}
 use Rattle.task.proofs.Facts.{set-keeps}
 use Rattle.task.proofs.Formation.{Formed, Listed, zeros-fit, target-below, target-from}
@@ -48,16 +48,6 @@ running-is Halted e = clash e refl
 running-is (Faulted n) e = clash e refl
 
 module _ (program : Program) where
-  label-below : (v : Value) → valueFits program v ≡ true → isLabel v ≡ true → labelOf v < program .blocks
-  label-below (Int z) x e = clash e refl
-  label-below (Label b) x e = ltb-true b (program .blocks) x
-  label-below (Record c d) x e = clash e refl
-
-  record-target : (v : Value) → valueFits program v ≡ true → isRecord v ≡ true → isTarget program (recordOf v .continuation) ≡ true
-  record-target (Int z) x e = clash e refl
-  record-target (Label b) x e = clash e refl
-  record-target (Record c d) x e = x
-
   truth-fits : (t : Bool) → valueFits program (truth t) ≡ true
   truth-fits true = refl
   truth-fits false = refl
@@ -201,10 +191,14 @@ module _ (cells : List ℕ) (ok : Accepted cells) (D : ℕ) (room : D ≤ 6) whe
     asks : (z : Bool) (n : ℕ) (after : Effect) → Listed n → (z ≡ true → Sound t after) → Sound t (asked z n after)
     asks z n after l g = asked-keeps (Sound t) z n after l g
 
-    sound-jump : Sound t (asked (isLabel v) 34 (enters (labelOf v)))
-    sound-jump = asks _ _ _ (omega arith) λ e. label-below program v fv e
+    -- both operands integers
+    computes : (after : ℤ → ℤ → Effect) → ((a b : ℤ) → Sound t (after a b)) → Sound t (integer s 31 λ a. integer v 31 (after a))
+    computes after g = integer-keeps (Sound t) s 31 _ (omega arith) λ a e. integer-keeps (Sound t) v 31 _ (omega arith) λ b e. g a b
 
-    sound-branch : (z : Bool) → t .pc + 1 < instructionCount cells → Sound t (cond z (asked (isLabel v) 34 (enters (labelOf v))) continues)
+    sound-jump : Sound t (label v 34 enters)
+    sound-jump = label-keeps (Sound t) v 34 _ (omega arith) λ b e. ltb-true b (program .blocks) (rw e at fv)
+
+    sound-branch : (z : Bool) → t .pc + 1 < instructionCount cells → Sound t (cond z (label v 34 enters) continues)
     sound-branch true next = sound-jump
     sound-branch false next = next
 
@@ -222,27 +216,23 @@ module _ (cells : List ℕ) (ok : Accepted cells) (D : ℕ) (room : D ≤ 6) whe
     sound : (op : Op) → After (t .pc + 1 < instructionCount cells) (lasts op)
         → Sound t (effectOf program words choices s v (activeOf t) (t .forks) op)
     sound move next = (fv, next)
-    sound plus next = asks _ _ _ (omega arith) λ e. (refl, next)
-    sound minus next = asks _ _ _ (omega arith) λ e. (refl, next)
-    sound times next = asks _ _ _ (omega arith) λ e. (refl, next)
-    sound divide next = asks _ _ _ (omega arith) λ e. asks _ _ _ (omega arith) λ e. (refl, next)
-    sound modulo next = asks _ _ _ (omega arith) λ e. asks _ _ _ (omega arith) λ e. (refl, next)
-    sound less next = asks _ _ _ (omega arith) λ e. (truth-fits program (ltZ (integerOf s) (integerOf v)), next)
-    sound equal next = asks _ _ _ (omega arith) λ e. (truth-fits program (eqZ (integerOf s) (integerOf v)), next)
-    sound word next = asks _ _ _ (omega arith) λ e. asks _ _ _ (omega arith) λ e. (refl, next)
-    sound ifJump next = asks _ _ _ (omega arith) λ e. sound-branch (eqZ (integerOf s) (pos 0)) next
-    sound jralloc next = asks _ _ _ (omega arith) λ e.
-        let p = both-true (isLabel v) _ e in
-        (target-from program (labelOf v) (label-below program v fv (p .0)) (p .1), next)
-    sound fork next = asks _ _ _ (omega arith) λ e.
-        let p = both-true (isRecord s) (fits (recordOf s) (t .depth) (t .forks)) e in
-        asks _ _ _ (omega arith) λ label. asks _ _ _ (omega arith) λ wide.
-        (record-target program s fs (p .0), label-below program v fv label, next, leb-true 2 (t .places) wide)
+    sound plus next = computes _ λ a b. (refl, next)
+    sound minus next = computes _ λ a b. (refl, next)
+    sound times next = computes _ λ a b. (refl, next)
+    sound divide next = computes _ λ a b. asks _ _ _ (omega arith) λ e. (refl, next)
+    sound modulo next = computes _ λ a b. asks _ _ _ (omega arith) λ e. (refl, next)
+    sound less next = computes _ λ a b. (truth-fits program (ltZ a b), next)
+    sound equal next = computes _ λ a b. (truth-fits program (eqZ a b), next)
+    sound word next = integer-keeps (Sound t) v 31 _ (omega arith) λ i e. asks _ _ _ (omega arith) λ e. (refl, next)
+    sound ifJump next = integer-keeps (Sound t) s 31 _ (omega arith) λ a e. sound-branch (eqZ a (pos 0)) next
+    sound jralloc next = label-keeps (Sound t) v 35 _ (omega arith) λ b e. asks _ _ _ (omega arith) λ target.
+        (target-from program b (ltb-true b (program .blocks) (rw e at fv)) target, next)
+    sound fork next = record-keeps (Sound t) s 36 _ (omega arith) λ k e. asks _ _ _ (omega arith) λ fit.
+        label-keeps (Sound t) v 34 _ (omega arith) λ b f. asks _ _ _ (omega arith) λ wide.
+        (rw e at fs, ltb-true b (program .blocks) (rw f at fv), next, leb-true 2 (t .places) wide)
     sound jump next = sound-jump
     sound halt next = asks _ _ _ (omega arith) λ e. e
-    sound meet next = asks _ _ _ (omega arith) λ e.
-        let p = both-true (isRecord v) (fits (recordOf v) (t .depth) (t .forks)) e in
-        sound-meet (recordOf v) (record-target program v fv (p .0)) (p .1)
+    sound meet next = record-keeps (Sound t) v 36 _ (omega arith) λ k e. asks _ _ _ (omega arith) λ fit. sound-meet k (rw e at fv) fit
     sound unknown next = absurd next
 
   step-leaves : (words : List ℤ) (choices : Choices) (h : ℕ) (f : Frame) → Is h f → running f ≡ true → Leaves h (step program words choices f)

@@ -10,11 +10,11 @@ use Rattle.int64.specs.Equal.{eqZ}
 use Rattle.int64.specs.Wrapped.{wrapped}
 use Rattle.image.specs.Program.{Program}
 use Rattle.task.specs.declared.Value.{Value}
-use Rattle.task.specs.declared.Value.the-variants.{Int, Record}
+use Rattle.task.specs.declared.Value.the-variants.{Int, Label, Record}
 use Rattle.task.specs.declared.Fork.{Fork}
 use Rattle.task.specs.declared.Active.{Active}
 use Rattle.task.specs.Frames.{zeroFork}
-use Rattle.task.specs.Values.{isInt, isLabel, isRecord, integerOf, labelOf, recordOf, truth}
+use Rattle.task.specs.Values.{truth}
 use Rattle.task.specs.Choices.{Choices}
 
 -- r := a value, and on to the next instruction; on to it; into a block; a fork under a record, whose child starts a block; the end of the
@@ -31,6 +31,22 @@ pub data Effect : Type 0 where
 unfoldable pub asked : Bool → ℕ → Effect → Effect
 asked true n after = after
 asked false n after = faults n
+
+-- questions about a value's kind: what comes after is told the integer, the label or the record
+abbrev pub integer : Value → ℕ → (ℤ → Effect) → Effect
+integer (Int z) n after = after z
+integer (Label b) n after = faults n
+integer (Record c d) n after = faults n
+
+abbrev pub label : Value → ℕ → (ℕ → Effect) → Effect
+label (Int z) n after = faults n
+label (Label b) n after = after b
+label (Record c d) n after = faults n
+
+abbrev pub joinRecord : Value → ℕ → (Fork → Effect) → Effect
+joinRecord (Int z) n after = faults n
+joinRecord (Label b) n after = faults n
+joinRecord (Record c d) n after = after (record { continuation = c; depth = d })
 
 -- ---- When a record fits
 
@@ -63,40 +79,32 @@ module _ (program : Program) (words : List ℤ) (choices : Choices) where
   -- 1 r := v
   effectOf s v t opened move = stores v
   -- 2 to 8 r := s op v. Both operands integers? (31) Sums, differences and products keep the low 64 bits, read as signed
-  effectOf s v t opened plus = asked (isInt s && isInt v) 31 (stores (Int (wrapped (integerOf s +ℤ integerOf v))))
-  effectOf s v t opened minus = asked (isInt s && isInt v) 31 (stores (Int (wrapped (integerOf s -ℤ integerOf v))))
-  effectOf s v t opened times = asked (isInt s && isInt v) 31 (stores (Int (wrapped (integerOf s *ℤ integerOf v))))
+  effectOf s v t opened plus = integer s 31 λ a. integer v 31 λ b. stores (Int (wrapped (a +ℤ b)))
+  effectOf s v t opened minus = integer s 31 λ a. integer v 31 λ b. stores (Int (wrapped (a -ℤ b)))
+  effectOf s v t opened times = integer s 31 λ a. integer v 31 λ b. stores (Int (wrapped (a *ℤ b)))
   -- divisor not 0? (32)
   effectOf s v t opened divide =
-      asked (isInt s && isInt v) 31
-      (asked (not (eqZ (integerOf v) (pos 0))) 32 (stores (Int (choices .quotient (integerOf s) (integerOf v)))))
+      integer s 31 λ a. integer v 31 λ b. asked (not (eqZ b (pos 0))) 32 (stores (Int (choices .quotient a b)))
   effectOf s v t opened modulo =
-      asked (isInt s && isInt v) 31
-      (asked (not (eqZ (integerOf v) (pos 0))) 32 (stores (Int (choices .remainder (integerOf s) (integerOf v)))))
-  effectOf s v t opened less = asked (isInt s && isInt v) 31 (stores (truth (ltZ (integerOf s) (integerOf v))))
-  effectOf s v t opened equal = asked (isInt s && isInt v) 31 (stores (truth (eqZ (integerOf s) (integerOf v))))
+      integer s 31 λ a. integer v 31 λ b. asked (not (eqZ b (pos 0))) 32 (stores (Int (choices .remainder a b)))
+  effectOf s v t opened less = integer s 31 λ a. integer v 31 λ b. stores (truth (ltZ a b))
+  effectOf s v t opened equal = integer s 31 λ a. integer v 31 λ b. stores (truth (eqZ a b))
   -- 9 r := word v of the call record. Index an integer? (31) Inside the record? (33)
   effectOf s v t opened word =
-      asked (isInt v) 31
-      (asked (nonNeg (integerOf v) && ltb (natAbs (integerOf v)) (length words)) 33
-      (stores (Int (getD words (natAbs (integerOf v)) (pos 0)))))
+      integer v 31 λ i. asked (nonNeg i && ltb (natAbs i) (length words)) 33 (stores (Int (getD words (natAbs i) (pos 0))))
   -- 10 if-jump s, v: jumps when s is 0, and only then looks at v. If-jump register an integer? (31) Jump target a label? (34)
-  effectOf s v t opened ifJump =
-      asked (isInt s) 31 (cond (eqZ (integerOf s) (pos 0)) (asked (isLabel v) 34 (enters (labelOf v))) continues)
+  effectOf s v t opened ifJump = integer s 31 λ a. cond (eqZ a (pos 0)) (label v 34 enters) continues
   -- 11 r := jralloc v: the continuation block and the task's present depth. A label of a join target? (35)
-  effectOf s v t opened jralloc =
-      asked (isLabel v && eqb (program .block (labelOf v) .annotation) 2) 35 (stores (Record (labelOf v) (t .depth)))
+  effectOf s v t opened jralloc = label v 35 λ b. asked (eqb (program .block b .annotation) 2) 35 (stores (Record b (t .depth)))
   -- 12 fork s, v. A record that fits? (36) A label? (34) Two places to fork? (37)
   effectOf s v t opened fork =
-      asked (isRecord s && fits (recordOf s) (t .depth) opened) 36
-      (asked (isLabel v) 34 (asked (leb 2 (t .places)) 37 (forks (recordOf s) (labelOf v))))
+      joinRecord s 36 λ k. asked (fits k (t .depth) opened) 36 (label v 34 λ b. asked (leb 2 (t .places)) 37 (forks k b))
   -- 13 jump v. Jump target a label? (34)
-  effectOf s v t opened jump = asked (isLabel v) 34 (enters (labelOf v))
+  effectOf s v t opened jump = label v 34 enters
   -- 14 halt. No open fork at halt? (38)
   effectOf s v t opened halt = asked (eqb (t .depth) 0) 38 halts
   -- 15 join v. A record that fits? (36) Its depth equal to the task's: to the continuation. Otherwise the task waits
   effectOf s v t opened meet =
-      asked (isRecord v && fits (recordOf v) (t .depth) opened) 36
-      (cond (eqb (recordOf v .depth) (t .depth)) (enters (recordOf v .continuation)) waits)
+      joinRecord v 36 λ k. asked (fits k (t .depth) opened) 36 (cond (eqb (k .depth) (t .depth)) (enters (k .continuation)) waits)
   -- an accepted program has no other opcode (8)
   effectOf s v t opened unknown = faults 8
