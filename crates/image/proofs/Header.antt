@@ -12,8 +12,9 @@ use Rattle.facts.proofs.Tests.{both-true}
 use Rattle.int64.specs.Little.{little}
 use Rattle.image.specs.declared.Block.{Block}
 use Rattle.image.specs.declared.Instruction.{Instruction}
-use Rattle.image.specs.Layout.{blockPlace, instructionPlace, blocksIn, instructionsIn, imageLength, programCells, blockCount, instructionCount, blockOf, programOf}
-use Rattle.image.specs.Layout.{instructionOf, blockIn, instructionIn, buffer, blockCellsIn, instructionCellsIn, recordsLaid, cellsIn}
+use Rattle.image.specs.Layout.{blockPlace, instructionPlace, blocksIn, instructionsIn, imageLength, programCells, blockCell}
+use Rattle.image.specs.Layout.{instructionCell, blockCount, instructionCount, blockOf, programOf, instructionOf, blockIn, instructionIn, buffer}
+use Rattle.image.specs.Layout.{blockCellsIn, instructionCellsIn, cellsIn}
 use Rattle.image.specs.Questions.{ask, countsNo, blockRecordNo, blockNo, lastInBlock, instructionRecordNo, instructionNo}
 use Rattle.image.specs.Doors.{markIn, headerNo}
 use Rattle.image.proofs.Asked.{ask-yes, or-else-both, or-else-yes}
@@ -59,14 +60,16 @@ headed bytes h =
     (or-else-yes (countsNo (blocksIn bytes) (instructionsIn bytes)) _ (h .counts) ∙ rw (eq-eqb (length bytes) (imageLength (blocksIn bytes) (instructionsIn bytes)) (h .size)))
 
 module _ (bytes : List ℕ) where
-  -- the cells that the reader lays into a cleared buffer
-  pub decoded : (l l₁ : List ℕ) → l ≡ replicate programCells 0 → l₁ ≡ sets l 0 (blocksIn bytes ∷ instructionsIn bytes ∷ [])
-      → recordsLaid bytes l₁ ≡ cellsIn bytes
+  -- the image's program: a cleared buffer with the counts and all records laid into it
+  pub decoded :
+      let counts : List ℕ = blocksIn bytes ∷ instructionsIn bytes ∷ [] in
+      let blocks = sets (sets (replicate programCells 0) 0 counts) (blockCell 0) (blockCellsIn bytes (blocksIn bytes)) in
+      sets blocks (instructionCell 0) (instructionCellsIn bytes (instructionsIn bytes)) ≡ cellsIn bytes
   unfolding cellsIn buffer
-  decoded l l₁ e p =
-      ap (λ (m : List ℕ). sets m 770 (instructionCellsIn bytes (instructionsIn bytes)))
-      (placed (replicate programCells 0) l₁ _ 0 2 (blocksIn bytes ∷ instructionsIn bytes ∷ []) (blockCellsIn bytes (blocksIn bytes))
-      (p ∙ ap (λ (m : List ℕ). sets m 0 (blocksIn bytes ∷ instructionsIn bytes ∷ [])) e) refl refl)
+  decoded =
+      let counts : List ℕ = blocksIn bytes ∷ instructionsIn bytes ∷ [] in
+      ap (λ (m : List ℕ). sets m (instructionCell 0) (instructionCellsIn bytes (instructionsIn bytes)))
+      (placed (replicate programCells 0) _ _ 0 (blockCell 0) counts (blockCellsIn bytes (blocksIn bytes)) refl refl refl)
 
   pub cells-in-blocks : blockCount (cellsIn bytes) ≡ blocksIn bytes
   unfolding cellsIn

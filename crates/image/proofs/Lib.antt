@@ -17,5 +17,6 @@ pub mod WrittenBack
 pub mod ReadBack
 pub mod Alike
 pub mod Offset
+pub mod Walked
 pub mod Walks
 pub mod RoundTrip

@@ -8,10 +8,10 @@ use borrow.Author.Tests.{eq-eqb, ne-eqb}
 use Rattle.image.specs.Layout.{blockPlace, instructionPlace, blocksIn, instructionsIn, cellsIn}
 use Rattle.image.specs.Questions.{orElse, firstNo, blockNo, instructionNo, recordsNo}
 use Rattle.image.specs.Doors.{headerNo, imageNo}
-use Rattle.image.specs.Offset.{passed, blocksOffset, instructionsOffset, offsetIn, KeepsOffset}
-use Rattle.image.proofs.Asked.{or-else-both, first-no-all, first-no-none}
+use Rattle.image.specs.Offset.{blocksPassed, instructionsPassed, blocksOffset, instructionsOffset, offsetIn, KeepsOffset}
+use Rattle.image.proofs.Asked.{or-else-both, first-no-none}
 use Rattle.image.proofs.Header.{header, cells-in-blocks, cells-in-instructions}
-use Rattle.image.proofs.Walking.{walk-passed, walk-stops, walk-ends}
+use Rattle.image.proofs.Walking.{walk-passed, walk-stops, passed-all}
 
 module _ (bytes : List ℕ) where
   abbrev cells : List ℕ
@@ -47,18 +47,16 @@ module _ (bytes : List ℕ) where
   offset-past-blocks h e = rw (eq-eqb (headerNo bytes) 0 h, eq-eqb blocksNo 0 e)
 
   -- where a walk over the blocks or the instructions has come to
-  pub blocks-offset : (n : ℕ) → passed (blockNo cells) B 0 ≡ n → blocksOffset bytes ≡ blockPlace n
+  pub blocks-offset : (n : ℕ) → blocksPassed bytes ≡ n → blocksOffset bytes ≡ blockPlace n
   unfolding blocksOffset
   blocks-offset n e = ap blockPlace e
 
-  pub instructions-offset : (n : ℕ) → passed (instructionNo cells) I 0 ≡ n → instructionsOffset bytes ≡ instructionPlace B n
+  pub instructions-offset : (n : ℕ) → instructionsPassed bytes ≡ n → instructionsOffset bytes ≡ instructionPlace B n
   unfolding instructionsOffset
   instructions-offset n e = ap (instructionPlace B) e
 
   pub past-blocks : blocksNo ≡ 0 → blocksOffset bytes ≡ blockPlace B
-  past-blocks e =
-      let every : (j : ℕ) → j < B → blockNo cells j ≡ 0 = λ j k. first-no-all (blockNo cells) B 0 e j (omega arith) (omega arith) in
-      blocks-offset B (walk-ends (blockNo cells) B B (walk-passed (blockNo cells) B B (omega arith) every) (omega arith) .1)
+  past-blocks e = blocks-offset B (passed-all (blockNo cells) B e)
 
   -- ---- the statement's clauses
 
@@ -79,9 +77,7 @@ module _ (bytes : List ℕ) where
   after-last e =
       let p = or-else-both (headerNo bytes) (recordsNo cells) e in
       let r = or-else-both blocksNo instructionsNo (sym records-no ∙ p .1) in
-      let every : (j : ℕ) → j < I → instructionNo cells j ≡ 0 = λ j k. first-no-all (instructionNo cells) I 0 (r .1) j (omega arith) (omega arith) in
-      let s = walk-ends (instructionNo cells) I I (walk-passed (instructionNo cells) I I (omega arith) every) (omega arith) in
-      offset-past-blocks (p .0) (r .0) ∙ instructions-offset I (s .1) ∙ sym (header bytes (p .0) .size)
+      offset-past-blocks (p .0) (r .0) ∙ instructions-offset I (passed-all (instructionNo cells) I (r .1)) ∙ sym (header bytes (p .0) .size)
 
 pub keeps-offset : KeepsOffset
 keeps-offset = record {

@@ -10,7 +10,7 @@ use borrow.Author.Tests.{eq-eqb, ne-eqb}
 use Rattle.image.specs.Layout.{rows}
 use Rattle.image.specs.Questions.{firstNo}
 use Rattle.image.specs.Offset.{passed}
-use Rattle.image.proofs.Asked.{begins, goes-on, decides, no-more}
+use Rattle.image.proofs.Asked.{begins, goes-on, decides, no-more, first-no-all}
 use Rattle.image.proofs.Rows.{row-placed}
 
 -- ---- records passed
@@ -68,6 +68,12 @@ walk-passed f n (suc i) h e = rw (next i) (walk-goes-on f n i (walk-passed f n i
     next : (i : ℕ) → suc i ≡ i + 1
     next i = omega arith
 
+-- where none is refused, it passes all
+pub passed-all : (f : ℕ → ℕ) (n : ℕ) → firstNo f n 0 ≡ 0 → passed f n 0 ≡ n
+passed-all f n e =
+    let every : (j : ℕ) → j < n → f j ≡ 0 = λ j k. first-no-all f n 0 e j (omega arith) (omega arith) in
+    walk-ends f n n (walk-passed f n n (omega arith) every) (omega arith) .1
+
 -- ---- records laid, where that is wanted
 
 module _ (f : ℕ → List ℕ) (width : ℕ) (even : (i : ℕ) → length (f i) ≡ width) where
@@ -85,11 +91,12 @@ pub laid-length : (t : Bool) (l l′ xs : List ℕ) (at : ℕ) → l′ ≡ cond
 laid-length true l l′ xs at e = ap length e ∙ length-sets l at xs
 laid-length false l l′ xs at e = ap length e
 
--- two layers, one after the other
-pub laid-twice : (t : Bool) (l l₁ l₂ xs ys : List ℕ) (at to : ℕ) → l₁ ≡ cond t (sets l at xs) l → l₂ ≡ cond t (sets l₁ to ys) l₁
-    → l₂ ≡ cond t (sets (sets l at xs) to ys) l
-laid-twice true l l₁ l₂ xs ys at to p q = q ∙ ap (λ (m : List ℕ). sets m to ys) p
-laid-twice false l l₁ l₂ xs ys at to p q = q ∙ p
+-- a buffer that is as it has to be where something is wanted
+pub as-lent : (t : Bool) (l new : List ℕ) → (t ≡ true → l ≡ new) → l ≡ cond t new l
+as-lent true l new e = e refl
+as-lent false l new e = refl
 
-pub when-wanted : (t : Bool) (l new old : List ℕ) → t ≡ true → l ≡ cond t new old → l ≡ new
-when-wanted t l new old w e = e ∙ ap (λ (b : Bool). cond b new old) w
+-- one layer after the other
+pub laid-then : (t : Bool) (f : List ℕ → List ℕ) (l l₁ l₂ new : List ℕ) → l₁ ≡ cond t new l → l₂ ≡ cond t (f l₁) l₁ → l₂ ≡ cond t (f new) l
+laid-then true f l l₁ l₂ new p q = q ∙ ap f p
+laid-then false f l l₁ l₂ new p q = q ∙ p

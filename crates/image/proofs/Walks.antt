@@ -7,17 +7,19 @@ use native.Mathlib.Omega.{arith}
 use lib.ListN.{length, set}
 use lib.Seq.{sets}
 use Rattle.image.specs.declared.Block.{Block}
-use Rattle.image.specs.Layout.{blockPlace, instructionPlace, blocksIn, instructionsIn, blockOf, blockIn, instructionIn, blockCells, instructionCells, blockCellsIn, instructionCellsIn, cellsIn}
+use Rattle.image.specs.Layout.{blockPlace, instructionPlace, blocksIn, instructionsIn, blockCell, instructionCell, blockOf}
+use Rattle.image.specs.Layout.{blockIn, instructionIn, blockCells, instructionCells, blockCellsIn, instructionCellsIn, cellsIn}
 use Rattle.image.specs.Questions.{firstNo, blockNo, instructionNo}
 use Rattle.image.specs.Marks.{Marked, Ended}
 use Rattle.image.specs.Doors.{headerNo}
-use Rattle.image.specs.Offset.{blocksOffset, instructionsOffset}
+use Rattle.image.specs.Offset.{blocksPassed, instructionsPassed, blocksOffset, instructionsOffset}
+use Rattle.image.specs.Walked.{blocksWalked, instructionsWalked}
 use Rattle.image.proofs.Counts.{Counted, counted}
 use Rattle.image.proofs.Header.{Header, header, block-read, cells-in-blocks, cells-in-instructions}
 use Rattle.image.proofs.Accepted.{block-is}
 use Rattle.image.proofs.Marking.{marked-more, ended}
 use Rattle.image.proofs.Offset.{blocks-offset, instructions-offset}
-use Rattle.image.proofs.Walking.{Walking, walk-begins, walk-goes-on, walk-stops, walk-ends, laid-none, laid-more, laid-length}
+use Rattle.image.proofs.Walking.{Walking, walk-begins, walk-goes-on, walk-stops, walk-ends, passed-all, laid-none, laid-more, laid-length}
 
 -- at block b: the offset is its place
 pub record AtBlock (bytes : List ℕ) (lays : Bool) (lent marks cells : List ℕ) (at to before b : ℕ) : Type 0 where
@@ -59,12 +61,14 @@ module _ (bytes : List ℕ) (ok : headerNo bytes ≡ 0) where
       let same : blockOf (cellsIn bytes) b .first ≡ blockIn bytes (blockPlace b) .first = ap (λ (k : Block). k .first) (block-read bytes h b q) in
       omega (arith, below, same, cells-in-instructions bytes)
 
-  -- with the program's end marked behind the blocks' starts
-  pub end-marked : (marks : List ℕ) (end : ℕ) → Marked (cellsIn bytes) B marks → end ≡ I → Ended (cellsIn bytes) (set marks end 1)
-  end-marked marks end m e =
+  -- all blocks passed: with the program's end marked behind their starts
+  pub end-marked : (marks : List ℕ) (end : ℕ) → firstNo (blockNo (cellsIn bytes)) B 0 ≡ 0 → Marked (cellsIn bytes) (blocksPassed bytes) marks
+      → end ≡ I → Ended (cellsIn bytes) (set marks end 1)
+  end-marked marks end all m e =
       let n = cells-in-instructions bytes in
+      let every = passed-all (blockNo (cellsIn bytes)) B all ∙ sym (cells-in-blocks bytes) in
       subst (λ (i : ℕ). Ended (cellsIn bytes) (set marks i 1)) (n ∙ sym e)
-      (ended (cellsIn bytes) marks (subst (λ (b : ℕ). Marked (cellsIn bytes) b marks) (sym (cells-in-blocks bytes)) m) (omega (arith, n, count .instructions-fit)))
+      (ended (cellsIn bytes) marks (subst (λ (b : ℕ). Marked (cellsIn bytes) b marks) every m) (omega (arith, n, count .instructions-fit)))
 
   module _ (lays : Bool) (lent : List ℕ) where
     pub blocks-begin : (marks : List ℕ) → Marked (cellsIn bytes) 0 marks → AtBlock bytes lays lent marks lent 8 2 0 0
@@ -100,23 +104,31 @@ module _ (bytes : List ℕ) (ok : headerNo bytes ≡ 0) where
                 (stored ∙ ap (λ (k : Block). cond lays (sets cells to (blockCells k)) cells) here) (w .target);
           }
 
+      -- where the walk stops, at a refused block or after the last
+      abbrev BlocksStopped : Type 0
+      BlocksStopped =
+          (at ≡ blocksOffset bytes)
+          × (Marked (cellsIn bytes) (blocksPassed bytes) marks × (cells ≡ cond lays (blocksWalked bytes lent) lent))
+
+      blocks-stopped : blocksPassed bytes ≡ b → BlocksStopped
+      blocks-stopped e = (
+        w .offset ∙ sym (blocks-offset bytes b e),
+        (
+          subst (λ (n : ℕ). Marked (cellsIn bytes) n marks) (sym e) (w .marking),
+          w .laid ∙ ap (λ (n : ℕ). cond lays (sets lent (blockCell 0) (blockCellsIn bytes n)) lent) (sym e),
+        ),
+      )
+
       pub block-refused : b < B → (blockNo (cellsIn bytes) b ≡ 0 → ⊥)
-          → (firstNo (blockNo (cellsIn bytes)) B 0 ≡ blockNo (cellsIn bytes) b) × (at ≡ blocksOffset bytes)
+          → (firstNo (blockNo (cellsIn bytes)) B 0 ≡ blockNo (cellsIn bytes) b) × BlocksStopped
       block-refused q refused =
           let s = walk-stops (blockNo (cellsIn bytes)) B b (w .walking) q refused in
-          (s .0, w .offset ∙ sym (blocks-offset bytes b (s .1)))
+          (s .0, blocks-stopped (s .1))
 
-      pub blocks-end : B ≤ b
-          → (firstNo (blockNo (cellsIn bytes)) B 0 ≡ 0) × (at ≡ blocksOffset bytes) × Marked (cellsIn bytes) B marks
-          × (cells ≡ cond lays (sets lent 2 (blockCellsIn bytes B)) lent)
+      pub blocks-end : B ≤ b → (firstNo (blockNo (cellsIn bytes)) B 0 ≡ 0) × BlocksStopped
       blocks-end q =
           let s = walk-ends (blockNo (cellsIn bytes)) B b (w .walking) q in
-          let all : b ≡ B = omega (arith, w .below) in (
-            s .0,
-            w .offset ∙ sym (blocks-offset bytes b (s .1)),
-            subst (λ (n : ℕ). Marked (cellsIn bytes) n marks) all (w .marking),
-            w .laid ∙ ap (λ (n : ℕ). cond lays (sets lent 2 (blockCellsIn bytes n)) lent) all,
-          )
+          (s .0, blocks-stopped (s .1))
 
       pub block-length : length cells ≡ length lent
       block-length = laid-length lays lent cells (blockCellsIn bytes b) 2 (w .laid)
@@ -145,19 +157,25 @@ module _ (bytes : List ℕ) (ok : headerNo bytes ≡ 0) where
             (stored ∙ ap (λ (n : ℕ). cond lays (sets cells to (instructionCells (instructionIn bytes n))) cells) (w .offset)) (w .target);
       }
 
+      abbrev InstructionsStopped : Type 0
+      InstructionsStopped = (at ≡ instructionsOffset bytes) × (cells ≡ cond lays (instructionsWalked bytes lent) lent)
+
+      instructions-stopped : instructionsPassed bytes ≡ i → InstructionsStopped
+      instructions-stopped e = (
+        w .offset ∙ sym (instructions-offset bytes i e),
+        w .laid ∙ ap (λ (n : ℕ). cond lays (sets lent (instructionCell 0) (instructionCellsIn bytes n)) lent) (sym e),
+      )
+
       pub instruction-refused : i < I → (instructionNo (cellsIn bytes) i ≡ 0 → ⊥)
-          → (firstNo (instructionNo (cellsIn bytes)) I 0 ≡ instructionNo (cellsIn bytes) i) × (at ≡ instructionsOffset bytes)
+          → (firstNo (instructionNo (cellsIn bytes)) I 0 ≡ instructionNo (cellsIn bytes) i) × InstructionsStopped
       instruction-refused q refused =
           let s = walk-stops (instructionNo (cellsIn bytes)) I i (w .walking) q refused in
-          (s .0, w .offset ∙ sym (instructions-offset bytes i (s .1)))
+          (s .0, instructions-stopped (s .1))
 
-      pub instructions-end : I ≤ i
-          → (firstNo (instructionNo (cellsIn bytes)) I 0 ≡ 0) × (at ≡ instructionsOffset bytes)
-          × (cells ≡ cond lays (sets lent 770 (instructionCellsIn bytes I)) lent)
+      pub instructions-end : I ≤ i → (firstNo (instructionNo (cellsIn bytes)) I 0 ≡ 0) × InstructionsStopped
       instructions-end q =
           let s = walk-ends (instructionNo (cellsIn bytes)) I i (w .walking) q in
-          let all : i ≡ I = omega (arith, w .below) in
-          (s .0, w .offset ∙ sym (instructions-offset bytes i (s .1)), w .laid ∙ ap (λ (n : ℕ). cond lays (sets lent 770 (instructionCellsIn bytes n)) lent) all)
+          (s .0, instructions-stopped (s .1))
 
       pub instruction-length : length cells ≡ length lent
       instruction-length = laid-length lays lent cells (instructionCellsIn bytes i) 770 (w .laid)

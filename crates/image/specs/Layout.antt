@@ -72,24 +72,12 @@ instructionBytes x =
 abbrev pub programCells : ℕ
 programCells = 5890
 
--- the six cells of block b begin at 2 + 6·b, the five of instruction i at 770 + 5·i
-abbrev pub firstBlockCell : ℕ
-firstBlockCell = 2
-
-abbrev pub firstInstructionCell : ℕ
-firstInstructionCell = 770
-
+-- where the six cells of block b begin, and the five of instruction i
 abbrev pub blockCell : ℕ → ℕ
-blockCell b = firstBlockCell + 6 * b
+blockCell b = 2 + 6 * b
 
 abbrev pub instructionCell : ℕ → ℕ
-instructionCell i = firstInstructionCell + 5 * i
-
-abbrev pub blockCount : List ℕ → ℕ
-blockCount cells = getD cells 0 0
-
-abbrev pub instructionCount : List ℕ → ℕ
-instructionCount cells = getD cells 1 0
+instructionCell i = 770 + 5 * i
 
 -- the six cells of a block
 abbrev pub blockFrom : List ℕ → ℕ → Block
@@ -101,9 +89,6 @@ blockFrom cells at = record {
   pairs = getD cells (at + 4) 0;
   packed = getD cells (at + 5) 0;
 }
-
-abbrev pub blockOf : List ℕ → ℕ → Block
-blockOf cells b = blockFrom cells (blockCell b)
 
 abbrev pub blockCells : Block → List ℕ
 blockCells k = k .first ∷ k .annotation ∷ k .policy ∷ k .label ∷ k .pairs ∷ k .packed ∷ []
@@ -118,27 +103,37 @@ instructionFrom cells at = record {
   operand = getD cells (at + 4) 0;
 }
 
-abbrev pub instructionOf : List ℕ → ℕ → Instruction
-instructionOf cells i = instructionFrom cells (instructionCell i)
-
 abbrev pub instructionCells : Instruction → List ℕ
 instructionCells x = x .opcode ∷ x .r ∷ x .s ∷ x .kind ∷ x .operand ∷ []
 
 -- the program that a buffer holds
 abbrev pub programOf : List ℕ → Program
 programOf cells = record {
-  blocks = blockCount cells;
-  instructions = instructionCount cells;
-  block = blockOf cells;
-  instruction = instructionOf cells;
+  blocks = getD cells 0 0;
+  instructions = getD cells 1 0;
+  block = λ b. blockFrom cells (blockCell b);
+  instruction = λ i. instructionFrom cells (instructionCell i);
 }
+
+-- its parts
+abbrev pub blockCount : List ℕ → ℕ
+blockCount cells = programOf cells .blocks
+
+abbrev pub instructionCount : List ℕ → ℕ
+instructionCount cells = programOf cells .instructions
+
+abbrev pub blockOf : List ℕ → ℕ → Block
+blockOf cells b = programOf cells .block b
+
+abbrev pub instructionOf : List ℕ → ℕ → Instruction
+instructionOf cells i = programOf cells .instruction i
 
 -- the buffer of a program that has these blocks and instructions: every unused cell is 0
 unfoldable pub buffer : ℕ → ℕ → (ℕ → Block) → (ℕ → Instruction) → List ℕ
 buffer blocks instructions block instruction =
     sets
     (sets (replicate programCells 0) 0 (blocks ∷ instructions ∷ rows (λ b. blockCells (block b)) blocks))
-    firstInstructionCell
+    (instructionCell 0)
     (rows (λ i. instructionCells (instruction i)) instructions)
 
 -- ---- From one to the other
@@ -149,12 +144,6 @@ blockCellsIn bytes n = rows (λ b. blockCells (blockIn bytes (blockPlace b))) n
 
 abbrev pub instructionCellsIn : List ℕ → ℕ → List ℕ
 instructionCellsIn bytes n = rows (λ i. instructionCells (instructionIn bytes (instructionPlace (blocksIn bytes) i))) n
-
--- a buffer with all of them laid into it
-abbrev pub recordsLaid : List ℕ → List ℕ → List ℕ
-recordsLaid bytes cells =
-    sets (sets cells firstBlockCell (blockCellsIn bytes (blocksIn bytes))) firstInstructionCell
-    (instructionCellsIn bytes (instructionsIn bytes))
 
 -- the buffer that an image is read into
 unfoldable pub cellsIn : List ℕ → List ℕ

@@ -5,4 +5,5 @@ pub mod Marks
 pub mod Limits
 pub mod Doors
 pub mod Offset
+pub mod Walked
 pub mod RoundTrip

@@ -14,13 +14,20 @@ unfoldable pub passed : (ℕ → ℕ) → ℕ → ℕ → ℕ
 passed f zero i = 0
 passed f (suc n) i = cond (eqb (f i) 0) (suc (passed f n (i + 1))) 0
 
+-- how many blocks are answered with yes before the first that is refused, and how many instructions
+abbrev pub blocksPassed : List ℕ → ℕ
+blocksPassed bytes = passed (blockNo (cellsIn bytes)) (blocksIn bytes) 0
+
+abbrev pub instructionsPassed : List ℕ → ℕ
+instructionsPassed bytes = passed (instructionNo (cellsIn bytes)) (instructionsIn bytes) 0
+
 -- after the blocks: the place of the first one that is refused, else the end of the last
 unfoldable pub blocksOffset : List ℕ → ℕ
-blocksOffset bytes = blockPlace (passed (blockNo (cellsIn bytes)) (blocksIn bytes) 0)
+blocksOffset bytes = blockPlace (blocksPassed bytes)
 
 -- after the instructions likewise
 unfoldable pub instructionsOffset : List ℕ → ℕ
-instructionsOffset bytes = instructionPlace (blocksIn bytes) (passed (instructionNo (cellsIn bytes)) (instructionsIn bytes) 0)
+instructionsOffset bytes = instructionPlace (blocksIn bytes) (instructionsPassed bytes)
 
 -- after the walk: a refused header has none
 unfoldable pub offsetIn : List ℕ → ℕ

@@ -7,7 +7,7 @@ use lib.Dec.{eqb, ltb, leb}
 use Rattle.image.specs.declared.Block.{Block}
 use Rattle.image.specs.declared.Instruction.{Instruction}
 use Rattle.image.specs.Program.{Program}
-use Rattle.image.specs.Layout.{blockCount, instructionCount, blockCell, instructionCell, programOf}
+use Rattle.image.specs.Layout.{blockCell, instructionCell, programOf}
 
 -- the answer n where the test fails, else the answer after it
 abbrev pub ask : Bool → ℕ → ℕ → ℕ
@@ -64,13 +64,11 @@ annotated blocks k =
 abbrev pub blockRecordNo : ℕ → ℕ → ℕ → ℕ → Block → ℕ
 blockRecordNo blocks instructions b before k = ask (inOrder instructions b before (k .first)) 6 (ask (annotated blocks k) 7 0)
 
--- block b of a program
-abbrev pub programBlockNo : Program → ℕ → ℕ
-programBlockNo p b = blockRecordNo (p .blocks) (p .instructions) b (p .block (b - 1) .first) (p .block b)
-
 -- a block that a short buffer lacks is a no to 6
 unfoldable pub blockNo : List ℕ → ℕ → ℕ
-blockNo cells b = ask (leb (blockCell b + 6) (length cells)) 6 (programBlockNo (programOf cells) b)
+blockNo cells b =
+    let p = programOf cells in
+    ask (leb (blockCell b + 6) (length cells)) 6 (blockRecordNo (p .blocks) (p .instructions) b (p .block (b - 1) .first) (p .block b))
 
 -- ---- instructions
 
@@ -141,21 +139,19 @@ same false b = not b
 abbrev pub instructionRecordNo : ℕ → Bool → Instruction → ℕ
 instructionRecordNo blocks last x = ask (laidOut blocks x) 8 (ask (same (leb 13 (x .opcode)) last) 9 0)
 
--- instruction i of a program
-abbrev pub programInstructionNo : Program → ℕ → ℕ
-programInstructionNo p i = instructionRecordNo (p .blocks) (lastInBlock p i) (p .instruction i)
-
 -- an instruction that a short buffer lacks is a no to 8
 unfoldable pub instructionNo : List ℕ → ℕ → ℕ
-instructionNo cells i = ask (leb (instructionCell i + 5) (length cells)) 8 (programInstructionNo (programOf cells) i)
+instructionNo cells i =
+    let p = programOf cells in
+    ask (leb (instructionCell i + 5) (length cells)) 8 (instructionRecordNo (p .blocks) (lastInBlock p i) (p .instruction i))
 
 -- ---- a program
 
 -- for each block 6 then 7, then for each instruction 8 then 9
 unfoldable pub recordsNo : List ℕ → ℕ
 recordsNo cells =
-    orElse (firstNo (blockNo cells) (blockCount cells) 0) (firstNo (instructionNo cells) (instructionCount cells) 0)
+    orElse (firstNo (blockNo cells) (programOf cells .blocks) 0) (firstNo (instructionNo cells) (programOf cells .instructions) 0)
 
 -- 4 and 6 to 9
 unfoldable pub programNo : List ℕ → ℕ
-programNo cells = orElse (countsNo (blockCount cells) (instructionCount cells)) (recordsNo cells)
+programNo cells = orElse (countsNo (programOf cells .blocks) (programOf cells .instructions)) (recordsNo cells)

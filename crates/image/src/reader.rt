@@ -3,12 +3,13 @@ use crate::layout;
 use crate::questions;
 use crate::walk;
 ghost use mathlib.Core.Path.{_≡_};
-ghost use mathlib.Core.Bool.{true};
+ghost use mathlib.Core.Bool.{true, cond};
 ghost use Prim.Native.Nat.{_≤_};
 ghost use lib.ListN.{length, replicate};
 ghost use Rattle.image.specs.Layout.{programCells, cellsIn};
 ghost use Rattle.image.specs.Doors.{markIn, headerNo, imageNo, readNo, unlessRefused};
 ghost use Rattle.image.specs.Offset.{offsetIn};
+ghost use Rattle.image.specs.Walked.{scanned};
 
 // Question 2.
 fn is_marked(image: &[u8]) -> bool
@@ -50,13 +51,12 @@ fn ask_header(image: &[u8]) -> u8
     0
 }
 
-// Questions 1 to 9, and the offset that the walk over the records came to. Where all are answered with yes and cells are wanted, they are
-// the image's program.
+// Questions 1 to 9, and the offset that the walk over the records came to; where cells are wanted, they are laid on the way.
 fn walk_image(image: &[u8], lays: bool, cells: &mut [u64]) -> walk::Walked
     requires { ⌜ (lays ≡ true → now cells ≡ replicate programCells 0) ⌝ }
     ensures { λ r. ⌜ r .no ≡ imageNo (now (image .entry)) ⌝ }
     ensures { λ r. ⌜ r .at ≡ offsetIn (now (image .entry)) ⌝ }
-    ensures { λ r. ⌜ (r .no ≡ 0 → lays ≡ true → now (cells .exit) ≡ cellsIn (now (image .entry))) ⌝ }
+    ensures { λ _. ⌜ now (cells .exit) ≡ cond lays (scanned (now (image .entry))) (now (cells .entry)) ⌝ }
 {
     let no = ask_header(image);
     if no != 0 {
@@ -66,11 +66,12 @@ fn walk_image(image: &[u8], lays: bool, cells: &mut [u64]) -> walk::Walked
     walk::walk_records(image, lays, cells)
 }
 
-// Questions 1 to 9. Where all are answered with yes, the cells are the image's program.
+// Questions 1 to 9. Where all are answered with yes, the cells are the image's program (`scanned-accepted` in proofs/Walked.antt). `read`,
+// `rewrite` and the job's `ask_job` alone call it: the first two make the buffer of zeros that it requires, `ask_job` requires one itself.
 pub fn scan(image: &[u8], cells: &mut [u64]) -> u8
     requires { ⌜ now cells ≡ replicate programCells 0 ⌝ }
     ensures { λ r. ⌜ r ≡ imageNo (now (image .entry)) ⌝ }
-    ensures { λ r. ⌜ (r ≡ 0 → now (cells .exit) ≡ cellsIn (now (image .entry))) ⌝ }
+    ensures { λ _. ⌜ now (cells .exit) ≡ scanned (now (image .entry)) ⌝ }
 {
     let walked = walk_image(image, true, cells);
     walked.no

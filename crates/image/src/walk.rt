@@ -8,12 +8,14 @@ ghost use mathlib.Core.List.{[], _∷_};
 ghost use Prim.Native.Nat.{_+_, _-_, _<_, _≤_};
 ghost use lib.ListN.{length};
 ghost use lib.Seq.{sets};
-ghost use Rattle.image.specs.Layout.{blockPlace, instructionPlace, blocksIn, instructionsIn, programCells, firstInstructionCell, blockIn, instructionIn, blockCells, instructionCells, blockCellsIn, instructionCellsIn, recordsLaid, cellsIn};
+ghost use Rattle.image.specs.Layout.{blockPlace, instructionPlace, blocksIn, instructionsIn, programCells};
+ghost use Rattle.image.specs.Layout.{blockIn, instructionIn, blockCells, instructionCells, cellsIn};
 ghost use Rattle.image.specs.Questions.{firstNo, blockNo, instructionNo, recordsNo};
 ghost use Rattle.image.specs.Marks.{Marked, Ended};
 ghost use Rattle.image.specs.Limits.{Limited};
 ghost use Rattle.image.specs.Doors.{headerNo};
-ghost use Rattle.image.specs.Offset.{blocksOffset, instructionsOffset, offsetIn};
+ghost use Rattle.image.specs.Offset.{blocksPassed, blocksOffset, instructionsOffset, offsetIn};
+ghost use Rattle.image.specs.Walked.{blocksWalked, instructionsWalked, recordsWalked};
 
 // What the walk came to: the first no, or 0, and the offset there.
 pub struct Walked {
@@ -43,13 +45,13 @@ fn lay_block(image: &[u8], at: usize, lays: bool, cells: &mut [u64], to: usize)
     }
 }
 
-// Questions 6 and 7 of all blocks. Where all are answered with yes, marks the instructions that start a block.
+// Questions 6 and 7 of all blocks. Marks the instructions that start a block, and lays the blocks, up to the first that is refused.
 fn walk_blocks(image: &[u8], marks: &mut [u8], lays: bool, cells: &mut [u64]) -> Walked
     requires { ⌜ (headerNo (now image) ≡ 0) × Marked (cellsIn (now image)) 0 (now marks) × (lays ≡ true → length (now cells) ≡ programCells) ⌝ }
     ensures { λ r. ⌜ r .no ≡ firstNo (blockNo (cellsIn (now (image .entry)))) (blocksIn (now (image .entry))) 0 ⌝ }
     ensures { λ r. ⌜ r .at ≡ blocksOffset (now (image .entry)) ⌝ }
-    ensures { λ r. ⌜ (r .no ≡ 0 → Marked (cellsIn (now (image .entry))) (blocksIn (now (image .entry))) (now (marks .exit))) ⌝ }
-    ensures { λ r. ⌜ (r .no ≡ 0 → now (cells .exit) ≡ cond lays (sets (now (cells .entry)) 2 (blockCellsIn (now (image .entry)) (blocksIn (now (image .entry))))) (now (cells .entry))) ⌝ }
+    ensures { λ _. ⌜ Marked (cellsIn (now (image .entry))) (blocksPassed (now (image .entry))) (now (marks .exit)) ⌝ }
+    ensures { λ _. ⌜ now (cells .exit) ≡ cond lays (blocksWalked (now (image .entry)) (now (cells .entry))) (now (cells .entry)) ⌝ }
 {
     let blocks = layout::wide(image[5]) as usize;
     let mut at = 8;
@@ -113,8 +115,7 @@ fn walk_instructions(
         × (start ≡ blockPlace (blocksIn (now image))) × (lays ≡ true → length (now cells) ≡ programCells) ⌝ }
     ensures { λ r. ⌜ r .no ≡ firstNo (instructionNo (cellsIn (now (image .entry)))) (instructionsIn (now (image .entry))) 0 ⌝ }
     ensures { λ r. ⌜ r .at ≡ instructionsOffset (now (image .entry)) ⌝ }
-    ensures { λ r. ⌜ (r .no ≡ 0 → now (cells .exit) ≡ cond lays
-        (sets (now (cells .entry)) firstInstructionCell (instructionCellsIn (now (image .entry)) (instructionsIn (now (image .entry))))) (now (cells .entry))) ⌝ }
+    ensures { λ _. ⌜ now (cells .exit) ≡ cond lays (instructionsWalked (now (image .entry)) (now (cells .entry))) (now (cells .entry)) ⌝ }
 {
     let instructions = int64::read_u16(image, 6) as usize;
     let mut at = start;
@@ -138,7 +139,7 @@ pub fn walk_records(image: &[u8], lays: bool, cells: &mut [u64]) -> Walked
     requires { ⌜ (headerNo (now image) ≡ 0) × (lays ≡ true → length (now cells) ≡ programCells) ⌝ }
     ensures { λ r. ⌜ r .no ≡ recordsNo (cellsIn (now (image .entry))) ⌝ }
     ensures { λ r. ⌜ r .at ≡ offsetIn (now (image .entry)) ⌝ }
-    ensures { λ r. ⌜ (r .no ≡ 0 → now (cells .exit) ≡ cond lays (recordsLaid (now (image .entry)) (now (cells .entry))) (now (cells .entry))) ⌝ }
+    ensures { λ _. ⌜ now (cells .exit) ≡ cond lays (recordsWalked (now (image .entry)) (now (cells .entry))) (now (cells .entry)) ⌝ }
 {
     let mut marks = [0u8; 1025];
     let walked = walk_blocks(image, &mut marks, lays, cells);

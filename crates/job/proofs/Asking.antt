@@ -1,16 +1,19 @@
--- The questions of a job, put one after the other.
+-- The questions of a job, put one after the other, and what a cleared program buffer holds after them.
 use mathlib.Core.Path.{_≡_, sym, ap, _∙_}
 use mathlib.Core.Bool.{true}
 use mathlib.Core.List.{List}
 use Prim.Native.Nat.{ℕ}
-use lib.ListN.{length}
-use Rattle.image.specs.Layout.{cellsIn}
-use Rattle.image.specs.Doors.{imageNo, writeNo}
+use lib.ListN.{length, replicate}
+use borrow.Author.Tests.{eq-eqb, ne-eqb}
+use Rattle.image.specs.Layout.{programCells, cellsIn}
+use Rattle.image.specs.Doors.{imageNo, writeNo, unlessRefused}
+use Rattle.image.specs.Walked.{scanned}
 use Rattle.image.proofs.Asked.{ask-yes, or-else-no, or-else-yes, or-else-both}
 use Rattle.image.specs.Questions.{orElse, programNo}
 use Rattle.image.proofs.RoundTrip.{read-writes}
+use Rattle.image.proofs.Walked.{scanned-accepted}
 use Rattle.machine.specs.Starting.{settingsNo, startNoBy}
-use Rattle.job.specs.Job.{jobImage, jobPlaces, jobInterval, wordCount, endsExactly, lengthNo, jobNo}
+use Rattle.job.specs.Job.{jobImage, jobPlaces, jobInterval, wordCount, endsExactly, lengthNo, jobNo, jobScanned}
 
 -- an input that question 10 lets pass ends exactly
 pub length-asked : (bytes : List ℕ) (r : ℕ) → r ≡ lengthNo bytes → r ≡ 0 → endsExactly bytes ≡ true
@@ -30,6 +33,21 @@ settings-left cells places interval registers words e = sym (or-else-yes (progra
 module _ (bytes : List ℕ) where
   abbrev start : ℕ
   start = startNoBy (cellsIn (jobImage bytes)) (jobPlaces bytes) (jobInterval bytes) 16 (wordCount bytes)
+
+  pub scanned-none : (lengthNo bytes ≡ 0 → ⊥) → jobScanned bytes ≡ replicate programCells 0
+  unfolding jobScanned unlessRefused
+  scanned-none e = rw (ne-eqb (lengthNo bytes) 0 e)
+
+  pub scanned-image : lengthNo bytes ≡ 0 → jobScanned bytes ≡ scanned (jobImage bytes)
+  unfolding jobScanned unlessRefused
+  scanned-image e = rw (eq-eqb (lengthNo bytes) 0 e)
+
+  -- of an accepted job it is the image's program
+  pub asked-program : jobNo bytes ≡ 0 → jobScanned bytes ≡ cellsIn (jobImage bytes)
+  unfolding jobNo
+  asked-program e =
+      let p = or-else-both (lengthNo bytes) (orElse (imageNo (jobImage bytes)) start) e in
+      scanned-image (p .0) ∙ scanned-accepted (jobImage bytes) (or-else-both (imageNo (jobImage bytes)) start (p .1) .0)
 
   pub refused-by-length : (r : ℕ) → r ≡ lengthNo bytes → (r ≡ 0 → ⊥) → r ≡ jobNo bytes
   unfolding jobNo

@@ -5,11 +5,12 @@ use mathlib.Core.List.{List}
 use Prim.Native.Nat.{ℕ, _+_, _*_}
 use lib.Dec.{eqb, leb}
 use lib.IntN.{ℤ}
-use lib.ListN.{length, getD, take, drop}
+use lib.ListN.{length, getD, take, drop, replicate}
 use Rattle.int64.specs.Little.{little}
-use Rattle.image.specs.Layout.{cellsIn}
+use Rattle.image.specs.Layout.{programCells, cellsIn}
 use Rattle.image.specs.Questions.{ask, orElse}
-use Rattle.image.specs.Doors.{imageNo}
+use Rattle.image.specs.Doors.{imageNo, unlessRefused}
+use Rattle.image.specs.Walked.{scanned}
 use Rattle.machine.specs.Starting.{startNoBy}
 use Rattle.state.specs.Numbers.{integersIn}
 
@@ -53,3 +54,9 @@ jobNo bytes =
     orElse (lengthNo bytes)
     (orElse (imageNo (jobImage bytes))
     (startNoBy (cellsIn (jobImage bytes)) (jobPlaces bytes) (jobInterval bytes) 16 (wordCount bytes)))
+
+-- ---- A cleared program buffer after the questions
+
+-- the job's image read into it; a job that does not end exactly leaves it as it was
+unfoldable pub jobScanned : List ℕ → List ℕ
+jobScanned bytes = unlessRefused (lengthNo bytes) (scanned (jobImage bytes)) (replicate programCells 0)

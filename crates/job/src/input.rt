@@ -3,8 +3,9 @@ ghost use mathlib.Core.Path.{_≡_};
 ghost use mathlib.Core.Bool.{true};
 ghost use Prim.Native.Nat.{_+_, _*_, _<_, _≤_};
 ghost use lib.ListN.{length, replicate};
-ghost use Rattle.image.specs.Layout.{programCells, cellsIn};
-ghost use Rattle.job.specs.Job.{imageSize, jobImage, jobPlaces, jobInterval, jobRegisters, wordCount, jobWords, endsExactly, lengthNo, jobNo};
+ghost use Rattle.image.specs.Layout.{programCells};
+ghost use Rattle.job.specs.Job.{imageSize, jobImage, jobPlaces, jobInterval, jobRegisters, wordCount, jobWords};
+ghost use Rattle.job.specs.Job.{endsExactly, lengthNo, jobNo, jobScanned};
 
 // Question 10.
 pub fn ask_length(job: &[u8]) -> u8
@@ -86,12 +87,12 @@ pub fn read_words(job: &[u8], out: &mut [i64])
     state::numbers::read_integers(job, at, out);
 }
 
-// All questions of a job. Where all are answered with yes, the cells are the image's program; the reader has put its questions, so start's
-// own are left.
+// All questions of a job. Where all are answered with yes, the cells are the image's program (`asked-program` in proofs/Asking.antt); the
+// reader has put its questions, so start's own are left. This crate's exports alone call it, each with the buffer of zeros that it requires.
 pub fn ask_job(job: &[u8], cells: &mut [u64]) -> u8
     requires { ⌜ now cells ≡ replicate programCells 0 ⌝ }
     ensures { λ r. ⌜ r ≡ jobNo (now (job .entry)) ⌝ }
-    ensures { λ r. ⌜ (r ≡ 0 → now (cells .exit) ≡ cellsIn (jobImage (now (job .entry)))) ⌝ }
+    ensures { λ _. ⌜ now (cells .exit) ≡ jobScanned (now (job .entry)) ⌝ }
 {
     let short = ask_length(job);
     if short != 0 {

@@ -17,8 +17,5 @@ pub record Choices : Type 0 where
 -- the engine's, for a job with this interval. Of an interval of 0 never; otherwise when the counter is at least the interval (02, request 1).
 -- Division goes toward zero; the least integer divided by -1 gives itself, remainder 0
 abbrev pub chosen : ℕ → Choices
-chosen interval = record {
-  due = λ counter. not (eqb interval 0) && leb interval counter;
-  quotient = λ a b. wrapped (quotZ a b);
-  remainder = remZ;
-}
+chosen interval =
+    record { due = λ counter. not (eqb interval 0) && leb interval counter; quotient = λ a b. wrapped (quotZ a b); remainder = remZ }

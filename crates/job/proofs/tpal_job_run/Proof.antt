@@ -6,6 +6,7 @@ use Rattle.image.proofs.Asked.{or-else-no, or-else-yes}
 use Rattle.report.specs.Report.{reportBytes}
 use Rattle.job.specs.Job.{jobNo}
 use Rattle.job.specs.Run.{runNo}
+use Rattle.job.proofs.Asking.{asked-program}
 use borrow.Author.Needs.{needs}
 use Rattle.job.proofs.tpal_job_run.Statement.{statement}
 use Rattle.job.proofs.tpal_job_run.Tie as tie
@@ -30,7 +31,10 @@ slice-aggregate-run-accepted : tie.Need-slice-aggregate-run-accepted
 slice-aggregate-run-accepted c = search needs
 
 run-accepted-requires : tie.Need-run-accepted-requires
-run-accepted-requires c κs = (sym (c .before .before .before .before .ask-job .ensures .0) ∙ c .before .before .if1 .left, c .before .before .before .before .ask-job .ensures .1 (c .before .before .if1 .left))
+run-accepted-requires c κs =
+    let asked = c .before .before .before .before in
+    let accepted = sym (asked .ask-job .ensures .0) ∙ c .before .before .if1 .left in
+    (accepted, asked .ask-job .ensures .1 ∙ asked-program _ accepted)
 
 write-report-requires : tie.Need-write-report-requires
 write-report-requires c κs = search needs

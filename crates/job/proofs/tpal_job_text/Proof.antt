@@ -1,5 +1,6 @@
 -- `tpal_job_text` meets its contract.
 use mathlib.Core.Path.{sym, _∙_}
+use Rattle.job.proofs.Asking.{asked-program}
 use Rattle.job.proofs.Running.{no-text, refusal-given, report-given}
 use borrow.Author.Needs.{needs}
 use Rattle.job.proofs.tpal_job_text.Statement.{statement}
@@ -32,7 +33,10 @@ slice-aggregate-run-accepted : tie.Need-slice-aggregate-run-accepted
 slice-aggregate-run-accepted c = search needs
 
 run-accepted-requires : tie.Need-run-accepted-requires
-run-accepted-requires c κs = (sym (c .before .before .before .ask-job .ensures .0) ∙ c .before .if2 .left, c .before .before .before .ask-job .ensures .1 (c .before .if2 .left))
+run-accepted-requires c κs =
+    let asked = c .before .before .before in
+    let accepted = sym (asked .ask-job .ensures .0) ∙ c .before .if2 .left in
+    (accepted, asked .ask-job .ensures .1 ∙ asked-program _ accepted)
 
 write-text-requires : tie.Need-write-text-requires
 write-text-requires c κs = search needs

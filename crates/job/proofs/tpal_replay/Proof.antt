@@ -8,6 +8,7 @@ use Rattle.state.specs.State.{stateBytes}
 use Rattle.job.specs.Job.{jobNo}
 use Rattle.job.specs.Replay.{replayNo}
 use Rattle.steps.proofs.Cells.{front-length}
+use Rattle.job.proofs.Asking.{asked-program}
 use Rattle.job.proofs.Replaying.{accepted-ends, few-words, whatever-the-order}
 use borrow.Author.Needs.{needs}
 use native.Mathlib.Omega.{arith}
@@ -58,11 +59,16 @@ slice-aggregate-carry-out-2 c =
 
 carry-out-requires : tie.Need-carry-out-requires
 carry-out-requires c κs =
-    let c4 = c .before .before .before .before in
-    let c4 = c4 in
+    let count = c .before .before in
+    let c4 = count .before .before in
     let c6 = c4 .before .before in
-    let c11 = c6 .before .before .before .before .before in
-    ((sym (c6 .ask-job .ensures .0) ∙ c4 .if1 .left), c6 .ask-job .ensures .1 (c4 .if1 .left), front-length 4096 (c .before .before .word-count .result) (pos 0) (omega (arith, (c .before .before .word-count .ensures .0), few-words (c11 .args .job .now) (sym (c6 .ask-job .ensures .0) ∙ c4 .if1 .left))) ∙ (c .before .before .word-count .ensures .0))
+    let job = c6 .before .before .before .before .before .args .job .now in
+    let accepted = sym (c6 .ask-job .ensures .0) ∙ c4 .if1 .left in
+    let counted = count .word-count .ensures .0 in (
+      accepted,
+      c6 .ask-job .ensures .1 ∙ asked-program job accepted,
+      front-length 4096 (count .word-count .result) (pos 0) (omega (arith, counted, few-words job accepted)) ∙ counted,
+    )
 
 write-state-requires : tie.Need-write-state-requires
 write-state-requires c κs = search needs

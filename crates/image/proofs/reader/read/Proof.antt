@@ -3,6 +3,7 @@ use mathlib.Core.Path.{refl, sym, _∙_}
 use borrow.Author.Tests.{eq-eqb, ne-eqb}
 use Rattle.image.specs.Doors.{imageNo, readNo, unlessRefused}
 use Rattle.image.proofs.Asked.{or-else-no, or-else-yes}
+use Rattle.image.proofs.Walked.{scanned-accepted}
 use borrow.Author.Needs.{needs}
 use Rattle.image.proofs.reader.read.Statement.{statement}
 use Rattle.image.proofs.reader.read.Tie as tie
@@ -15,11 +16,17 @@ scan-requires c κs = search needs
 
 returns : tie.Need-returns
 unfolding readNo unlessRefused
-returns c = (c .before .before .scan .ensures .0 ∙ sym (or-else-no (imageNo (c .before .before .before .before .before .before .args .image .now)) _ (λ e. c .if1 .taken (c .before .before .scan .ensures .0 ∙ e))), rw (ne-eqb _ _ (c .if1 .taken)))
+returns c =
+    let s = c .before .before in
+    let no = imageNo (s .before .before .before .before .args .image .now) in
+    (s .scan .ensures .0 ∙ sym (or-else-no no _ (λ e. c .if1 .taken (s .scan .ensures .0 ∙ e))), rw (ne-eqb _ _ (c .if1 .taken)))
 
 returns-2 : tie.Need-returns-2
 unfolding readNo unlessRefused
-returns-2 c = (sym (or-else-yes (imageNo (c .before .before .before .before .before .before .before .args .image .now)) _ (sym (c .before .before .before .scan .ensures .0) ∙ c .before .if1 .left) ∙ rw (ne-eqb _ _ (c .if2 .taken))), refl)
+returns-2 c =
+    let s = c .before .before .before in
+    let no = imageNo (s .before .before .before .before .args .image .now) in
+    (sym (or-else-yes no _ (sym (s .scan .ensures .0) ∙ c .before .if1 .left) ∙ rw (ne-eqb _ _ (c .if2 .taken))), refl)
 
 slice-aggregate-copy : tie.Need-slice-aggregate-copy
 slice-aggregate-copy c = search needs
@@ -32,7 +39,14 @@ same-length c = search needs
 
 returns-3 : tie.Need-returns-3
 unfolding readNo unlessRefused
-returns-3 c = (sym (or-else-yes (imageNo (c .before .before .before .before .before .before .before .before .before .before .before .before .args .image .now)) _ (sym (c .before .before .before .before .before .before .before .before .scan .ensures .0) ∙ c .before .before .before .before .before .before .if1 .left) ∙ rw (eq-eqb _ _ (c .before .before .before .before .before .if2 .left))), c .before .before .copy .ensures ∙ c .before .before .before .before .before .before .before .before .scan .ensures .1 (c .before .before .before .before .before .before .if1 .left))
+returns-3 c =
+    let asked = c .before .before .before .before .before in
+    let s = asked .before .before .before in
+    let image = s .before .before .before .before .args .image .now in
+    let accepted = sym (s .scan .ensures .0) ∙ asked .before .if1 .left in (
+      sym (or-else-yes (imageNo image) _ accepted ∙ rw (eq-eqb _ _ (asked .if2 .left))),
+      c .before .before .copy .ensures ∙ s .scan .ensures .1 ∙ scanned-accepted image accepted,
+    )
 
 pub read-spec : {M : Type 1} → statement M
 read-spec =

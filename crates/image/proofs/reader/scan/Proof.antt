@@ -1,5 +1,4 @@
 -- `scan` meets its contract.
-use mathlib.Core.Path.{refl}
 use borrow.Author.Needs.{needs}
 use Rattle.image.proofs.reader.scan.Statement.{statement}
 use Rattle.image.proofs.reader.scan.Tie as tie
@@ -11,7 +10,7 @@ same-length : tie.Need-same-length
 same-length c = search needs
 
 returns : tie.Need-returns
-returns c = (c .before .before .walk-image .ensures .0, λ e. c .before .before .walk-image .ensures .1 .1 e refl)
+returns c = (c .before .before .walk-image .ensures .0, c .before .before .walk-image .ensures .1 .1)
 
 pub scan-spec : {M : Type 1} → statement M
 scan-spec = tie.close (tie.spec walk-image-requires same-length returns)

@@ -3,15 +3,15 @@ use mathlib.Core.Path.{_≡_, sym, ap, _∙_}
 use mathlib.Core.List.{List, [], _∷_}
 use Prim.Native.Nat.{ℕ}
 use lib.ListN.{length, length-replicate}
-use lib.Seq.{sets}
 use native.Mathlib.Omega.{arith}
-use Rattle.image.specs.Layout.{blocksIn, instructionsIn, programCells, recordsLaid, cellsIn}
+use Rattle.image.specs.Layout.{blocksIn, instructionsIn, programCells, cellsIn}
 use Rattle.image.specs.Questions.{recordsNo}
 use Rattle.image.specs.Doors.{headerNo, imageNo}
 use Rattle.image.proofs.Asked.{or-else-no, or-else-yes}
-use Rattle.image.proofs.Header.{header, decoded}
-use Rattle.image.proofs.Walking.{laid-length, when-wanted}
+use Rattle.image.proofs.Header.{header}
+use Rattle.image.proofs.Walking.{laid-length}
 use Rattle.image.proofs.Offset.{offset-unread}
+use Rattle.image.proofs.Walked.{scanned-none, scanned-records}
 use borrow.Author.Needs.{needs}
 use Rattle.image.proofs.reader.walk_image.Statement.{statement}
 use Rattle.image.proofs.reader.walk_image.Tie as tie
@@ -22,10 +22,16 @@ ask-header-requires c κs = search needs
 returns : tie.Need-returns
 unfolding imageNo
 returns c =
-    let image = c .before .before .before .before .args .image .now in
+    let start = c .before .before .before .before in
+    let image = start .args .image .now in
     let asked = c .before .ask-header .ensures in
-    let refused : headerNo image ≡ 0 → ⊥ = λ e. c .if1 .taken (asked ∙ e) in
-    (asked ∙ sym (or-else-no (headerNo image) (recordsNo (cellsIn image)) refused), (sym (offset-unread image refused), λ e. absurd (c .if1 .taken e)))
+    let refused : headerNo image ≡ 0 → ⊥ = λ e. c .if1 .taken (asked ∙ e) in (
+      asked ∙ sym (or-else-no (headerNo image) (recordsNo (cellsIn image)) refused),
+      (
+        sym (offset-unread image refused),
+        scanned-none image (start .args .lays) (start .args .cells .now) (start .pre) refused,
+      ),
+    )
 
 lay-counts-requires : tie.Need-lay-counts-requires
 lay-counts-requires c κs =
@@ -53,19 +59,16 @@ same-length c = search needs
 returns-2 : tie.Need-returns-2
 unfolding imageNo
 returns-2 c =
-    let start = c .before .before .before .before .before .before .before .before .before .before .before .before in
+    let counted = c .before .before .before .before .before .before in
+    let asked = counted .before .before .before in
+    let start = asked .before .before .before in
     let image = start .args .image .now in
-    let cells = start .args .cells .now in
-    let lays = start .args .lays in
     let w = c .before .before .walk-records .ensures in
-    let counts : List ℕ = blocksIn image ∷ instructionsIn image ∷ [] in (
-      w .0 ∙ sym (or-else-yes (headerNo image) (recordsNo (cellsIn image))
-          (sym (c .before .before .before .before .before .before .before .before .before .ask-header .ensures) ∙
-          c .before .before .before .before .before .before .before .before .if1 .left)),
+    let accepted = sym (asked .ask-header .ensures) ∙ counted .before .before .if1 .left in (
+      w .0 ∙ sym (or-else-yes (headerNo image) (recordsNo (cellsIn image)) accepted),
       (
         w .1 .0,
-        λ e t. when-wanted lays _ (recordsLaid image _) _ t (w .1 .1 e) ∙ decoded image cells _ (start .pre t)
-            (when-wanted lays _ (sets cells 0 counts) cells t (c .before .before .before .before .before .before .lay-counts .ensures)),
+        scanned-records image (start .args .lays) (start .args .cells .now) (start .pre) _ _ accepted (counted .lay-counts .ensures) (w .1 .1),
       ),
     )
 

@@ -58,7 +58,7 @@ returns c =
     let asked = c .before .ask-block-in .ensures in
     let s = block-refused image ok (start .args .lays) (start .args .cells .now) (l .marks) (l .cells) (l .at) (l .to) (l .before) (l .b) (l .inv)
     (omega (arith, c .before .before .before .before .wide .ensures)) (λ e. c .if1 .taken (asked ∙ e)) in
-    (asked ∙ sym (s .0), (s .1, (λ e. absurd (c .if1 .taken e), λ e. absurd (c .if1 .taken e))))
+    (asked ∙ sym (s .0), s .1)
 
 read-u16-requires : tie.Need-read-u16-requires Inv-loop μ-loop
 read-u16-requires c κs =
@@ -153,8 +153,9 @@ returns-2 c =
     let image = start .args .image .now in
     let ok = start .pre .0 in
     let l = c .before .loop in
-    let s = blocks-end image ok (start .args .lays) (start .args .cells .now) (l .marks) (l .cells) (l .at) (l .to) (l .before) (l .b) (l .inv) (omega (arith, c .before .before .wide .ensures)) in
-    (sym (s .0), (s .1, (λ _. s .2, λ _. s .3)))
+    let s = blocks-end image ok (start .args .lays) (start .args .cells .now) (l .marks) (l .cells) (l .at) (l .to) (l .before) (l .b) (l .inv)
+    (omega (arith, c .before .before .wide .ensures)) in
+    (sym (s .0), s .1)
 
 pub walk-blocks-spec : {M : Type 1} → statement M
 walk-blocks-spec =

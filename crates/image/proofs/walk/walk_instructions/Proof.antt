@@ -47,7 +47,7 @@ returns c =
     let asked = c .before .ask-instruction-in .ensures in
     let s = instruction-refused image ok (start .args .lays) (start .args .cells .now) (l .cells) (l .at) (l .to) (l .i) (l .inv)
     (omega (arith, c .before .before .before .before .read-u16 .ensures .equal)) (λ e. c .if1 .taken (asked ∙ e)) in
-    (asked ∙ sym (s .0), (s .1, λ e. absurd (c .if1 .taken e)))
+    (asked ∙ sym (s .0), s .1)
 
 lay-instruction-requires : tie.Need-lay-instruction-requires Inv-loop μ-loop
 lay-instruction-requires c κs =
@@ -124,8 +124,9 @@ returns-2 c =
     let image = start .args .image .now in
     let ok = start .pre .0 in
     let l = c .before .loop in
-    let s = instructions-end image ok (start .args .lays) (start .args .cells .now) (l .cells) (l .at) (l .to) (l .i) (l .inv) (omega (arith, c .before .before .read-u16 .ensures .equal)) in
-    (sym (s .0), (s .1, λ _. s .2))
+    let s = instructions-end image ok (start .args .lays) (start .args .cells .now) (l .cells) (l .at) (l .to) (l .i) (l .inv)
+    (omega (arith, c .before .before .read-u16 .ensures .equal)) in
+    (sym (s .0), s .1)
 
 pub walk-instructions-spec : {M : Type 1} → statement M
 walk-instructions-spec =

@@ -1,15 +1,17 @@
 -- `walk_records` meets its contract.
 use mathlib.Core.Path.{_≡_, sym, ap, _∙_}
 use native.Mathlib.Omega.{arith}
-use Rattle.image.specs.Layout.{blocksIn, instructionsIn, blockCellsIn, instructionCellsIn, cellsIn}
+use Rattle.image.specs.Layout.{blocksIn, instructionsIn, blockCell, blockCellsIn, cellsIn}
 use Rattle.image.specs.Questions.{firstNo, blockNo, instructionNo}
 use Rattle.image.specs.Limits.{largestOf}
+use Rattle.image.specs.Offset.{blocksPassed}
 use Rattle.image.proofs.Asked.{or-else-no, or-else-yes}
 use Rattle.image.proofs.Counts.{counted}
 use Rattle.image.proofs.Header.{header}
 use Rattle.image.proofs.Marking.{marked-none}
-use Rattle.image.proofs.Walking.{laid-length, laid-twice}
+use Rattle.image.proofs.Walking.{laid-length}
 use Rattle.image.proofs.Offset.{records-no, offset-at-block, offset-past-blocks, past-blocks}
+use Rattle.image.proofs.Walked.{walked-to-block, walked-past-blocks}
 use Rattle.image.proofs.Walks.{end-marked}
 use borrow.Author.Needs.{needs}
 use Rattle.image.proofs.walk.walk_records.Statement.{statement}
@@ -35,7 +37,10 @@ returns c =
     let refused : firstNo (blockNo (cellsIn image)) (blocksIn image) 0 ≡ 0 → ⊥ = λ z. c .if1 .taken (e .0 ∙ z) in (
       e .0 ∙ sym (records-no image ∙ or-else-no (firstNo (blockNo (cellsIn image)) (blocksIn image) 0)
           (firstNo (instructionNo (cellsIn image)) (instructionsIn image) 0) refused),
-      (e .1 .0 ∙ sym (offset-at-block image ok refused), λ z. absurd (c .if1 .taken z)),
+      (
+        e .1 .0 ∙ sym (offset-at-block image ok refused),
+        walked-to-block image (start .args .lays) (start .args .cells .now) _ refused (e .1 .1 .1),
+      ),
     )
 
 read-u16-requires : tie.Need-read-u16-requires
@@ -78,27 +83,26 @@ slice-aggregate-walk-instructions-3 c = search needs
 
 walk-instructions-requires : tie.Need-walk-instructions-requires
 walk-instructions-requires c κs =
-    let start = c .before .before .before .before .before .before .before .before .before .before .before .before .before .before .before .before .before .before .before .before .before in
+    let large = c .before .before .before .before in
+    let limits = large .before .before .before .before in
+    let end = limits .before .before in
+    let asked = end .before in
+    let walked = asked .before .before .before .before .before in
+    let start = walked .before .before .before .before .before in
     let image = start .args .image .now in
     let ok = start .pre .0 in
-    let lays = start .args .lays in
-    let e = c .before .before .before .before .before .before .before .before .before .before .before .before .before .before .before .before .walk-blocks .ensures in
-    let end = c .before .before .before .before .before .before .before .before .before .before .read-u16 .result in
-    let accepted = c .before .before .before .before .before .before .before .before .before .before .before .if1 .left in
-    let largest = c .before .before .before .before .largest-operands .ensures ∙ ap largestOf (c .before .before .before .before .before .wide .ensures) in (
+    let e = walked .walk-blocks .ensures in
+    let all : firstNo (blockNo (cellsIn image)) (blocksIn image) 0 ≡ 0 = sym (e .0) ∙ asked .if1 .left in (
       ok,
       record {
         some-block = counted _ _ (header image ok .counts) .some-block;
-        limits-are =
-            c .before .before .before .before .before .before .before .before .all-limits .ensures;
-        largest-are = largest;
+        limits-are = limits .all-limits .ensures;
+        largest-are = large .largest-operands .ensures ∙ ap largestOf (large .before .wide .ensures);
       },
-      end-marked image ok _ end
-          (e .1 .1 .0 accepted) (c .before .before .before .before .before .before .before .before .before .before .read-u16 .ensures .equal),
-      e .1 .0 ∙
-          past-blocks image (sym (e .0) ∙ accepted),
-      λ t. laid-length lays (start .args .cells .now) _ (blockCellsIn image (blocksIn image)) 2
-          (e .1 .1 .1 accepted) ∙ start .pre .1 t,
+      end-marked image ok _ (end .read-u16 .result) all (e .1 .1 .0) (end .read-u16 .ensures .equal),
+      e .1 .0 ∙ past-blocks image all,
+      λ t. laid-length (start .args .lays) (start .args .cells .now) _ (blockCellsIn image (blocksPassed image)) (blockCell 0) (e .1 .1 .1) ∙
+          start .pre .1 t,
     )
 
 same-length-2 : tie.Need-same-length-2
@@ -106,18 +110,19 @@ same-length-2 c = search needs
 
 returns-2 : tie.Need-returns-2
 returns-2 c =
-    let start = c .before .before .before .before .before .before .before .before .before .before .before .before .before .before .before .before .before .before .before .before .before .before .before .before
-    in
-    let image = start .args .image .now in
-    let ok = start .pre .0 in
-    let e = c .before .before .before .before .before .before .before .before .before .before .before .before .before .before .before .before .before .before .before .walk-blocks .ensures in
     let w = c .before .before .walk-instructions .ensures in
-    let accepted = c .before .before .before .before .before .before .before .before .before .before .before .before .before .before .if1 .left in
-    let all : firstNo (blockNo (cellsIn image)) (blocksIn image) 0 ≡ 0 = sym (e .0) ∙ accepted in
-    let laid = laid-twice (start .args .lays) (start .args .cells .now) _ _ (blockCellsIn image (blocksIn image)) (instructionCellsIn image (instructionsIn image)) 2 770 (e .1 .1 .1 accepted) in (
+    let asked = c .before .before .before .before .before .before .before .before .before .before .before .before .before .before in
+    let walked = asked .before .before .before .before .before in
+    let start = walked .before .before .before .before .before in
+    let image = start .args .image .now in
+    let e = walked .walk-blocks .ensures in
+    let all : firstNo (blockNo (cellsIn image)) (blocksIn image) 0 ≡ 0 = sym (e .0) ∙ asked .if1 .left in (
       w .0 ∙ sym (records-no image ∙ or-else-yes (firstNo (blockNo (cellsIn image)) (blocksIn image) 0)
           (firstNo (instructionNo (cellsIn image)) (instructionsIn image) 0) all),
-      (w .1 .0 ∙ sym (offset-past-blocks image ok all), λ z. laid (w .1 .1 z)),
+      (
+        w .1 .0 ∙ sym (offset-past-blocks image (start .pre .0) all),
+        walked-past-blocks image (start .args .lays) (start .args .cells .now) _ _ all (e .1 .1 .1) (w .1 .1),
+      ),
     )
 
 pub walk-records-spec : {M : Type 1} → statement M

@@ -1,10 +1,12 @@
 -- `ask_job` meets its contract.
 use mathlib.Core.Path.{sym, ap, _∙_}
-use Rattle.image.specs.Layout.{cellsIn}
 use Rattle.image.specs.Questions.{programNo}
 use Rattle.image.specs.Doors.{imageNo}
+use Rattle.image.specs.Walked.{scanned}
+use Rattle.image.proofs.Walked.{scanned-accepted}
 use Rattle.job.specs.Job.{jobImage}
-use Rattle.job.proofs.Asking.{length-asked, refused-by-length, refused-by-image, answered-by-start, read-program, settings-left}
+use Rattle.job.proofs.Asking.{length-asked, scanned-none, scanned-image, refused-by-length, refused-by-image, answered-by-start}
+use Rattle.job.proofs.Asking.{read-program, settings-left}
 use borrow.Author.Needs.{needs}
 use Rattle.job.proofs.input.ask_job.Statement.{statement}
 use Rattle.job.proofs.input.ask_job.Tie as tie
@@ -13,7 +15,13 @@ ask-length-requires : tie.Need-ask-length-requires
 ask-length-requires c κs = search needs
 
 returns : tie.Need-returns
-returns c = (refused-by-length (c .before .before .before .before .args .job .now) (c .before .ask-length .result) (c .before .ask-length .ensures) (c .if1 .taken), λ e. absurd (c .if1 .taken e))
+returns c =
+    let asked = c .before in
+    let start = asked .before .before .before in
+    let job = start .args .job .now in (
+      refused-by-length job (asked .ask-length .result) (asked .ask-length .ensures) (c .if1 .taken),
+      start .pre ∙ sym (scanned-none job (λ e. c .if1 .taken (asked .ask-length .ensures ∙ e))),
+    )
 
 image-of-requires : tie.Need-image-of-requires
 image-of-requires c κs = (length-asked (c .before .before .before .before .args .job .now) (c .before .ask-length .result) (c .before .ask-length .ensures) (c .if1 .left))
@@ -31,7 +39,11 @@ returns-2 c =
     let c6 = c5 .before in
     let c7 = c6 .before in
     let c10 = c7 .before .before .before in
-    (refused-by-image (c10 .args .job .now) (sym (c7 .ask-length .ensures) ∙ c6 .if1 .left) (c3 .scan .result) (c3 .scan .ensures .0 ∙ ap imageNo (c5 .image-of .ensures)) (c .if2 .taken), λ e. absurd (c .if2 .taken e))
+    let job = c10 .args .job .now in
+    let fits = sym (c7 .ask-length .ensures) ∙ c6 .if1 .left in (
+      refused-by-image job fits (c3 .scan .result) (c3 .scan .ensures .0 ∙ ap imageNo (c5 .image-of .ensures)) (c .if2 .taken),
+      c3 .scan .ensures .1 ∙ ap scanned (c5 .image-of .ensures) ∙ sym (scanned-image job fits),
+    )
 
 places-of-requires : tie.Need-places-of-requires
 places-of-requires c κs =
@@ -69,10 +81,16 @@ returns-3 c =
     let c10 = c9 .before in
     let c11 = c10 .before in
     let c14 = c11 .before .before .before in
+    let job = c14 .args .job .now in
+    let fits = sym (c11 .ask-length .ensures) ∙ c10 .if1 .left in
     let passed = sym (c7 .scan .ensures .0 ∙ ap imageNo (c9 .image-of .ensures)) ∙ c4 .if2 .left in
-    let held = c7 .scan .ensures .1 (c4 .if2 .left) ∙ ap cellsIn (c9 .image-of .ensures) in
-    let program = ap programNo held ∙ read-program (jobImage (c14 .args .job .now)) passed in
-    (answered-by-start (c14 .args .job .now) (sym (c11 .ask-length .ensures) ∙ c10 .if1 .left) _ _ _ _ (c .ask-settings .result) passed held (c3 .places-of .ensures) (c .before .before .interval-of .ensures) (c .before .word-count .ensures .0) (c .ask-settings .ensures ∙ settings-left _ _ _ 16 _ program), λ e. held)
+    let held = c7 .scan .ensures .1 ∙ ap scanned (c9 .image-of .ensures) in
+    let read = held ∙ scanned-accepted (jobImage job) passed in
+    let program = ap programNo read ∙ read-program (jobImage job) passed in (
+      answered-by-start job fits _ _ _ _ (c .ask-settings .result) passed read (c3 .places-of .ensures) (c .before .before .interval-of .ensures)
+          (c .before .word-count .ensures .0) (c .ask-settings .ensures ∙ settings-left _ _ _ 16 _ program),
+      held ∙ sym (scanned-image job fits),
+    )
 
 pub ask-job-spec : {M : Type 1} → statement M
 ask-job-spec =
