@@ -91,7 +91,7 @@ after() {
 
 # said FILE: the first error in it, else its last line; short, and fit for a table.
 said() {
-    { grep -m 1 ' error: ' "$1" || tail -n 1 "$1"; } | sed 's|^.*/crates/||' | tr -d '\t`|' | cut -c 1-160
+    { grep -m 1 ' error: ' "$1" || tail -n 1 "$1"; } | sed 's|^.*/crates/||' | tr -d '\t`|' | LC_ALL=C.UTF-8 sed -E 's/^(.{160}).*/\1/'
 }
 
 # line KEY EDIT: what its comment `# KEY: ..` says.
