@@ -15,7 +15,8 @@ use Rattle.image.specs.declared.Instruction.{Instruction}
 use Rattle.image.specs.Layout.{blockPlace, instructionPlace, blocksIn, instructionsIn, imageLength, programCells, blockCell}
 use Rattle.image.specs.Layout.{instructionCell, blockCount, instructionCount, blockOf, programOf, instructionOf, blockIn, instructionIn, buffer}
 use Rattle.image.specs.Layout.{blockCellsIn, instructionCellsIn, cellsIn}
-use Rattle.image.specs.Questions.{ask, countsNo, blockRecordNo, blockNo, lastInBlock, instructionRecordNo, instructionNo}
+use Rattle.image.specs.Questions.{ask, countsNo, blockNo, lastInBlock, instructionNo}
+use Rattle.image.specs.Records.{blockRecordNo, instructionRecordNo}
 use Rattle.image.specs.Doors.{markIn, headerNo}
 use Rattle.image.proofs.Asked.{ask-yes, or-else-both, or-else-yes}
 use Rattle.image.proofs.Buffer.{buffer-length, buffer-blocks, buffer-instructions, buffer-block, buffer-instruction}

@@ -10,7 +10,8 @@ use lib.Dec.{eqb, ltb, leb}
 use borrow.Author.Tests.{le-leb, lt-leb, ne-eqb, ltb-true, ltb-false}
 use Rattle.image.specs.declared.Instruction.{Instruction}
 use Rattle.image.specs.Layout.{rows, blockCount, instructionCount, instructionOf, programOf}
-use Rattle.image.specs.Questions.{fields, hasR, hasS, hasV, has, register, operandFits, laidOut, lastInBlock, instructionRecordNo, instructionNo}
+use Rattle.image.specs.Questions.{fields, hasR, hasS, hasV, has, register, operandFits, laidOut, lastInBlock, instructionNo}
+use Rattle.image.specs.Records.{instructionRecordNo}
 use Rattle.image.specs.Marks.{Ended}
 use Rattle.image.specs.Limits.{limitRow, limitsAt, limitRows, largestOf, Limited, blocksBy}
 use Rattle.image.proofs.Rows.{placed, length-rows, getD-rows, row-placed}

@@ -1,6 +1,7 @@
 pub mod Program
 pub mod Layout
 pub mod Questions
+pub mod Records
 pub mod Marks
 pub mod Limits
 pub mod Doors

@@ -60,15 +60,14 @@ annotated blocks k =
     cond (eqb (k .annotation) 0) (eqb (k .label) 0 && unjoined k)
     (ltb (k .label) blocks && cond (eqb (k .annotation) 1) (unjoined k) (eqb (k .annotation) 2 && joined k))
 
--- the record of block b, whose predecessor starts at `before`: 6, then 7
-abbrev pub blockRecordNo : ℕ → ℕ → ℕ → ℕ → Block → ℕ
-blockRecordNo blocks instructions b before k = ask (inOrder instructions b before (k .first)) 6 (ask (annotated blocks k) 7 0)
+-- block b of a program: 6, then 7
+abbrev pub programBlockNo : Program → ℕ → ℕ
+programBlockNo p b =
+    ask (inOrder (p .instructions) b (p .block (b - 1) .first) (p .block b .first)) 6 (ask (annotated (p .blocks) (p .block b)) 7 0)
 
 -- a block that a short buffer lacks is a no to 6
 unfoldable pub blockNo : List ℕ → ℕ → ℕ
-blockNo cells b =
-    let p = programOf cells in
-    ask (leb (blockCell b + 6) (length cells)) 6 (blockRecordNo (p .blocks) (p .instructions) b (p .block (b - 1) .first) (p .block b))
+blockNo cells b = ask (leb (blockCell b + 6) (length cells)) 6 (programBlockNo (programOf cells) b)
 
 -- ---- instructions
 
@@ -135,15 +134,14 @@ abbrev pub same : Bool → Bool → Bool
 same true b = b
 same false b = not b
 
--- an instruction's record: 8, then is it opcode 13, 14 or 15 exactly when last in its block? (9)
-abbrev pub instructionRecordNo : ℕ → Bool → Instruction → ℕ
-instructionRecordNo blocks last x = ask (laidOut blocks x) 8 (ask (same (leb 13 (x .opcode)) last) 9 0)
+-- instruction i of a program: 8, then is it opcode 13, 14 or 15 exactly when last in its block? (9)
+abbrev pub programInstructionNo : Program → ℕ → ℕ
+programInstructionNo p i =
+    ask (laidOut (p .blocks) (p .instruction i)) 8 (ask (same (leb 13 (p .instruction i .opcode)) (lastInBlock p i)) 9 0)
 
 -- an instruction that a short buffer lacks is a no to 8
 unfoldable pub instructionNo : List ℕ → ℕ → ℕ
-instructionNo cells i =
-    let p = programOf cells in
-    ask (leb (instructionCell i + 5) (length cells)) 8 (instructionRecordNo (p .blocks) (lastInBlock p i) (p .instruction i))
+instructionNo cells i = ask (leb (instructionCell i + 5) (length cells)) 8 (programInstructionNo (programOf cells) i)
 
 -- ---- a program
 

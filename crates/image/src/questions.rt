@@ -8,7 +8,8 @@ ghost use lib.Dec.{eqb, leb};
 ghost use lib.ListN.{length};
 ghost use lib.Seq.{sets};
 ghost use Rattle.image.specs.Layout.{blockCount, instructionCount, blockCell, instructionCell, blockOf};
-ghost use Rattle.image.specs.Questions.{mostBlocks, mostInstructions, countsNo, inOrder, rising, unjoined, joined, annotated, blockRecordNo, blockNo, firstNo, fields, laidOut, instructionRecordNo, instructionNo, recordsNo, programNo};
+ghost use Rattle.image.specs.Questions.{mostBlocks, mostInstructions, countsNo, inOrder, rising, unjoined, joined, annotated, blockNo, firstNo, fields, laidOut, instructionNo, recordsNo, programNo};
+ghost use Rattle.image.specs.Records.{blockRecordNo, instructionRecordNo};
 ghost use Rattle.image.specs.Marks.{flag, Marked, Ended};
 ghost use Rattle.image.specs.Limits.{limitRow, limitRows, largestOf, Limited, blocksBy};
 

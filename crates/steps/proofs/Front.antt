@@ -10,7 +10,8 @@ use lib.Dec.{eqb, leb}
 use borrow.Author.Tests.{leb-true, leb-false, le-leb, lt-leb}
 use Rattle.facts.proofs.Tests.{by-test}
 use Rattle.image.specs.Layout.{programCells, blockCount, instructionCount, blockOf, instructionOf, programOf}
-use Rattle.image.specs.Questions.{ask, orElse, firstNo, countsNo, blockRecordNo, blockNo, startsAt, lastInBlock, instructionRecordNo, instructionNo, recordsNo, programNo}
+use Rattle.image.specs.Questions.{ask, orElse, firstNo, countsNo, blockNo, startsAt, lastInBlock, instructionNo, recordsNo, programNo}
+use Rattle.image.specs.Records.{blockRecordNo, instructionRecordNo}
 use Rattle.image.proofs.Asked.{or-else-same, first-no-same}
 use Rattle.image.proofs.Counts.{Counted, counted}
 

@@ -4,7 +4,8 @@ use Prim.Native.Nat.{ℕ}
 use borrow.Author.Tests.{le-leb, lt-leb}
 use Rattle.image.specs.declared.Block.{Block}
 use Rattle.image.specs.Layout.{blockCount, instructionCount}
-use Rattle.image.specs.Questions.{blockRecordNo, blockNo}
+use Rattle.image.specs.Questions.{blockNo}
+use Rattle.image.specs.Records.{blockRecordNo}
 use borrow.Author.Needs.{needs}
 use Rattle.image.proofs.questions.ask_block.Statement.{statement}
 use Rattle.image.proofs.questions.ask_block.Tie as tie

@@ -4,7 +4,8 @@ use Prim.Native.Nat.{_+_, _-_, _≤_}
 use native.Mathlib.Omega.{arith}
 use lib.ListN.{getD}
 use Rattle.image.specs.Layout.{blockCount, instructionCount, programOf}
-use Rattle.image.specs.Questions.{firstNo, lastInBlock, instructionRecordNo, instructionNo}
+use Rattle.image.specs.Questions.{firstNo, lastInBlock, instructionNo}
+use Rattle.image.specs.Records.{instructionRecordNo}
 use Rattle.image.proofs.Asked.{begins, goes-on, decides, no-more}
 use Rattle.image.proofs.Marking.{mark-told}
 use Rattle.image.proofs.Limiting.{limited-by, asked-by, asked-held, not-held}

@@ -3,7 +3,7 @@ use mathlib.Core.Path.{ap, ap₂, _∙_}
 use Prim.Native.Nat.{ℕ}
 use native.Mathlib.Omega.{arith}
 use Rattle.image.specs.Layout.{blocksIn, instructionsIn, blockIn}
-use Rattle.image.specs.Questions.{blockRecordNo}
+use Rattle.image.specs.Records.{blockRecordNo}
 use Rattle.image.proofs.Header.{header, block-asked}
 use borrow.Author.Needs.{needs}
 use Rattle.image.proofs.walk.ask_block_in.Statement.{statement}

@@ -4,7 +4,8 @@ use Prim.Native.Nat.{_+_}
 use native.Mathlib.Omega.{arith}
 use lib.ListN.{getD}
 use Rattle.image.specs.Layout.{blocksIn, instructionIn, cellsIn, programOf}
-use Rattle.image.specs.Questions.{lastInBlock, instructionRecordNo}
+use Rattle.image.specs.Questions.{lastInBlock}
+use Rattle.image.specs.Records.{instructionRecordNo}
 use Rattle.image.proofs.Counts.{counted}
 use Rattle.image.proofs.Header.{header, instruction-asked, cells-in-instructions}
 use Rattle.image.proofs.Marking.{mark-told}
