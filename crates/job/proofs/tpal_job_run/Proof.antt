@@ -25,7 +25,11 @@ returns c =
 
 returns-2 : tie.Need-returns-2
 unfolding runNo unlessRefused
-returns-2 c = (sym (or-else-yes (jobNo (c .before .before .before .before .before .before .before .args .job .now)) _ (sym (c .before .before .before .ask-job .ensures .0) ∙ c .before .if1 .left) ∙ rw (ne-eqb _ _ (c .if2 .taken))), refl)
+returns-2 c =
+    let c3 = c .before .before .before in
+    let c7 = c3 .before .before .before .before in
+    let accepted = sym (c3 .ask-job .ensures .0) ∙ c .before .if1 .left in
+    (sym (or-else-yes (jobNo (c7 .args .job .now)) _ accepted ∙ rw (ne-eqb _ _ (c .if2 .taken))), refl)
 
 slice-aggregate-run-accepted : tie.Need-slice-aggregate-run-accepted
 slice-aggregate-run-accepted c = search needs
@@ -50,7 +54,9 @@ returns-3 c =
     let c7 = c6 .before in
     let c9 = c7 .before .before in
     let c13 = c9 .before .before .before .before in
-    (sym (or-else-yes (jobNo (c13 .args .job .now)) _ (sym (c9 .ask-job .ensures .0) ∙ c7 .if1 .left) ∙ rw (eq-eqb _ _ (c6 .if2 .left))), c .before .before .write-report .ensures ∙ ap reportBytes (c4 .run-accepted .ensures))
+    let accepted = sym (c9 .ask-job .ensures .0) ∙ c7 .if1 .left in
+    let written = c .before .before .write-report .ensures ∙ ap reportBytes (c4 .run-accepted .ensures) in
+    (sym (or-else-yes (jobNo (c13 .args .job .now)) _ accepted ∙ rw (eq-eqb _ _ (c6 .if2 .left))), written)
 
 pub tpal-job-run-spec : {M : Type 1} → statement M
 tpal-job-run-spec =

@@ -27,7 +27,9 @@ returns-2 c =
     let c6 = c4 .before .before in
     let c8 = c6 .before .before in
     let c11 = c8 .before .before .before in
-    refusal-given (c11 .args .job .now) (c11 .args .budget) (c11 .args .out .now) (c8 .if1 .left) _ (c6 .ask-job .ensures .0) (c4 .if2 .taken) (c .before .before .write-refused .ensures .0) (c .before .before .write-refused .ensures .1)
+    let written = c .before .before .write-refused .ensures in
+    refusal-given (c11 .args .job .now) (c11 .args .budget) (c11 .args .out .now) (c8 .if1 .left) _ (c6 .ask-job .ensures .0)
+    (c4 .if2 .taken) (written .0) (written .1)
 
 slice-aggregate-run-accepted : tie.Need-slice-aggregate-run-accepted
 slice-aggregate-run-accepted c = search needs
@@ -51,7 +53,9 @@ returns-3 c =
     let c8 = c6 .before .before in
     let c10 = c8 .before .before in
     let c13 = c10 .before .before .before in
-    report-given (c13 .args .job .now) (c13 .args .budget) (c13 .args .out .now) (c10 .if1 .left) _ (sym (c8 .ask-job .ensures .0) ∙ c6 .if2 .left) (c4 .run-accepted .ensures) (c .before .before .write-text .ensures .0) (c .before .before .write-text .ensures .1)
+    let written = c .before .before .write-text .ensures in
+    report-given (c13 .args .job .now) (c13 .args .budget) (c13 .args .out .now) (c10 .if1 .left) _
+    (sym (c8 .ask-job .ensures .0) ∙ c6 .if2 .left) (c4 .run-accepted .ensures) (written .0) (written .1)
 
 pub tpal-job-text-spec : {M : Type 1} → statement M
 tpal-job-text-spec =

@@ -25,7 +25,10 @@ returns : tie.Need-returns
 unfolding replayNo unlessRefused
 returns c =
     let c7 = c .before .before .before .before .before .before .before in
-    (c .before .before .ask-job .ensures .0 ∙ sym (or-else-no (jobNo (c7 .args .job .now)) _ (λ e. c .if1 .taken (c .before .before .ask-job .ensures .0 ∙ e))), (rw (ne-eqb _ _ (c .if1 .taken)), λ e. absurd (c .if1 .taken e)))
+    let asked = c .before .before .ask-job .ensures .0 in (
+      asked ∙ sym (or-else-no (jobNo (c7 .args .job .now)) _ (λ e. c .if1 .taken (asked ∙ e))),
+      (rw (ne-eqb _ _ (c .if1 .taken)), λ e. absurd (c .if1 .taken e)),
+    )
 
 returns-2 : tie.Need-returns-2
 unfolding replayNo unlessRefused
@@ -55,7 +58,9 @@ slice-aggregate-carry-out-2 c =
     let c4 = c .before .before .before .before in
     let c6 = c4 .before .before in
     let c11 = c6 .before .before .before .before .before in
-    sym (front-length 4096 (c .before .before .word-count .result) (pos 0) (omega (arith, (c .before .before .word-count .ensures .0), few-words (c11 .args .job .now) (sym (c6 .ask-job .ensures .0) ∙ c4 .if1 .left))))
+    let count = c .before .before .word-count in
+    let few = few-words (c11 .args .job .now) (sym (c6 .ask-job .ensures .0) ∙ c4 .if1 .left) in
+    sym (front-length 4096 (count .result) (pos 0) (omega (arith, count .ensures .0, few)))
 
 carry-out-requires : tie.Need-carry-out-requires
 carry-out-requires c κs =
@@ -85,7 +90,10 @@ returns-3 c =
     let c10 = c9 .before in
     let c12 = c10 .before .before in
     let c17 = c12 .before .before .before .before .before in
-    (sym (or-else-yes (jobNo (c17 .args .job .now)) _ (sym (c12 .ask-job .ensures .0) ∙ c10 .if1 .left) ∙ rw (eq-eqb _ _ (c9 .if2 .left))), (c .before .before .write-state .ensures ∙ ap stateBytes (c5 .carry-out .ensures), λ e. whatever-the-order (c17 .args .job .now) (sym (c12 .ask-job .ensures .0) ∙ c10 .if1 .left) (c17 .args .order .now)))
+    let job = c17 .args .job .now in
+    let accepted = sym (c12 .ask-job .ensures .0) ∙ c10 .if1 .left in
+    let written = c .before .before .write-state .ensures ∙ ap stateBytes (c5 .carry-out .ensures) in
+    (sym (or-else-yes (jobNo job) _ accepted ∙ rw (eq-eqb _ _ (c9 .if2 .left))), (written, λ e. whatever-the-order job accepted (c17 .args .order .now)))
 
 pub tpal-replay-spec : {M : Type 1} → statement M
 tpal-replay-spec =
