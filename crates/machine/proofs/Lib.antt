@@ -9,6 +9,7 @@ pub mod PickLaws
 pub mod StartLaws
 pub mod Filling
 pub mod Intervals
+pub mod CourseLaws
 pub mod Searching
 pub mod Passing
 pub mod Turning

@@ -16,7 +16,9 @@ use Rattle.machine.specs.Slots.{at}
 use Rattle.machine.specs.Ending.{jobEnded}
 use Rattle.machine.specs.Starting.{rank}
 use Rattle.machine.specs.Picking.{issued}
-use Rattle.machine.specs.Running.{Run, firstRunning, nextPick, stops, pickedAt, runs}
+use Rattle.machine.specs.Courses.{over, turn, Run, pickedAt, follows}
+use Rattle.machine.specs.Running.{firstRunning, nextPick, stops, passes, runs}
+use Rattle.machine.proofs.CourseLaws.{stays, picks-turn}
 use Rattle.machine.specs.Driving.{goesOn, nextSlot}
 use Rattle.machine.proofs.RankLaws.{rank-power}
 use Rattle.machine.proofs.Models.{Allowed}
@@ -137,22 +139,26 @@ goes l w i p h =
 
 -- ---- the run
 
+passes-over-when : (m : Machine) (slot : ℕ) → stops m ≡ true → passes m slot ≡ over
+unfolding passes
+passes-over-when m slot e = rw (passes, e)
+
+passes-turn : (m : Machine) (slot : ℕ) → stops m ≡ false → passes m slot ≡ turn (nextPick m slot) (nextPick m slot + 1)
+unfolding passes
+passes-turn m slot e = rw (passes, e)
+
 module _ (cells : List ℕ) (words : List ℤ) where
   -- where it stops it stays, with any budget
-  pub rests : (n : ℕ) (r : Run) → stops (r .machine) ≡ true → runs cells words n r ≡ r
-  unfolding runs
-  rests zero r e = refl
-  rests (suc n) r e = rw (runs, e)
+  pub rests : (n : ℕ) (r : Run ℕ) → stops (r .machine) ≡ true → runs cells words n r ≡ r
+  rests n r e = stays cells words passes n r (passes-over-when (r .machine) (r .kept) e)
 
   -- elsewhere it picks the next running task
-  pub picks-next : (n : ℕ) (r : Run) → stops (r .machine) ≡ false
-      → runs cells words (suc n) r ≡ runs cells words n (pickedAt cells words (nextPick (r .machine) (r .slot)) r)
-  unfolding runs
-  picks-next n r e = rw (runs, e)
+  pub picks-next : (n : ℕ) (r : Run ℕ) → stops (r .machine) ≡ false
+      → runs cells words (suc n) r ≡ runs cells words n (pickedAt cells words (nextPick (r .machine) (r .kept)) (nextPick (r .machine) (r .kept) + 1) r)
+  picks-next n r e = picks-turn cells words passes n r _ _ (passes-turn (r .machine) (r .kept) e)
 
-  pub picks-on : (n : ℕ) (r : Run) (k : ℕ) → 0 < n → stops (r .machine) ≡ false → nextPick (r .machine) (r .slot) ≡ k
-      → runs cells words n r ≡ runs cells words (n - 1) (pickedAt cells words k r)
-  unfolding runs
+  pub picks-on : (n : ℕ) (r : Run ℕ) (k : ℕ) → 0 < n → stops (r .machine) ≡ false → nextPick (r .machine) (r .kept) ≡ k
+      → runs cells words n r ≡ runs cells words (n - 1) (pickedAt cells words k (k + 1) r)
   picks-on zero r k h e f = absurd (omega arith)
   picks-on (suc n) r k h e f = picks-next n r e ∙ rw (f, less-one n)
     where
@@ -166,7 +172,7 @@ stops-not m e h = rw (e, lt-ltb (m .work) workLimit h)
 
 module _ (cells : List ℕ) (words : List ℤ) where
   -- from here on a run with the picks that are left is the whole run
-  pub record Head (interval places : ℕ) (first : Run) (budget : ℕ) (m : Machine) (k idle left : ℕ) : Type 0 where
+  pub record Head (interval places : ℕ) (first : Run ℕ) (budget : ℕ) (m : Machine) (k idle left : ℕ) : Type 0 where
     pub fits : Fits cells interval places m
     pub slot-below : k < places
     pub from : ℕ
@@ -175,24 +181,24 @@ module _ (cells : List ℕ) (words : List ℤ) where
     pub counted : idle ≤ passed
     pub seeks : Seeks m from passed k
     pub all-picks : picks + left ≡ budget
-    pub same : runs cells words budget first ≡ runs cells words left (record { machine = m; slot = from; picks = picks })
+    pub same : runs cells words budget first ≡ runs cells words left (record { machine = m; kept = from; picks = picks })
 
-  module _ {interval places budget : ℕ} {first : Run} (allowed : Allowed cells interval places) {m : Machine} {k idle left : ℕ}
+  module _ {interval places budget : ℕ} {first : Run ℕ} (allowed : Allowed cells interval places) {m : Machine} {k idle left : ℕ}
       (head : Head interval places first budget m k idle left) where
     -- where it does not go on, the run has stopped
     pub stopped : goesOn left (m .work) idle (m .places) ≡ false
-        → runs cells words budget first ≡ record { machine = m; slot = head .from; picks = head .picks }
-    unfolding runs
+        → runs cells words budget first ≡ record { machine = m; kept = head .from; picks = head .picks }
+    unfolding follows
     stopped g = head .same ∙ by-below 0 left (λ some. by-below (m .work) workLimit (λ room. idled some room) (λ full. rests cells words left _ (at-limit full))) (λ none. spent none)
       where
         at-limit : workLimit ≤ m .work → stops m ≡ true
         at-limit full = by-test (jobEnded m) (λ e. rw e) (λ e. rw (e, le-ltb (m .work) workLimit full))
 
-        spent : left ≤ 0 → runs cells words left (record { machine = m; slot = head .from; picks = head .picks }) ≡ record { machine = m; slot = head .from; picks = head .picks }
+        spent : left ≤ 0 → runs cells words left (record { machine = m; kept = head .from; picks = head .picks }) ≡ record { machine = m; kept = head .from; picks = head .picks }
         spent none = let z : left ≡ 0 = omega arith in rw z
 
         idled : 0 < left → m .work < workLimit
-            → runs cells words left (record { machine = m; slot = head .from; picks = head .picks }) ≡ record { machine = m; slot = head .from; picks = head .picks }
+            → runs cells words left (record { machine = m; kept = head .from; picks = head .picks }) ≡ record { machine = m; kept = head .from; picks = head .picks }
         idled some room = by-below idle (m .places)
             (λ few. clash (rw (lt-ltb 0 left some, lt-ltb (m .work) workLimit room) (lt-ltb idle (m .places) few)) g)
             (λ all. rests cells words left _ (rw (quiet-ended allowed words m (head .fits) (none-runs (head .seeks) (omega (arith, head .counted))))))
@@ -255,7 +261,7 @@ module _ (cells : List ℕ) (words : List ℤ) where
             all-picks = omega (arith, its .some-left, head .all-picks);
             same = head .same
                 ∙ picks-on cells words left _ k (its .some-left) (stops-not m (running-open allowed words m (head .fits) k below r) (its .below-limit)) found
-                ∙ ap (λ (n : Machine). runs cells words (left - 1) (record { machine = n; slot = k + 1; picks = head .picks + 1 })) (sym p);
+                ∙ ap (λ (n : Machine). runs cells words (left - 1) (record { machine = n; kept = k + 1; picks = head .picks + 1 })) (sym p);
           }
         where
           found : nextPick m (head .from) ≡ k
@@ -294,8 +300,8 @@ module _ (cells : List ℕ) (words : List ℤ) where
 -- with a budget of 1, from a slot with a running task, a run is one pick
 pub one-pick : {cells : List ℕ} {interval places : ℕ} → Allowed cells interval places → (words : List ℤ) (m : Machine) → Fits cells interval places m → (k : ℕ)
     → k < m .places → running (at m k) ≡ true → m .work < workLimit
-    → runs cells words 1 (record { machine = m; slot = k; picks = 0 }) ≡ record { machine = issued cells words m k; slot = k + 1; picks = 1 }
-unfolding runs
+    → runs cells words 1 (record { machine = m; kept = k; picks = 0 }) ≡ record { machine = issued cells words m k; kept = k + 1; picks = 1 }
+unfolding follows
 one-pick {cells} allowed words m x k below r room =
-    picks-on cells words 1 (record { machine = m; slot = k; picks = 0 }) k (omega arith) (stops-not m (running-open allowed words m x k below r) room)
+    picks-on cells words 1 (record { machine = m; kept = k; picks = 0 }) k (omega arith) (stops-not m (running-open allowed words m x k below r) room)
     (finds (begins m k below) (omega arith) below r)

@@ -18,7 +18,8 @@ use Rattle.machine.specs.Slots.{at, Sized}
 use Rattle.machine.specs.Ending.{jobEnded}
 use Rattle.machine.specs.Shape.{shape}
 use Rattle.machine.specs.Picking.{slotNo, stateNoBy, stateNo, pickNo, issued, picked}
-use Rattle.machine.specs.Running.{Run, driven, outcome}
+use Rattle.machine.specs.Running.{driven, outcome}
+use Rattle.machine.specs.Courses.{Run}
 use Rattle.machine.proofs.ShapeLaws.{shape-allowed, shape-fits}
 use Rattle.machine.proofs.PickLaws.{picked-issued}
 use Rattle.machine.proofs.Passing.{one-pick}
@@ -71,7 +72,7 @@ picked-one cells words m k sized e =
     let a = x .passes in
     let b = x .ready in
     let one = one-pick (shape-allowed cells m (a .program) (a .shaped)) words m (shape-fits cells m sized (a .shaped)) k (b .below) (b .runs) (b .below-limit) in
-    ap (λ (r : Run). r .machine) one ∙ sym (picked-issued cells words m k e)
+    ap (λ (r : Run ℕ). r .machine) one ∙ sym (picked-issued cells words m k e)
 
 -- ---- what each way through a pick, and through a run, hands back
 

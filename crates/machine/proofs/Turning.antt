@@ -26,7 +26,7 @@ use Rattle.machine.specs.declared.Machine.{Machine}
 use Rattle.machine.specs.Slots.{at, put, ticked, Sized, slotsOf}
 use Rattle.machine.specs.Starting.{rank}
 use Rattle.machine.specs.Picking.{issued}
-use Rattle.machine.specs.Running.{Run}
+use Rattle.machine.specs.Courses.{Run}
 use Rattle.machine.specs.Driving.{goesOn, nextSlot}
 use Rattle.machine.proofs.Models.{Allowed}
 use Rattle.machine.proofs.RankLaws.{rank-power}
@@ -40,14 +40,14 @@ use Rattle.machine.proofs.Passing.{Head, issued-behind}
 
 module _ (cells : List ℕ) (words : List ℤ) where
   -- the state that counts is the one with the joins made that are due from depth `open` on
-  pub record Turns (interval places : ℕ) (first : Run) (budget : ℕ) (m : Machine) (k idle left open′ side : ℕ) : Type 0 where
+  pub record Turns (interval places : ℕ) (first : Run ℕ) (budget : ℕ) (m : Machine) (k idle left open′ side : ℕ) : Type 0 where
     pub head : Head cells words interval places first budget (settle (slotsOf (programOf cells)) open′ m side) k idle left
     pub safe : SettleSafe cells m
     pub sized : Sized m
     pub side-below : side < 64
     pub few : open′ ≤ 6
 
-  module _ {interval places budget : ℕ} {first : Run} (allowed : Allowed cells interval places) where
+  module _ {interval places budget : ℕ} {first : Run ℕ} (allowed : Allowed cells interval places) where
     -- no join is looked at
     pub none-due : {m : Machine} {k idle left : ℕ} (o side : ℕ) → o ≡ 0 → side < 64 → Head cells words interval places first budget m k idle left
         → Turns interval places first budget m k idle left o side
@@ -113,7 +113,7 @@ module _ (cells : List ℕ) (words : List ℤ) where
 
   -- from the first state a run comes to this one
   pub record Onward (m₀ : Machine) (k₀ idle₀ left₀ : ℕ) (m : Machine) (k idle left : ℕ) : Type 0 where
-    pub heads : {interval places budget : ℕ} {first : Run} → Allowed cells interval places → Head cells words interval places first budget m₀ k₀ idle₀ left₀
+    pub heads : {interval places budget : ℕ} {first : Run ℕ} → Allowed cells interval places → Head cells words interval places first budget m₀ k₀ idle₀ left₀
         → Head cells words interval places first budget m k idle left
     pub shorter : 65 * left + (64 - idle) ≤ 65 * left₀ + (64 - idle₀)
 

@@ -4,5 +4,7 @@ pub mod Ending
 pub mod Starting
 pub mod Shape
 pub mod Picking
+pub mod Courses
 pub mod Running
+pub mod Listing
 pub mod Driving

@@ -10,13 +10,8 @@ use Rattle.machine.specs.declared.Driven.{Driven}
 use Rattle.machine.specs.declared.Outcome.{Outcome}
 use Rattle.machine.specs.Slots.{at}
 use Rattle.machine.specs.Ending.{jobEnded}
-use Rattle.machine.specs.Picking.{stateNo, issued}
-
--- where a run stands: the state, the slot that it reaches next, and the picks carried out
-pub record Run : Type 0 where
-  pub machine : Machine
-  pub slot : ℕ
-  pub picks : ℕ
+use Rattle.machine.specs.Picking.{stateNo}
+use Rattle.machine.specs.Courses.{Next, over, turn, Chooser, Run, begun, follows}
 
 -- the first of the n slots from k on that has a running task; k + n where none has
 unfoldable pub firstRunning : Machine → ℕ → ℕ → ℕ
@@ -33,27 +28,24 @@ nextPick m k =
 abbrev pub stops : Machine → Bool
 stops m = jobEnded m || not (ltb (m .work) workLimit)
 
-module _ (cells : List ℕ) (words : List ℤ) where
-  abbrev pub pickedAt : ℕ → Run → Run
-  pickedAt k r = record { machine = issued cells words (r .machine) k; slot = k + 1; picks = r .picks + 1 }
+-- passes keep the slot that they reach next
+unfoldable pub passes : Chooser ℕ
+passes m slot = elim (stops m) [ true ↦ over | false ↦ turn (nextPick m slot) (nextPick m slot + 1) ]
 
+module _ (cells : List ℕ) (words : List ℤ) where
   -- at most `budget` picks more
-  unfoldable pub runs : ℕ → Run → Run
-  runs zero r = r
-  runs (suc budget) r = elim (stops (r .machine)) [
-    | true ↦ r
-    | false ↦ runs budget (pickedAt (nextPick (r .machine) (r .slot)) r)
-  ]
+  abbrev pub runs : ℕ → Run ℕ → Run ℕ
+  runs budget r = follows cells words passes budget r
 
   -- at most `budget` picks from slot k on
-  abbrev pub runFrom : Machine → ℕ → ℕ → Run
-  runFrom m k budget = runs budget (record { machine = m; slot = k; picks = 0 })
+  abbrev pub runFrom : Machine → ℕ → ℕ → Run ℕ
+  runFrom m k budget = runs budget (begun m k)
 
   abbrev pub driven : Machine → ℕ → ℕ → Driven
   driven m k budget = record { machine = runFrom m k budget .machine; picks = runFrom m k budget .picks }
 
   -- The pick's questions up to 20 apply first. Ended, or spent: it says which, and the picks carried out. A refused run hands back the old state
-  abbrev pub outcomeBy : ℕ → Machine → Run → Outcome
+  abbrev pub outcomeBy : ℕ → Machine → Run ℕ → Outcome
   outcomeBy refusal m r =
       cond (eqb refusal 0) (record { no = 0; ended = jobEnded (r .machine); picks = r .picks; machine = r .machine })
       (record { no = refusal; ended = false; picks = 0; machine = m })

@@ -13,7 +13,7 @@ use borrow.Author.Tests.{ltb-true, not-true, not-false}
 use Rattle.facts.proofs.Tests.{clash, both-true}
 use Rattle.agreement.specs.Plain.{one}
 use Rattle.agreement.specs.Slots.{due}
-use Rattle.machine.specs.Running.{Run}
+use Rattle.machine.specs.Courses.{Run}
 use Rattle.machine.specs.Driving.{goesOn, nextSlot}
 use Rattle.machine.specs.Slots.{at, put, Sized, ticked, slotsOf}
 use Rattle.image.specs.declared.Instruction.{Instruction}
@@ -95,7 +95,7 @@ abbrev μ-loop7 : tie.MeasureT-loop7
 
 abbrev Inv-loop : tie.InvT-loop
 Inv-loop cells words slot budget m₀ k₀ idle₀ left₀ due₀ side₀ over₀ m k idle left due side over =
-    Turns cells words (m₀ .interval) (m₀ .places) (record { machine = m₀; slot = slot; picks = 0 }) budget m k idle left due side
+    Turns cells words (m₀ .interval) (m₀ .places) (record { machine = m₀; kept = slot; picks = 0 }) budget m k idle left due side
     × (over ≡ true → (due ≡ 0) × (goesOn left (m .work) idle (m .places) ≡ false))
 
 abbrev μ-loop : tie.MeasureT-loop
@@ -179,7 +179,7 @@ due-none c = omega (arith, c .before .before .if1 .left)
 
 abbrev HeadAt : Seeking → Machine → ℕ → ℕ → ℕ → Type 0
 HeadAt c m k idle left = Head (cells-of (turn-of c)) (words-of (turn-of c)) (entry (turn-of c) .args .machine .interval) (entry (turn-of c) .args .machine .places)
-    (record { machine = entry (turn-of c) .args .machine; slot = entry (turn-of c) .args .slot; picks = 0 }) (entry (turn-of c) .args .budget) m k idle left
+    (record { machine = entry (turn-of c) .args .machine; kept = entry (turn-of c) .args .slot; picks = 0 }) (entry (turn-of c) .args .budget) m k idle left
 
 head-at : (c : Seeking) → HeadAt c (c .loop5 .m) (c .loop5 .k) (c .loop5 .idle) (c .loop5 .left)
 head-at c =
@@ -318,7 +318,7 @@ going-on c = not-true (turn-of c .loop .over) (c .before .before .before .loop-t
 
 abbrev TurnsAt : Seeking → Machine → ℕ → ℕ → ℕ → ℕ → ℕ → Type 0
 TurnsAt c m k idle left o side = Turns (cells-of (turn-of c)) (words-of (turn-of c)) (entry (turn-of c) .args .machine .interval) (entry (turn-of c) .args .machine .places)
-    (record { machine = entry (turn-of c) .args .machine; slot = entry (turn-of c) .args .slot; picks = 0 }) (entry (turn-of c) .args .budget) m k idle left o side
+    (record { machine = entry (turn-of c) .args .machine; kept = entry (turn-of c) .args .slot; picks = 0 }) (entry (turn-of c) .args .budget) m k idle left o side
 
 -- its side has ended
 ends-side : (c : Halting) (g : Frame) → step (programOf (cells-of (turn-of (h5 c)))) (words-of (turn-of (h5 c))) (chosen (h5 c .loop5 .m .interval)) (at (h5 c .loop5 .m) (h5 c .loop5 .k)) ≡ one g
@@ -347,7 +347,7 @@ interval-few c = interval-fits _ (allowed-at c .interval-allowed)
 loop-holds : tie.Need-loop-holds Inv-loop2 μ-loop2 Inv-loop3 μ-loop3 Inv-loop4 μ-loop4 Inv-loop5 μ-loop5 Inv-loop6 μ-loop6 Inv-loop7 μ-loop7 Inv-loop μ-loop
 loop-holds c =
     let sized : Sized (c .before .args .machine) = record { of-bank = search (needs, length-by); of-tasks = search (needs, length-by) } in
-    let first : Head (c .before .args .cells .now) (c .before .args .words .now) (c .before .args .machine .interval) (c .before .args .machine .places) (record { machine = c .before .args .machine; slot = c .before .args .slot; picks = 0 }) (c .before .args .budget) (c .before .args .machine) (c .before .args .slot) 0 (c .before .args .budget) = record {
+    let first : Head (c .before .args .cells .now) (c .before .args .words .now) (c .before .args .machine .interval) (c .before .args .machine .places) (record { machine = c .before .args .machine; kept = c .before .args .slot; picks = 0 }) (c .before .args .budget) (c .before .args .machine) (c .before .args .slot) 0 (c .before .args .budget) = record {
       fits = shape-fits (c .before .args .cells .now) (c .before .args .machine) sized (c .before .pre .2);
       slot-below = c .before .pre .3;
       from = c .before .args .slot;
@@ -1022,7 +1022,7 @@ returns c =
     let head = at-head (cells-of t) (words-of t) (job-allowed (entry t)) (t .loop .inv .0) (z .0) in
     let e = stopped (cells-of t) (words-of t) (job-allowed (entry t)) head (z .1) in
     let p : entry t .args .budget - t .loop .left ≡ head .picks = omega (arith, head .all-picks) in
-    λ j. record { machine = sym e j .machine; picks = (p ∙ sym (ap (λ (r : Run). r .picks) e)) j }
+    λ j. record { machine = sym e j .machine; picks = (p ∙ sym (ap (λ (r : Run ℕ). r .picks) e)) j }
 
 pub drive-spec : {M : Type 1} → statement M
 drive-spec =
