@@ -11,8 +11,6 @@ pub mod Filling
 pub mod Intervals
 pub mod CourseLaws
 pub mod Searching
-pub mod Passing
-pub mod Turning
 pub mod Carrying
 pub mod InPlace
 pub mod Issuing
@@ -25,4 +23,3 @@ pub mod SettleSafety
 pub mod Owning
 pub mod CodedSlots
 pub mod MeetsShape
-pub mod Picked

@@ -1,13 +1,108 @@
--- What the code of the loop over the slots asks at each turn. Only its small functions cite these; that the loop is a run is a law.
-use mathlib.Core.Bool.{Bool, cond, _&&_}
-use Prim.Native.Nat.{ℕ, _+_}
-use lib.Dec.{ltb}
+-- The loop that carries out every course, and what its small functions answer. Nothing above `driven` need be believed: that the loop is the
+-- run of its course is proved.
+use mathlib.Core.Bool.{Bool, true, false, cond, not, _&&_}
+use mathlib.Core.List.{List, [], _∷_}
+use Prim.Native.Nat.{ℕ, _+_, _-_}
+use lib.Dec.{eqb, ltb, leb}
+use lib.IntN.{ℤ}
+use lib.ListN.{drop}
+use Rattle.task.specs.declared.Kind.{Kind}
+use Rattle.task.specs.declared.Kind.the-variants.{Stores, Goes, Waits, Halts, Faults, Forks}
+use Rattle.task.specs.declared.Status.{Status}
+use Rattle.task.specs.declared.Status.the-variants.{Running, Waiting, Halted, Faulted}
 use Rattle.task.specs.Frames.{workLimit}
+use Rattle.machine.specs.declared.Machine.{Machine}
+use Rattle.machine.specs.declared.Driven.{Driven}
+use Rattle.machine.specs.declared.course.Course.{Course}
+use Rattle.machine.specs.declared.course.Course.the-variants.{Passes, Listed}
+use Rattle.machine.specs.declared.course.Stretch.{Stretch}
+use Rattle.machine.specs.Courses.{Run}
+use Rattle.machine.specs.Running.{runFrom}
+use Rattle.machine.specs.Listing.{listFrom}
 
--- it goes on while picks are left, the work is below the limit, and fewer than P slots were passed over since the last pick
-abbrev pub goesOn : ℕ → ℕ → ℕ → ℕ → Bool
-goesOn left work idle places = ltb 0 left && (ltb work workLimit && ltb idle places)
+-- ---- The walk
 
--- 0 to P - 1, again and again
-abbrev pub nextSlot : ℕ → ℕ → ℕ
-nextSlot places k = cond (ltb (k + 1) places) (k + 1) 0
+-- nothing has stopped it, the work is below that at which the stretch stops, and there are places to go by
+abbrev pub walksOn : Bool → ℕ → ℕ → ℕ → ℕ → Bool
+walksOn stopped work until gone reach = not stopped && (ltb work until && ltb gone reach)
+
+-- the slot behind the w places of slot k
+abbrev pub behind : ℕ → ℕ → ℕ → ℕ
+behind places k w = cond (ltb (k + w) places) (k + w) 0
+
+-- after a pick of a task that runs on: the same slot, with the places gone by before, where these and the task's own are all
+abbrev pub slotAfter : ℕ → ℕ → ℕ → ℕ → ℕ → ℕ
+slotAfter places reach gone k w = cond (leb reach (gone + w)) k (behind places k w)
+
+abbrev pub goneAfter : ℕ → ℕ → ℕ → ℕ
+goneAfter reach gone w = cond (leb reach (gone + w)) gone 0
+
+-- the places of a slot where nothing runs
+abbrev pub width : ℕ → ℕ
+width places = cond (ltb places 1) 1 places
+
+-- ---- Stretches
+
+-- the work after so many picks, at most the limit
+abbrev pub stopAt : ℕ → ℕ → ℕ
+stopAt work picks = cond (ltb picks (workLimit - work)) (work + picks) workLimit
+
+abbrev pub done : ℕ → Stretch
+done begun = record { over = true; slot = 0; until = 0; reach = 0; begun = begun }
+
+-- of passes there is one
+abbrev pub nextPass : ℕ → ℕ → ℕ → ℕ → ℕ → Stretch
+nextPass slot picks begun places work =
+    cond (eqb begun 0) (record { over = false; slot = slot; until = stopAt work picks; reach = places; begun = 1 }) (done begun)
+
+-- of an order, whose slots from the one numbered `begun` on are listed
+unfoldable pub nextListed : List ℕ → ℕ → ℕ → ℕ → Stretch
+nextListed [] begun places work = done begun
+nextListed (k ∷ ks) begun places work = elim (ltb k places) [
+  | true ↦ record { over = false; slot = k; until = stopAt work 1; reach = 1; begun = begun + 1 }
+  | false ↦ nextListed ks (begun + 1) places work
+]
+
+abbrev pub nextStretch : Course → List ℕ → ℕ → ℕ → ℕ → Stretch
+nextStretch (Passes slot picks) order begun places work = nextPass slot picks begun places work
+nextStretch Listed order begun places work = nextListed (drop begun order) begun places work
+
+-- ---- Kinds of steps
+
+abbrev pub runsOn : Kind → Bool
+runsOn Stores = true
+runsOn Goes = true
+runsOn Waits = false
+runsOn Halts = false
+runsOn (Faults n) = false
+runsOn (Forks pc) = false
+
+abbrev pub storesIt : Kind → Bool
+storesIt Stores = true
+storesIt Goes = false
+storesIt Waits = false
+storesIt Halts = false
+storesIt (Faults n) = false
+storesIt (Forks pc) = false
+
+abbrev pub statusOf : Kind → Status
+statusOf Stores = Running
+statusOf Goes = Running
+statusOf Waits = Waiting
+statusOf Halts = Halted
+statusOf (Faults n) = Faulted n
+statusOf (Forks pc) = Running
+
+-- ---- What the loop leaves
+
+-- a stretch of passes begins at a slot of the state
+abbrev pub startsIn : Course → Machine → Bool
+startsIn (Passes slot picks) m = ltb slot (m .places)
+startsIn Listed m = true
+
+abbrev pub left : {C : Type 0} → Run C → Driven
+left r = record { machine = r .machine; picks = r .picks }
+
+abbrev pub driven : List ℕ → List ℤ → Machine → List ℕ → Course → Driven
+driven cells words m order (Passes slot picks) = left (runFrom cells words m slot picks)
+driven cells words m order Listed = left (listFrom cells words m order)

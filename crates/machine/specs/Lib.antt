@@ -8,3 +8,4 @@ pub mod Courses
 pub mod Running
 pub mod Listing
 pub mod Driving
+pub mod Moving

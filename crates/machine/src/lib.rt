@@ -1,6 +1,9 @@
 // The state of a job.
+pub mod course;
 pub mod drive;
+mod moves;
 pub mod pick;
+mod records;
 mod run;
 pub mod slots;
 pub mod start;

@@ -2,6 +2,7 @@
 use crate::Answered;
 use crate::End;
 use crate::Machine;
+use crate::course::Course;
 use crate::drive;
 use crate::start;
 use shape::registers;
@@ -152,7 +153,7 @@ impl Machine {
         if no != 0 {
             return Answered { no, machine: self };
         }
-        let driven = drive::drive(cells, words, self, slot as usize, 1);
+        let driven = drive::drive(cells, words, self, &drive::NO_ORDER, Course::Passes(slot as usize, 1));
         let machine = driven.machine;
         Answered { no: 0, machine }
     }

@@ -1,6 +1,7 @@
 // The budgeted run: its questions, put once, and the loop over the slots.
 use crate::Machine;
 use crate::Outcome;
+use crate::course::Course;
 use crate::drive;
 use crate::pick;
 ghost use mathlib.Core.Path.{_≡_};
@@ -21,7 +22,7 @@ impl Machine {
                 machine: self,
             };
         }
-        let driven = drive::drive(cells, words, self, 0, budget);
+        let driven = drive::drive(cells, words, self, &drive::NO_ORDER, Course::Passes(0, budget));
         let machine = driven.machine;
         let ended = pick::has_ended(pick::end_of(machine));
         Outcome {

@@ -1,8 +1,8 @@
 // Whatever the order of picks: the statements stand in specs/, the theorems in proofs/. `replay` carries an order out.
 use machine::Answered;
 use machine::Machine;
+use machine::course::Course;
 use machine::drive::drive;
-use machine::pick::ask_pick;
 ghost use mathlib.Core.Path.{_≡_};
 ghost use lib.ListN.{length};
 ghost use Rattle.machine.specs.Starting.{startNo, empty};
@@ -29,20 +29,8 @@ pub fn replay(
     if no != 0 {
         return Answered { no, machine: fresh };
     }
-    // Each turn is `Machine::pick` on the state where it stands: through that door the state would be copied three times more.
-    let mut state = fresh;
-    let mut i = 0;
-    while i < order.len() {
-        let slot = image::layout::wide(order[i]);
-        i = i + 1;
-        let t = state.tasks[(slot % 64) as usize];
-        if ask_pick(cells, words.len(), state, t, slot) != 0 {
-            continue;
-        }
-        let driven = drive(cells, words, state, slot as usize, 1);
-        let next = driven.machine;
-        state = next;
-    }
+    let driven = drive(cells, words, fresh, order, Course::Listed);
+    let state = driven.machine;
     Answered {
         no: 0,
         machine: state,

@@ -1,0 +1,97 @@
+// The task records that an instruction leaves.
+use task::Fork;
+use task::Kind;
+use task::Status;
+use task::Task;
+use task::Value;
+ghost use mathlib.Core.Path.{_≡_};
+ghost use Prim.Native.Nat.{_<_};
+ghost use lib.ListN.{set};
+ghost use Rattle.task.specs.Frames.{workLimit};
+ghost use Rattle.task.specs.Values.{recordOf};
+ghost use Rattle.task.specs.Step.{counted, movedTo, ended};
+ghost use Rattle.machine.specs.Driving.{runsOn, storesIt, statusOf};
+
+// Whether the task runs on alone.
+pub fn runs_on(kind: Kind) -> bool
+    ensures { λ r. ⌜ r ≡ runsOn kind ⌝ }
+{
+    match kind {
+        Kind::Stores => true,
+        Kind::Goes => true,
+        Kind::Waits => false,
+        Kind::Halts => false,
+        Kind::Faults(_) => false,
+        Kind::Forks(_) => false,
+    }
+}
+
+pub fn does_store(kind: Kind) -> bool
+    ensures { λ r. ⌜ r ≡ storesIt kind ⌝ }
+{
+    match kind {
+        Kind::Stores => true,
+        Kind::Goes => false,
+        Kind::Waits => false,
+        Kind::Halts => false,
+        Kind::Faults(_) => false,
+        Kind::Forks(_) => false,
+    }
+}
+
+// The status of a task that an instruction has ended.
+pub fn status_of(kind: Kind) -> Status
+    ensures { λ r. ⌜ r ≡ statusOf kind ⌝ }
+{
+    match kind {
+        Kind::Stores => Status::Running,
+        Kind::Goes => Status::Running,
+        Kind::Waits => Status::Waiting,
+        Kind::Halts => Status::Halted,
+        Kind::Faults(n) => Status::Faulted(n),
+        Kind::Forks(_) => Status::Running,
+    }
+}
+
+// A task that runs on. By whole record, so that what stays is not stored again. The caller has found the work below its limit.
+pub fn ran_on(t: Task, pc: u16, counter: u32) -> Task
+    requires { ⌜ t .span < workLimit ⌝ }
+    ensures { λ r. ⌜ r ≡ movedTo pc counter (counted t) ⌝ }
+{
+    let mut n = t;
+    n.pc = pc;
+    n.counter = counter;
+    n.span = t.span + 1;
+    n
+}
+
+// The open forks of both sides of a fork. An instruction that forks leaves room for an open fork more.
+pub fn opened(forks: [Fork; 6], depth: u32, under: Fork) -> [Fork; 6]
+    requires { ⌜ depth < 6 ⌝ }
+    ensures { λ r. ⌜ r ≡ set forks depth under ⌝ }
+{
+    let mut n = forks;
+    let at = depth as usize;
+    n[at] = under;
+    n
+}
+
+// The record that a fork is opened under.
+pub fn record_of(v: Value) -> Fork
+    ensures { λ r. ⌜ r ≡ recordOf v ⌝ }
+{
+    match v {
+        Value::Int(_) => Fork {
+            continuation: 0,
+            depth: 0,
+        },
+        Value::Label(_) => Fork {
+            continuation: 0,
+            depth: 0,
+        },
+        Value::Record(continuation, depth) => Fork {
+            continuation,
+            depth,
+        },
+    }
+}
