@@ -5,13 +5,19 @@ pub mod EndingLaws
 pub mod ShapeTests
 pub mod ShapeLaws
 pub mod Quiet
+pub mod LeafLaws
 pub mod PickLaws
 pub mod StartLaws
 pub mod Filling
 pub mod Intervals
 pub mod CourseLaws
 pub mod Searching
+pub mod Seeking
+pub mod Positions
+pub mod Passing
+pub mod ListLaws
 pub mod Carrying
+pub mod Walking
 pub mod InPlace
 pub mod Issuing
 pub mod Readiness
@@ -19,6 +25,7 @@ pub mod Copying
 pub mod Moving
 pub mod SettleLaws
 pub mod ShapeSlots
+pub mod Covering
 pub mod SettleSafety
 pub mod Owning
 pub mod CodedSlots

@@ -99,10 +99,17 @@ pub picked-issued : (cells : List ℕ) (words : List ℤ) (m : Machine) (k : ℕ
 unfolding unlessRefused
 picked-issued cells words m k e = ap (λ n. cond (eqb n 0) (issued cells words m k) m) e
 
+pub issued-work : (cells : List ℕ) (words : List ℤ) (m : Machine) (k : ℕ) → issued cells words m k .work ≡ m .work + 1
+issued-work cells words m k =
+    ap (λ n. n + 1) (carry-keeps (slotsOf (programOf cells)) (λ n. n .work) (λ n k f. refl) (step (programOf cells) words (chosen (m .interval))) m k)
+
+pub issued-places : (cells : List ℕ) (words : List ℤ) (m : Machine) (k : ℕ) → issued cells words m k .places ≡ m .places
+issued-places cells words m k =
+    carry-keeps (slotsOf (programOf cells)) (λ n. n .places) (λ n k f. refl) (step (programOf cells) words (chosen (m .interval))) m k
+
 pub picked-work : (cells : List ℕ) (words : List ℤ) (m : Machine) (k : ℕ) → pickNo cells words m k ≡ 0 → picked cells words m k .work ≡ m .work + 1
 picked-work cells words m k e =
-    ap (λ n. n .work) (picked-issued cells words m k e)
-    ∙ ap (λ n. n + 1) (carry-keeps (slotsOf (programOf cells)) (λ n. n .work) (λ n k f. refl) (step (programOf cells) words (chosen (m .interval))) m k)
+    ap (λ n. n .work) (picked-issued cells words m k e) ∙ issued-work cells words m k
 
 -- P and the interval stay as start left them
 module _ (cells : List ℕ) (words : List ℤ) (m : Machine) (k : ℕ) where
@@ -115,7 +122,7 @@ module _ (cells : List ℕ) (words : List ℤ) (m : Machine) (k : ℕ) where
       go false = refl
 
   pub picked-places : picked cells words m k .places ≡ m .places
-  picked-places = keeps (λ n. n .places) (carry-keeps (slotsOf (programOf cells)) (λ n. n .places) (λ n k f. refl) (step (programOf cells) words (chosen (m .interval))) m k)
+  picked-places = keeps (λ n. n .places) (issued-places cells words m k)
 
   pub picked-interval : picked cells words m k .interval ≡ m .interval
   picked-interval = keeps (λ n. n .interval) (carry-keeps (slotsOf (programOf cells)) (λ n. n .interval) (λ n k f. refl) (step (programOf cells) words (chosen (m .interval))) m k)
