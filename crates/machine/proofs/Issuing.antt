@@ -1,8 +1,12 @@
 -- An instruction carried out on small values, and what it left put into the state, is a pick's work.
-use mathlib.Core.Path.{_≡_, sym, ap, ap₂, _∙_}
-use mathlib.Core.Bool.{true}
-use mathlib.Core.List.{List}
-use Prim.Native.Nat.{ℕ, _+_, _*_, _^_, _<_, _≤_}
+use mathlib.Core.Path.{_≡_, refl, sym, ap, ap₂, _∙_}
+use mathlib.Core.Bool.{Bool, true, false, cond}
+use mathlib.Core.List.{List, [], _∷_}
+use Prim.Native.Nat.{ℕ, _+_, _*_, _/_, _^_, _<_, _≤_}
+use lib.Dec.{ltb}
+use types.Run.{OneOf, miss}
+use denote.Enum.Declared.{tagOf}
+use Rattle.facts.proofs.Tests.{clash}
 use native.Mathlib.Nat.{pow-suc}
 use lib.Pow.{pow-pos}
 use native.Mathlib.Omega.{arith}
@@ -14,7 +18,9 @@ use Rattle.agreement.proofs.SlotLaws.{carry-two}
 use Rattle.image.specs.declared.Instruction.{Instruction}
 use Rattle.image.specs.Layout.{instructionOf, programOf}
 use Rattle.task.specs.declared.Value.{Value}
-use Rattle.task.specs.declared.Status.the-variants.{Waiting, Halted, Faulted}
+use Rattle.task.specs.declared.Status.{Status}
+use Rattle.task.specs.declared.Status.the-variants.{Running}
+use Rattle.task.specs.declared.Register.{Register}
 use Rattle.task.specs.declared.Fork.{Fork}
 use Rattle.task.specs.declared.Task.{Task}
 use Rattle.task.specs.declared.Frame.{Frame}
@@ -25,15 +31,39 @@ use Rattle.task.specs.Frames.{running, zeros}
 use Rattle.task.specs.Values.{recordOf}
 use Rattle.task.specs.Step.{register, operand, activeOf, counted, movedTo, ended, withTask, side, step}
 use Rattle.task.specs.Execute.{executed}
+use Rattle.task.proofs.Kind.{the-type}
+use Rattle.task.proofs.StepKeeps.{running-is}
 use Rattle.task.proofs.Executing.{after, parentSide, childSide, madeBy, made, step-executed}
 use Rattle.machine.specs.declared.Machine.{Machine}
 use Rattle.machine.specs.Slots.{at, put, ticked, slotsOf}
 use Rattle.machine.specs.Picking.{issued}
+use Rattle.machine.specs.Driving.{runsOn, storesIt, statusOf}
+use Rattle.machine.specs.Moving.{faults, forkMoves, endMoves}
+use Rattle.machine.proofs.Copying.{filling}
+use Rattle.machine.proofs.PlanLaws.{moved, fork-moved, end-moved}
 use Rattle.machine.proofs.InPlace.{withTaskAt, storedAt, put-task, put-stored}
 use Rattle.machine.proofs.RankLaws.{rank-small}
 use Rattle.machine.proofs.Models.{Allowed, laws-hold}
 use Rattle.machine.proofs.ShapeLaws.{Fits}
 use Rattle.machine.proofs.Carrying.{stand, goes-on-alone}
+
+-- ---- kinds of steps
+
+stores-kind : (kind : Kind) → storesIt kind ≡ true → kind ≡ Stores
+stores-kind Stores h = refl
+stores-kind Goes h = clash h refl
+stores-kind Waits h = clash h refl
+stores-kind Halts h = clash h refl
+stores-kind (Faults n) h = clash h refl
+stores-kind (Forks pc) h = clash h refl
+
+goes-kind : (kind : Kind) → runsOn kind ≡ true → storesIt kind ≡ false → kind ≡ Goes
+goes-kind Stores h s = clash refl s
+goes-kind Goes h s = refl
+goes-kind Waits h s = clash h refl
+goes-kind Halts h s = clash h refl
+goes-kind (Faults n) h s = clash h refl
+goes-kind (Forks pc) h s = clash h refl
 
 -- what was read, and what came of it
 pub record Fetched (cells : List ℕ) (words : List ℤ) (m : Machine) (k : ℕ) (x : Instruction) (s v : Value) (e : Executed) : Type 0 where
@@ -67,36 +97,99 @@ module _ {cells : List ℕ} {words : List ℤ} {m : Machine} {k : ℕ} {x : Inst
 
   -- ---- the task runs on
 
-  pub stores-issued : e .kind ≡ Stores → x .r < 16 → ticked (storedAt m k (after e (f .task)) (x .r) (record { value = e .value })) ≡ issued cells words m k
-  stores-issued h small =
+  pub stores-issued : storesIt (e .kind) ≡ true → x .r < 16 → {v : Register} → v .value ≡ e .value
+      → ticked (storedAt m k (after e (f .task)) (x .r) v) ≡ issued cells words m k
+  stores-issued h small {v} holds =
       let g : Frame = record { task = after e (f .task); registers = set (f .registers) (x .r) (record { value = e .value }) } in
-      ap ticked (sym (goes-on-alone allowed words m k fits below runs g (steps-by Stores h) runs ∙ put-stored m k (after e (f .task)) (x .r) (record { value = e .value }) small))
+      ap (λ (o : Register). ticked (storedAt m k (after e (f .task)) (x .r) o)) (λ i. record { value = holds i })
+      ∙ ap ticked (sym (goes-on-alone allowed words m k fits below runs g (steps-by Stores (stores-kind (e .kind) h)) runs
+      ∙ put-stored m k (after e (f .task)) (x .r) (record { value = e .value }) small))
 
-  pub goes-issued : e .kind ≡ Goes → ticked (withTaskAt m k (after e (f .task))) ≡ issued cells words m k
-  goes-issued h =
-      ap ticked (sym (goes-on-alone allowed words m k fits below runs (withTask (after e (f .task)) f) (steps-by Goes h) runs ∙ put-task m k (after e (f .task))))
+  pub goes-issued : runsOn (e .kind) ≡ true → storesIt (e .kind) ≡ false → ticked (withTaskAt m k (after e (f .task))) ≡ issued cells words m k
+  goes-issued h no-store =
+      ap ticked (sym (goes-on-alone allowed words m k fits below runs (withTask (after e (f .task)) f) (steps-by Goes (goes-kind (e .kind) h no-store)) runs
+      ∙ put-task m k (after e (f .task))))
 
   -- ---- its side has ended
 
-  pub waits-steps : {t : Task} → e .kind ≡ Waits → t ≡ ended Waiting (counted (f .task)) → step (programOf cells) words (chosen (m .interval)) f ≡ one (record { task = t; registers = f .registers })
-  waits-steps h p = steps-by Waits h ∙ ap (λ (t : Task). one (withTask t f)) (sym p)
+  -- the frame that it leaves
+  abbrev pub endFrame : Frame
+  endFrame = record { task = ended (statusOf (e .kind)) (counted (f .task)); registers = cond (ltb 0 (faults (e .kind))) zeros (f .registers) }
 
-  pub halts-steps : {t : Task} → e .kind ≡ Halts → t ≡ ended Halted (counted (f .task)) → step (programOf cells) words (chosen (m .interval)) f ≡ one (record { task = t; registers = f .registers })
-  halts-steps h p = steps-by Halts h ∙ ap (λ (t : Task). one (withTask t f)) (sym p)
+  pub ends-steps : runsOn (e .kind) ≡ false → OneOf (0 ∷ 1 ∷ 2 ∷ 3 ∷ 4 ∷ []) (tagOf the-type (e .kind))
+      → step (programOf cells) words (chosen (m .interval)) f ≡ one endFrame
+  ends-steps stops no-fork = steps ∙ go (e .kind) stops no-fork
+    where
+      go : (kind : Kind) → runsOn kind ≡ false → OneOf (0 ∷ 1 ∷ 2 ∷ 3 ∷ 4 ∷ []) (tagOf the-type kind)
+          → madeBy kind f (x .r) e
+          ≡ one (record { task = ended (statusOf kind) (counted (f .task)); registers = cond (ltb 0 (faults kind)) zeros (f .registers) })
+      go Stores h o = clash refl h
+      go Goes h o = clash refl h
+      go Waits h o = refl
+      go Halts h o = refl
+      go (Faults n) h o = refl
+      go (Forks pc) h o = absurd (miss (0 ∷ 1 ∷ 2 ∷ 3 ∷ 4 ∷ []) 5 tt o)
 
-  pub faults-steps : (n : ℕ) {t : Task} → e .kind ≡ Faults n → t ≡ ended (Faulted n) (counted (f .task))
-      → step (programOf cells) words (chosen (m .interval)) f ≡ one (record { task = t; registers = zeros })
-  faults-steps n h p = steps-by (Faults n) h ∙ ap (λ (t : Task). one (record { task = t; registers = zeros })) (sym p)
+  -- its record written and its moves made, that frame is put back
+  pub end-put : {t : Task} → t ≡ ended (statusOf (e .kind)) (counted (f .task)) → moved (endMoves k (e .kind)) (ticked (withTaskAt m k t)) ≡ ticked (put m k endFrame)
+  end-put {t} p =
+      end-moved (ticked (withTaskAt m k t)) k (e .kind) ∙ by (ltb 0 (faults (e .kind)))
+      ∙ ap (λ (o : Task). ticked (put m k (record { task = o; registers = cond (ltb 0 (faults (e .kind))) zeros (f .registers) }))) p
+    where
+      by : (b : Bool) → cond b (filling (ticked (withTaskAt m k t)) k zeros 16) (ticked (withTaskAt m k t))
+          ≡ ticked (put m k (record { task = t; registers = cond b zeros (f .registers) }))
+      by true = refl
+      by false = ap ticked (sym (put-task m k t))
 
   -- ---- it has forked
 
-  pub forks-issued : (pc : ℕ) {r : Machine} {u : Fork} {t : Task} → e .kind ≡ Forks pc → u ≡ recordOf (e .value) → t ≡ side u (e .pc) (e .counter) (counted (f .task))
-      → r ≡ put (put m k (record { task = t; registers = f .registers })) (k + t .places) (record { task = movedTo pc 0 t; registers = f .registers })
-      → ticked r ≡ issued cells words m k
-  forks-issued pc h under p q =
-      let p′ : _ ≡ parentSide e (f .task) = p ∙ ap (λ (o : Fork). side o (e .pc) (e .counter) (counted (f .task))) under in
-      ap ticked (q ∙ ap (λ (n : Task). put (put m k (withTask n f)) (k + n .places) (withTask (movedTo pc 0 n) f)) p′
-      ∙ sym (carry-two (slotsOf (programOf cells)) (step (programOf cells) words (chosen (m .interval))) m k (withTask (parentSide e (f .task)) f) (withTask (childSide pc e (f .task)) f) (steps-by (Forks pc) h)))
+  -- a side of the fork, at this instruction and with this counter, where `opened` are its open forks
+  abbrev pub sideAt : List Fork → ℕ → ℕ → Task
+  sideAt opened pc counter = record {
+    status = Running;
+    places = f .task .places / 2;
+    pc = pc;
+    counter = counter;
+    span = f .task .span + 1;
+    depth = f .task .depth + 1;
+    forks = opened;
+  }
+
+  -- both sides' records
+  abbrev pub forkedAt : List Fork → ℕ → Machine
+  forkedAt opened pc = record {
+    places = m .places;
+    interval = m .interval;
+    work = m .work + 1;
+    bank = m .bank;
+    tasks = set (set (m .tasks) k (sideAt opened (e .pc) (e .counter))) (k + f .task .places / 2) (sideAt opened pc 0);
+  }
+
+  -- these written and the moves made
+  pub forks-issued : (pc : ℕ) {under : Fork} {opened : List Fork} → e .kind ≡ Forks pc → under ≡ recordOf (e .value) → opened ≡ set (f .task .forks) (f .task .depth) under
+      → moved (forkMoves k (k + f .task .places / 2)) (forkedAt opened pc) ≡ issued cells words m k
+  forks-issued pc {under} {opened} h is opens =
+      let half = f .task .places / 2 in
+      let more : opened ≡ set (f .task .forks) (f .task .depth) (recordOf (e .value)) = opens ∙ ap (set (f .task .forks) (f .task .depth)) is in
+      let on : Running ≡ f .task .status = sym (running-is (f .task .status) runs) in
+      let parent : sideAt opened (e .pc) (e .counter) ≡ parentSide e (f .task) = λ i. side-by (on i) (more i) (e .pc) (e .counter) in
+      let child : sideAt opened pc 0 ≡ childSide pc e (f .task) = λ i. side-by (on i) (more i) pc 0 in
+      fork-moved (forkedAt opened pc) k (k + half)
+      ∙ ap (λ (o : Machine). ticked (put o (k + half) (withTask (sideAt opened pc 0) f))) (sym (put-task m k (sideAt opened (e .pc) (e .counter))))
+      ∙ ap₂ (λ (p c : Task). ticked (put (put m k (withTask p f)) (k + half) (withTask c f))) parent child
+      ∙ ap ticked (sym (carry-two (slotsOf (programOf cells)) (step (programOf cells) words (chosen (m .interval))) m k
+      (withTask (parentSide e (f .task)) f) (withTask (childSide pc e (f .task)) f) (steps-by (Forks pc) h)))
+    where
+      side-by : Status → List Fork → ℕ → ℕ → Task
+      side-by s l pc counter = record {
+        status = s;
+        places = f .task .places / 2;
+        pc = pc;
+        counter = counter;
+        span = f .task .span + 1;
+        depth = f .task .depth + 1;
+        forks = l;
+      }
 
   -- there is room for an open fork more, and each side gets a place
   pub forks-room : (pc : ℕ) → e .kind ≡ Forks pc → (f .task .depth < 6) × (2 ≤ f .task .places)

@@ -20,9 +20,12 @@ pub mod Carrying
 pub mod Walking
 pub mod InPlace
 pub mod Issuing
+pub mod Turning
+pub mod Planning
 pub mod Readiness
 pub mod Copying
 pub mod Moving
+pub mod PlanLaws
 pub mod SettleLaws
 pub mod ShapeSlots
 pub mod Covering

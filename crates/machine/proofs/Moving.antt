@@ -145,27 +145,7 @@ copy-next m₀ z k {m} {r} i apart p small e =
     filling-next m₀ z from i p
     (e ∙ ap (λ (o : Machine). getD (o .bank) (16 * k + i) zeroRegister) p ∙ still-there (m₀ .bank) (reads zeroRegister from 0 i) z k i (omega (arith, n)) apart small)
 
--- ---- a join: slot q has the parent's side, slot c above it the child's
-
-module _ (bank : List Register) (q c : ℕ) (above : q < c) where
-  abbrev parents : List Register
-  parents = reads zeroRegister bank (16 * q) 16
-
-  abbrev childs : List Register
-  childs = reads zeroRegister bank (16 * c) 16
-
-  -- one pair copied, where l stands in slot q
-  pub pair-next : (l : List Register) (n packed : ℕ) (r : Register) → length l ≡ 16 → 0 < n
-      → r ≡ getD (sets bank (16 * q) l) (16 * c + packed / 16 % 16) zeroRegister
-      → (set (sets bank (16 * q) l) (16 * q + packed % 16) r ≡ sets bank (16 * q) (set l (packed % 16) (getD childs (packed / 16 % 16) zeroRegister)))
-      × (copied childs n packed l ≡ copied childs (n - 1) (packed / 256) (set l (packed % 16) (getD childs (packed / 16 % 16) zeroRegister)))
-  pair-next l n packed r full some e =
-      let v = e ∙ still-there bank l q c (packed / 16 % 16) (omega arith) (inl above) (omega arith) in (
-        ap (set (sets bank (16 * q) l) (16 * q + packed % 16)) v ∙ stored-in l bank (16 * q) (packed % 16) _ (omega arith),
-        copies-first childs n packed l some,
-      )
-
--- ---- states on the way to a join
+-- ---- a slot's registers while pairs are copied into them
 
 -- slot z's registers are l
 abbrev pub placed : Machine → ℕ → List Register → Machine
@@ -180,79 +160,18 @@ placed-none m z = λ j. record {
   tasks = m .tasks;
 }
 
--- one pair copied
-pub placed-next : (m₀ : Machine) (q c : ℕ) → q < c → {m : Machine} {r : Register} (l : List Register) (n packed : ℕ) → length l ≡ 16 → 0 < n → m ≡ placed m₀ q l
+-- one pair copied from slot c, another one
+pub placed-next : (m₀ : Machine) (q c : ℕ) → (q < c) ⊎ (c < q) → {m : Machine} {r : Register} (l : List Register) (packed : ℕ) → length l ≡ 16 → m ≡ placed m₀ q l
     → r ≡ getD (m .bank) (16 * c + packed / 16 % 16) zeroRegister
     → storedIn m (16 * q + packed % 16) r ≡ placed m₀ q (set l (packed % 16) (getD (at m₀ c .registers) (packed / 16 % 16) zeroRegister))
-placed-next m₀ q c above {m} {r} l n packed full some p e =
+placed-next m₀ q c apart {m} {r} l packed full p e =
+    let found = e ∙ ap (λ (o : Machine). getD (o .bank) (16 * c + packed / 16 % 16) zeroRegister) p in
+    let v = found ∙ still-there (m₀ .bank) l q c (packed / 16 % 16) (omega arith) apart (omega arith) in
     ap (λ (o : Machine). storedIn o (16 * q + packed % 16) r) p
     ∙ (λ j. record {
       places = m₀ .places;
       interval = m₀ .interval;
       work = m₀ .work;
-      bank = pair-next (m₀ .bank) q c above l n packed r full some (e ∙ ap (λ (o : Machine). getD (o .bank) (16 * c + packed / 16 % 16) zeroRegister) p) .0 j;
+      bank = (ap (set (sets (m₀ .bank) (16 * q) l) (16 * q + packed % 16)) v ∙ stored-in l (m₀ .bank) (16 * q) (packed % 16) _ (omega arith)) j;
       tasks = m₀ .tasks;
     })
-
--- the two task records are written, the registers are not yet
-abbrev pub tasksJoined : Machine → ℕ → ℕ → Task → Machine
-tasksJoined m q c t = record { places = m .places; interval = m .interval; work = m .work; bank = m .bank; tasks = set (set (m .tasks) c vacantTask) q t }
-
-module _ (cells : List ℕ) (m : Machine) (q w : ℕ) (some : 0 < w) {j : Joint} (e : j ≡ jointOf (programOf cells) (at m q .task) (at m (q + w) .task)) where
-  abbrev c : ℕ
-  c = q + w
-
-  -- the registers of the joined task
-  abbrev joint-registers : List Register
-  joint-registers = jointRegisters (j .faulted) (j .pairs) (j .packed) (at m q .registers) (at m c .registers)
-
-  -- the joined task's registers in slot q and 16 integers 0 in slot c
-  pub merged-is : length joint-registers ≡ 16 → filling (placed (tasksJoined m q c (j .task)) q joint-registers) c zeros 16 ≡ merged (slotsOf (programOf cells)) m q w
-  merged-is full =
-      let apart : sets (sets (m .bank) (16 * q) joint-registers) (16 * c) (reads zeroRegister zeros 0 16) ≡ sets (sets (m .bank) (16 * c) (reads zeroRegister zeros 0 16)) (16 * q) joint-registers =
-      sets-apart joint-registers (reads zeroRegister zeros 0 16) (m .bank) (16 * q) (16 * c) (omega arith) in
-      let all : reads zeroRegister joint-registers 0 16 ≡ joint-registers = rw full at (reads-all zeroRegister joint-registers) in
-      let joins : join (programOf cells) (at m q) (at m c) ≡ record { task = j .task; registers = joint-registers } =
-      join-joint (programOf cells) (at m q) (at m c) ∙ ap (λ (o : Joint). record { task = o .task; registers = jointRegisters (o .faulted) (o .pairs) (o .packed) (at m q .registers) (at m c .registers) }) (sym e) in
-      (λ i. record {
-        places = m .places;
-        interval = m .interval;
-        work = m .work;
-        bank = (apart ∙ ap (sets (sets (m .bank) (16 * c) (reads zeroRegister zeros 0 16)) (16 * q)) (sym all)) i;
-        tasks = set (set (m .tasks) c vacantTask) q (j .task);
-      }) ∙ ap (put (put m c vacant) q) (sym joins)
-
-  -- what the code of a join leaves: `count` registers of slot q cleared, then the pairs copied, then slot c's registers cleared
-  pub joined-in-place : {count : ℕ} {m₂ m₃ m₄ : Machine} {l : List Register} → count ≡ cond (j .faulted) 16 0
-      → m₂ ≡ filling (tasksJoined m q c (j .task)) q zeros count → m₃ ≡ placed m₂ q l → length l ≡ 16
-      → copied (at m₂ c .registers) (j .pairs) (j .packed) (at m₂ q .registers) ≡ l → m₄ ≡ filling m₃ c zeros 16 → m₄ ≡ merged (slotsOf (programOf cells)) m q w
-  joined-in-place {count} {m₂} {m₃} {m₄} {l} h p₂ p₃ full is p₄ =
-      p₄ ∙ ap (λ (n : Machine). filling n c zeros 16) (p₃ ∙ by (j .faulted) refl) ∙ merged-is (sixteen (j .faulted) refl)
-    where
-      -- the state before, where no register was cleared
-      uncleared : j .faulted ≡ false → m₂ ≡ tasksJoined m q c (j .task)
-      uncleared f =
-          p₂ ∙ ap (filling (tasksJoined m q c (j .task)) q zeros) (h ∙ ap (λ (b : Bool). cond b 16 0) f) ∙ sym (filling-none (tasksJoined m q c (j .task)) q zeros)
-
-      cleared : j .faulted ≡ true → m₂ ≡ placed (tasksJoined m q c (j .task)) q zeros
-      cleared f = p₂ ∙ ap (filling (tasksJoined m q c (j .task)) q zeros) (h ∙ ap (λ (b : Bool). cond b 16 0) f)
-          ∙ ap (placed (tasksJoined m q c (j .task)) q) (reads-all zeroRegister zeros)
-
-      copies : j .faulted ≡ false → l ≡ joint-registers
-      copies f =
-          sym is ∙ ap (λ (n : Machine). copied (at n c .registers) (j .pairs) (j .packed) (at n q .registers)) (uncleared f)
-          ∙ sym (ap (λ (b : Bool). jointRegisters b (j .pairs) (j .packed) (at m q .registers) (at m c .registers)) f)
-
-      zero-registers : j .faulted ≡ true → joint-registers ≡ zeros
-      zero-registers f = ap (λ (b : Bool). jointRegisters b (j .pairs) (j .packed) (at m q .registers) (at m c .registers)) f
-
-      sixteen : (b : Bool) → j .faulted ≡ b → length joint-registers ≡ 16
-      sixteen false f = ap length (sym (copies f)) ∙ full
-      sixteen true f = ap length (zero-registers f)
-
-      by : (b : Bool) → j .faulted ≡ b → placed m₂ q l ≡ placed (tasksJoined m q c (j .task)) q joint-registers
-      by false f = ap (λ (n : Machine). placed n q l) (uncleared f) ∙ ap (placed (tasksJoined m q c (j .task)) q) (copies f)
-      by true f =
-          let none : j .pairs ≤ 0 = omega (arith, faulted-pairs (programOf cells) (at m q .task) (at m c .task) e f) in
-          ap (placed m₂ q) (sym is ∙ copies-none (at m₂ c .registers) (j .pairs) (j .packed) (at m₂ q .registers) none)
-          ∙ sym (placed-none m₂ q) ∙ cleared f ∙ ap (placed (tasksJoined m q c (j .task)) q) (sym (zero-registers f))

@@ -44,6 +44,9 @@ pub record Given : Type 0 where
   pub order : List ℕ
   pub course : Course
 
+abbrev pub given : List ℕ → List ℤ → Machine → List ℕ → Course → Given
+given cells words machine order course = record { cells = cells; words = words; machine = machine; order = order; course = course }
+
 abbrev pub result : Given → Driven
 result g = driven (g .cells) (g .words) (g .machine) (g .order) (g .course)
 

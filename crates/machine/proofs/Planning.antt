@@ -1,0 +1,154 @@
+-- What a turn of the loop has written and planned: with its moves made, the next turn holds. One statement for each kind of turn.
+use mathlib.Core.Path.{_≡_, refl, sym, ap, ap₂, _∙_}
+use mathlib.Core.Bool.{Bool, true, false, cond}
+use mathlib.Core.List.{List, [], _∷_}
+use Prim.Native.Nat.{ℕ, _+_, _-_, _*_, _/_, _%_, _<_, _≤_}
+use native.Mathlib.Omega.{arith}
+use lib.Dec.{ltb}
+use lib.ListN.{length, getD, set}
+use lib.Seq.{getD-set-same, getD-set-other}
+use types.Run.{OneOf}
+use denote.Enum.Declared.{tagOf}
+use Rattle.facts.proofs.Tests.{by-test}
+use Rattle.image.specs.Layout.{programOf}
+use Rattle.agreement.specs.Slots.{due}
+use Rattle.task.specs.declared.Status.{Status}
+use Rattle.task.specs.declared.Fork.{Fork}
+use Rattle.task.specs.declared.Task.{Task}
+use Rattle.task.specs.declared.Joint.{Joint}
+use Rattle.task.specs.declared.Executed.{Executed}
+use Rattle.task.specs.declared.Kind.the-variants.{Forks}
+use Rattle.task.specs.Frames.{noTask, vacantTask, isRunning}
+use Rattle.task.specs.Values.{recordOf}
+use Rattle.task.specs.Step.{counted, ended}
+use Rattle.task.specs.Execute.{jointOf}
+use Rattle.task.proofs.Kind.{the-type}
+use Rattle.machine.specs.declared.Machine.{Machine}
+use Rattle.machine.specs.declared.moves.Moves.{Moves}
+use Rattle.machine.specs.Slots.{at, ticked, slotsOf}
+use Rattle.machine.specs.Moving.{forkMoves, endMoves, joinMoves}
+use Rattle.machine.specs.Driving.{statusOf}
+use Rattle.machine.proofs.Models.{Allowed}
+use Rattle.machine.proofs.ShapeLaws.{Fits}
+use Rattle.machine.proofs.Owning.{own-allowed, own-fits, places-most}
+use Rattle.machine.proofs.SettleSafety.{fits-safe}
+use Rattle.machine.proofs.InPlace.{withTaskAt}
+use Rattle.machine.proofs.PlanLaws.{moved, pairedAt, clearedAt, PlanFits, tasksJoined, join-moved, join-fits, end-fits, fork-fits}
+use Rattle.machine.proofs.Issuing.{ends-steps, end-put, endFrame, forkedAt, forks-issued, forks-room}
+use Rattle.machine.proofs.Positions.{Position, to, pickedBehind, goes}
+use Rattle.machine.proofs.Walking.{Given, GivenAllowed, mostStretches, At}
+use Rattle.machine.proofs.Turning.{Turns, none-due, joins, ends, forks, Stopped}
+
+-- what is ahead of the loop, as a number that every turn makes smaller: stretches, picks and looks of this one, and looks at joins
+abbrev pub ahead : Given → Machine → Position → ℕ → ℕ
+ahead g m p o =
+    281474976710656 * (mostStretches (g .course) (g .order) - p .begun) + 200 * (65 * (p .until - m .work) + (p .reach - p .gone)) + 2 * o
+
+moved-work : (plan : Moves) (m : Machine) → moved plan m .work ≡ m .work
+moved-work plan m =
+    by-test (ltb 0 (plan .whole)) (λ a. rw a (cleared-work (pairedAt plan m))) (λ a. rw a (cleared-work (pairedAt plan m)))
+  where
+    cleared-work : (n : Machine) → clearedAt plan n .work ≡ n .work
+    cleared-work n = by-test (ltb 0 (plan .clears)) (λ b. rw b) (λ b. rw b)
+
+moved-tasks : (plan : Moves) (m : Machine) → moved plan m .tasks ≡ m .tasks
+moved-tasks plan m =
+    by-test (ltb 0 (plan .whole)) (λ a. rw a (cleared-tasks (pairedAt plan m))) (λ a. rw a (cleared-tasks (pairedAt plan m)))
+  where
+    cleared-tasks : (n : Machine) → clearedAt plan n .tasks ≡ n .tasks
+    cleared-tasks n = by-test (ltb 0 (plan .clears)) (λ b. rw b) (λ b. rw b)
+
+pub record Planned (g : Given) (before : ℕ) (m : Machine) (plan : Moves) (p : Position) (o side : ℕ) : Type 0 where
+  pub plan-fits : PlanFits plan
+  pub then-turns : {m′ : Machine} → m′ ≡ moved plan m → Turns g m′ p o side
+  pub less : ahead g m p o < before
+
+pub then-less : {g : Given} {before : ℕ} {m : Machine} {plan : Moves} {p : Position} {o side : ℕ} → Planned g before m plan p o side
+    → {m′ : Machine} → m′ ≡ moved plan m → ahead g m′ p o < before
+then-less {g} {before} {m} {plan} {p} {o} x {m′} is =
+    let same : m′ .work ≡ m .work = ap (λ (n : Machine). n .work) is ∙ moved-work plan m in
+    omega (arith, x .less)
+
+module _ (g : Given) (allowed : GivenAllowed g) where
+  -- ---- a join: the two records are written
+
+  module _ {m : Machine} {p : Position} {o side : ℕ} (t : Turns g m p o side) (q w : ℕ) (some : 0 < o) (width : at m side .task .places ≡ w)
+      (first : q ≡ side - side % (2 * w)) (is-due : due (slotsOf (programOf (g .cells))) m q w o ≡ true) (wide : 0 < w) (room : q + w < 64)
+      {j : Joint} (e : j ≡ jointOf (programOf (g .cells)) (at m q .task) (at m (q + w) .task)) where
+    pub join-planned : {n : Machine} {plan : Moves} → n ≡ tasksJoined m q (q + w) (j .task) → plan ≡ joinMoves q (q + w) (j .pairs) (j .packed) (j .faulted)
+        → Planned g (ahead g m p o) n plan p (o - 1) q
+    join-planned {n} {plan} written planned = record {
+      plan-fits = rw planned (join-fits (g .cells) m (t .sized) q w wide room e);
+      then-turns = λ {m′} is. joins g allowed t q w some width first is-due (is ∙ ap₂ moved planned written ∙ join-moved (g .cells) m (t .sized) q w wide room e);
+      less = let same : n .work ≡ m .work = ap (λ (o : Machine). o .work) written in omega (arith, t .few);
+    }
+
+  -- ---- an instruction that ends its side, or forks
+
+  module _ {m : Machine} {p : Position} (a : At g m p) {e : Executed} (s : Stopped (g .cells) (g .words) m p e) where
+    abbrev k : ℕ
+    k = p .slot
+
+    places-few : m .places ≤ 64
+    places-few = omega (arith, a .fits .its-places, places-most (g .machine .places) (allowed .places-allowed))
+
+    here : k < 64
+    here = omega (arith, a .slot-below, places-few)
+
+    allowed-there : Allowed (g .cells) (m .interval) (m .places)
+    allowed-there = own-allowed (a .fits) allowed
+
+    fits-there : Fits (g .cells) (m .interval) (m .places) m
+    fits-there = own-fits (a .fits)
+
+    -- one pick less to do
+    less-on : (n : Machine) (slot o : ℕ) → n .work ≡ m .work + 1 → o ≤ 6 → ahead g n (to slot 0 p) o < ahead g m p 0
+    less-on n slot o more few = let x = goes {m = m} {p = p} (s .walks) in omega (arith, x .picks-left, x .places-left, a .reach-most)
+
+    pub end-planned : OneOf (0 ∷ 1 ∷ 2 ∷ 3 ∷ 4 ∷ []) (tagOf the-type (e .kind)) → {status : Status} → status ≡ statusOf (e .kind)
+        → {n : Machine} → n ≡ ticked (withTaskAt m k (ended status (counted (at m k .task)))) → {plan : Moves} → plan ≡ endMoves k (e .kind)
+        → Planned g (ahead g m p 0) n plan (pickedBehind m (at m k .task .places) p) (at m k .task .depth) k
+    end-planned no-fork {status} st {n} written {plan} planned =
+        let step-is = ends-steps allowed-there fits-there (a .slot-below) (s .runs-there) (s .fetched) (s .stops-it) no-fork in
+        let put-is = end-put allowed-there fits-there (a .slot-below) (s .runs-there) (s .fetched) (ap (λ (o : Status). ended o (counted (at m k .task))) st) in
+        let deep = fits-safe allowed m (a .fits) k .depth-fits in
+        record {
+          plan-fits = rw planned (end-fits k (e .kind) here);
+          then-turns = λ {m′} is. ends g allowed a (s .walks) (s .runs-there) _ step-is (is ∙ ap₂ moved planned written ∙ put-is) here _ refl deep;
+          less = less-on n _ _ (ap (λ (o : Machine). o .work) written) deep;
+        }
+
+    module _ (pc : ℕ) (kind-is : e .kind ≡ Forks pc) where
+      abbrev half : ℕ
+      half = at m k .task .places / 2
+
+      -- the child's slot is in the state
+      pub fork-room : (0 < half) × (k + half < m .places) × (at m k .task .depth < 6)
+      fork-room =
+          let r = forks-room allowed-there fits-there (a .slot-below) (s .runs-there) (s .fetched) pc kind-is in
+          (omega (arith, r .1), omega (arith, r .1, r .2), r .0)
+
+      pub fork-planned : {under : Fork} {opened : List Fork} → under ≡ recordOf (e .value) → opened ≡ set (at m k .task .forks) (at m k .task .depth) under
+          → {n : Machine} → n ≡ forkedAt allowed-there fits-there (a .slot-below) (s .runs-there) (s .fetched) opened pc
+          → {plan : Moves} → plan ≡ forkMoves k (k + half) → (side : ℕ) → side < 64
+          → Planned g (ahead g m p 0) n plan (to (k + half) 0 p) 0 side
+      fork-planned {under} {opened} is-under opens {n} written {plan} planned side below =
+          let r = fork-room in
+          record {
+            plan-fits = rw planned (fork-fits k (k + half) (omega (arith, r .0)) (omega (arith, r .1, places-few)));
+            then-turns = λ {m′} is. none-due g allowed 0 side refl below (on m′ is);
+            less = less-on n _ 0 (ap (λ (o : Machine). o .work) written) (omega arith);
+          }
+        where
+          on : (m′ : Machine) → m′ ≡ moved plan n → At g m′ (to (k + half) 0 p)
+          on m′ is =
+              let issued-is = is ∙ ap₂ moved planned written
+              ∙ forks-issued allowed-there fits-there (a .slot-below) (s .runs-there) (s .fetched) pc kind-is is-under opens in
+              let r = fork-room in
+              let l = m .tasks in
+              let f = forkedAt allowed-there fits-there (a .slot-below) (s .runs-there) (s .fetched) opened pc in
+              let kept : m′ .tasks ≡ f .tasks = ap (λ (o : Machine). o .tasks) is ∙ moved-tasks plan n ∙ ap (λ (o : Machine). o .tasks) written in
+              let mine : getD (m′ .tasks) k noTask ≡ _ = ap (λ (l : List Task). getD l k noTask) kept
+              ∙ getD-set-other (set l k _) (k + half) k _ noTask (λ z. absurd (omega (arith, r .0)))
+              ∙ getD-set-same l k _ noTask (omega (arith, here, a .fits .sized .of-tasks)) in
+              forks g allowed a (s .walks) (s .runs-there) issued-is (ap (λ (o : Task). isRunning (o .status)) mine) half (ap (λ (o : Task). o .places) mine) (r .1)
