@@ -1,4 +1,4 @@
--- A fact of every frame, for which the work may be a bound, holds of every frame after a pick.
+-- A fact of every frame, for which a count may be a bound, holds of every frame after a pick.
 use Prim.Native.Nat.{ℕ, suc, _+_}
 use mathlib.Core.Path.{_≡_, _∙_}
 use mathlib.Core.Bool.{true}
@@ -13,31 +13,35 @@ module _ {F S : Type 0} (M : Model F S) where
   open Model M using (slots, step, work, tick)
   open Slots slots using (running, join, vacant, at, put)
 
-  -- What is asked of `P W f`, the fact of the frame f where the work is W. One instruction may go from W to W + 1
+  -- What is asked of `P n f`, the fact of the frame f at the count n. One instruction may go from n to n + 1
   pub record Framewise (P : ℕ → F → Type 0) : Type 0 where
-    pub more-work : (W : ℕ) (f : F) → P W f → P (suc W) f
-    pub of-vacant : (W : ℕ) → P W vacant
-    pub of-one : (W : ℕ) (f g : F) → P W f → running f ≡ true → step f ≡ one g → P (suc W) g
-    pub of-two : (W : ℕ) (f p c : F) → P W f → running f ≡ true → step f ≡ two p c → P (suc W) p × P (suc W) c
-    pub of-join : (W : ℕ) (a b : F) → P W a → P W b → P W (join a b)
-    pub put-all : (W : ℕ) (m : S) (k : ℕ) (f : F) (i : ℕ) → P W f → P W (at m i) → P W (at (put m k f) i)
-    pub tick-all : (W : ℕ) (m : S) (i : ℕ) → P W (at m i) → P W (at (tick m) i)
-    pub put-work : (m : S) (k : ℕ) (f : F) → work (put m k f) ≡ work m
-    pub tick-work : (m : S) → work (tick m) ≡ work m + 1
+    pub more : (n : ℕ) (f : F) → P n f → P (suc n) f
+    pub of-vacant : (n : ℕ) → P n vacant
+    pub of-one : (n : ℕ) (f g : F) → P n f → running f ≡ true → step f ≡ one g → P (suc n) g
+    pub of-two : (n : ℕ) (f p c : F) → P n f → running f ≡ true → step f ≡ two p c → P (suc n) p × P (suc n) c
+    pub of-join : (n : ℕ) (a b : F) → P n a → P n b → P n (join a b)
+    pub put-all : (n : ℕ) (m : S) (k : ℕ) (f : F) (i : ℕ) → P n f → P n (at m i) → P n (at (put m k f) i)
+    pub tick-all : (n : ℕ) (m : S) (i : ℕ) → P n (at m i) → P n (at (tick m) i)
 
   module _ {P : ℕ → F → Type 0} (asked : Framewise P) where
-    abbrev All : S → Type 0
-    All m = (i : ℕ) → P (work m) (at m i)
+    -- Where the frame picked is at n, all may be at n + 1 before the pick, and then are after it. So a count of rounds may stay at n while
+    -- every frame of a round is picked once
+    pub carried-all : (n : ℕ) (m : S) (k : ℕ) → running (at m k) ≡ true → P n (at m k) → ((i : ℕ) → P (suc n) (at m i))
+        → (i : ℕ) → P (suc n) (at (tick (carry slots step m k)) i)
+    carried-all n m k r here all i =
+        asked .tick-all (suc n) (carry slots step m k) i
+        (carry-all slots (P (suc n)) (asked .put-all (suc n)) (asked .of-vacant (suc n)) (asked .of-join (suc n)) step m k all
+        (λ g e. asked .of-one n (at m k) g here r e) (λ p c e. asked .of-two n (at m k) p c here r e) i)
 
-    carried-all : (m : S) (k : ℕ) → canPick M m k ≡ true → All m → All (tick (carry slots step m k))
-    carried-all m k c h i =
-        let W = work m in
-        let r = can-parts M m k c .1 in
-        let w : work (tick (carry slots step m k)) ≡ suc W = carried-work M (asked .put-work) (asked .tick-work) m k ∙ add-one W in
-        rw w
-        (asked .tick-all (suc W) (carry slots step m k) i
-        (carry-all slots (P (suc W)) (asked .put-all (suc W)) (asked .of-vacant (suc W)) (asked .of-join (suc W)) step m k
-        (λ j. asked .more-work W (at m j) (h j)) (λ g e. asked .of-one W (at m k) g (h k) r e) (λ p c e. asked .of-two W (at m k) p c (h k) r e) i))
+    -- where the count is the work, it rises at every pick that is carried out
+    module _ (put-work : (m : S) (k : ℕ) (f : F) → work (put m k f) ≡ work m) (tick-work : (m : S) → work (tick m) ≡ work m + 1) where
+      abbrev All : S → Type 0
+      All m = (i : ℕ) → P (work m) (at m i)
 
-    pub pick-all : (m : S) (k : ℕ) → ((i : ℕ) → P (work m) (at m i)) → (i : ℕ) → P (work (pick M m k)) (at (pick M m k) i)
-    pick-all = pick-has M All carried-all
+      rises : (m : S) (k : ℕ) → canPick M m k ≡ true → All m → All (tick (carry slots step m k))
+      rises m k c all i =
+          let w : work (tick (carry slots step m k)) ≡ suc (work m) = carried-work M put-work tick-work m k ∙ add-one (work m) in
+          rw w (carried-all (work m) m k (can-parts M m k c .1) (all k) (λ j. asked .more (work m) (at m j) (all j)) i)
+
+      pub pick-all : (m : S) (k : ℕ) → ((i : ℕ) → P (work m) (at m i)) → (i : ℕ) → P (work (pick M m k)) (at (pick M m k) i)
+      pick-all = pick-has M All rises

@@ -17,7 +17,8 @@ use Rattle.task.specs.Stretches.{reads}
 use Rattle.machine.specs.Starting.{rank, startNoBy, fresh}
 use Rattle.machine.specs.Shape.{shape}
 use Rattle.machine.specs.Picking.{slotNo, stateNoBy}
-use Rattle.machine.specs.Running.{firstRunning, nextPick, runs, outcome}
+use Rattle.machine.specs.Courses.{follows}
+use Rattle.machine.specs.Running.{firstRunning, nextPick, passes as passing, outcome}
 use Rattle.state.specs.Numbers.{integersIn, inBytes}
 use Rattle.state.specs.Reading.{table}
 use Rattle.report.specs.Words.{digits}
@@ -68,7 +69,7 @@ unfolding pickRows lentRows shapeRows slotRows runRows programF onlyHalt imageF
     orElse firstNo countsNo rising unjoined joined annotated blockNo register operandFits laidOut startsAt lastInBlock instructionNo
     recordsNo little rows buffer cellsIn programNo stateNoBy slotNo
     shape rank tiles hollow everySlot isTarget formed isVacant reads fresh
-    firstRunning nextPick runs outcome operand asked belong fits promotes step copied join settle carry
+    firstRunning nextPick passing follows outcome operand asked belong fits promotes step copied join settle carry
 picks-pass = refl
 
 jobs-pass : every passes jobRows ≡ true
@@ -94,7 +95,7 @@ unfolding textRows jobF imageF assembled bytesOf
     orElse firstNo countsNo rising unjoined joined annotated blockNo register operandFits laidOut startsAt lastInBlock instructionNo
     recordsNo little rows buffer cellsIn markIn headerNo imageNo programNo startNoBy rank
     endsExactly jobNo integersIn reads fresh unlessRefused
-    firstRunning nextPick runs operand asked belong fits promotes step copied join settle carry
+    firstRunning nextPick passing follows operand asked belong fits promotes step copied join settle carry
     digits registerLine registerLines textOf textIn
 texts-pass = refl
 

@@ -7,7 +7,8 @@ use lib.ListN.{length}
 use lib.Seq.{sets}
 use Rattle.image.specs.Questions.{ask, orElse}
 use Rattle.machine.specs.Starting.{empty}
-use Rattle.machine.specs.Running.{Run, runFrom}
+use Rattle.machine.specs.Courses.{Run}
+use Rattle.machine.specs.Running.{runFrom}
 use Rattle.orders.specs.Demand.{startOn}
 use Rattle.report.specs.declared.Report.{Report}
 use Rattle.report.specs.Report.{reportOf, reportLength}
@@ -15,7 +16,7 @@ use Rattle.report.specs.Text.{textOf, refusedText, textRoom}
 use Rattle.job.specs.Job.{jobNo}
 use Rattle.job.specs.Replay.{jobIn}
 
-abbrev pub runIn : List ℕ → ℕ → Run
+abbrev pub runIn : List ℕ → ℕ → Run ℕ
 runIn bytes budget = let j = jobIn bytes in runFrom (j .cells) (j .words) (startOn j (empty 0 0)) 0 budget
 
 abbrev pub reportIn : List ℕ → ℕ → Report

@@ -33,3 +33,4 @@ pub mod SettleSafety
 pub mod Owning
 pub mod CodedSlots
 pub mod MeetsShape
+pub mod Picked

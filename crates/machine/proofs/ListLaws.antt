@@ -219,14 +219,14 @@ module _ (cells : List ℕ) (words : List ℤ) where
       → length ks ≤ fuel → Comes whole m picks b (length order) (λ p. Listing order whole m p picks) (nextListed ks b (m .places) (m .work))
   unfolding nextListed
   next-of order whole m picks fuel [] b d e n =
-      comes-none refl (omega arith) (e ∙ ap left (stays cells words listed fuel (record { machine = m; kept = []; picks = picks }) (listed-over m)))
+      comes-none refl (omega arith) refl refl (e ∙ ap left (stays cells words listed fuel (record { machine = m; kept = []; picks = picks }) (listed-over m)))
   next-of order whole m picks fuel (k ∷ ks) b d e n =
       by-below k (m .places) here (λ z. further z (next-of order whole m picks fuel ks (b + 1) (drop-next order b k ks d)
       (e ∙ skips fuel m k ks picks (far-refused m k z)) (omega arith)))
     where
       later : Comes whole m picks (b + 1) (length order) (λ p. Listing order whole m p picks) (nextListed ks (b + 1) (m .places) (m .work))
           → Comes whole m picks b (length order) (λ p. Listing order whole m p picks) (nextListed ks (b + 1) (m .places) (m .work))
-      later (comes-none o le w) = comes-none o (omega arith) w
+      later (comes-none o le u r w) = comes-none o (omega arith) u r w
       later (comes-one o f s) = comes-one o (record {
         begun-more = omega (arith, f .begun-more);
         begun-most = f .begun-most;

@@ -179,3 +179,12 @@ module _ (cells : List ℕ) (words : List ℤ) where
           is-begun = x .is-begun;
           same = same-on;
         }
+
+-- with a budget of 1, from a slot with a running task, a run is one pick
+pub one-pick : {cells : List ℕ} {interval places : ℕ} → Allowed cells interval places → (words : List ℤ) (m : Machine) → Fits cells interval places m → (k : ℕ)
+    → k < m .places → running (at m k) ≡ true → m .work < workLimit
+    → runFrom cells words m k 1 ≡ record { machine = issued cells words m k; kept = k + 1; picks = 1 }
+unfolding follows
+one-pick {cells} allowed words m x k below r room =
+    picks-on cells words 1 (begun m k) k (omega arith) (stops-not m (running-open allowed words m x k below r) room)
+    (finds (begins m k below) (omega arith) below r)

@@ -69,7 +69,7 @@ pub record Fresh (m : Machine) (b most : ℕ) (s : Stretch) : Type 0 where
 
 -- either there is none, and the loop leaves the state as it stands; or one begins, where the course stands as it should
 pub data Comes (whole : Driven) (m : Machine) (picks b most : ℕ) (Standing : Position → Type 0) (s : Stretch) : Type 0 where
-  comes-none : s .over ≡ true → b ≤ s .begun → whole ≡ record { machine = m; picks = picks } → Comes whole m picks b most Standing s
+  comes-none : s .over ≡ true → b ≤ s .begun → s .until ≡ 0 → s .reach ≡ 0 → whole ≡ record { machine = m; picks = picks } → Comes whole m picks b most Standing s
   comes-one : s .over ≡ false → Fresh m b most s → Standing (firstOf s) → Comes whole m picks b most Standing s
 
 -- the work at which a stretch stops

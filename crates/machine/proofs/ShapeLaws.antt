@@ -46,15 +46,13 @@ tests-hold cells D = record {
 -- counter and span at most the work: so after a pick too
 within-picks : (cells : List ℕ) (words : List ℤ) (interval places : ℕ) → Framewise (modelOf cells words interval places) (λ W f. Within W (f .task))
 within-picks cells words interval places = record {
-  more-work = λ W f x. within-more (omega arith) x;
+  more = λ W f x. within-more (omega arith) x;
   of-vacant = vacant-within;
   of-one = λ W f g x r e. step-one-within (programOf cells) words (chosen interval) W f g x e;
   of-two = λ W f p c x r e. step-two-within (programOf cells) words (chosen interval) W f p c x e;
   of-join = join-within (programOf cells);
   put-all = λ W m k f i x y. put-tasks (Within W) m k f i x y;
   tick-all = λ W m i x. x;
-  put-work = λ m k f. refl;
-  tick-work = λ m. refl;
 }
 
 -- a state of a job with this program, interval and places
@@ -128,5 +126,5 @@ module _ {cells : List ℕ} {interval places : ℕ} (allowed : Allowed cells int
           its-interval = pick-keeps (λ n. n .interval) (λ n k f. refl) (λ n. refl) m k ∙ x .its-interval;
           sized = t .1;
           tiled = t .0;
-          counts = pick-all M (within-picks cells words interval places) m k (x .counts);
+          counts = pick-all M (within-picks cells words interval places) (λ n k f. refl) (λ n. refl) m k (x .counts);
         }

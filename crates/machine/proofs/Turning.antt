@@ -22,19 +22,19 @@ use Rattle.machine.specs.declared.course.Course.{Course}
 use Rattle.machine.specs.Slots.{at, put, ticked, Sized, slotsOf}
 use Rattle.machine.specs.Starting.{rank}
 use Rattle.machine.specs.Picking.{issued}
-use Rattle.machine.specs.Driving.{runsOn}
+use Rattle.machine.specs.Driving.{behind, slotAfter, goneAfter, width, runsOn}
 use Rattle.machine.proofs.RankLaws.{rank-power}
 use Rattle.machine.proofs.ShapeLaws.{Fits}
 use Rattle.machine.proofs.SlotLaws.{put-sized, put-other, ticked-sized}
 use Rattle.machine.proofs.Carrying.{stand}
 use Rattle.machine.proofs.Moving.{settle-tick, settle-quiet}
 use Rattle.machine.proofs.Issuing.{Fetched}
-use Rattle.machine.proofs.PickLaws.{issued-fits, issued-places}
+use Rattle.machine.proofs.PickLaws.{issued-fits, issued-work}
 use Rattle.machine.proofs.SettleLaws.{settle-ends, settle-stops}
 use Rattle.machine.proofs.SettleSafety.{SettleSafe, turn, fits-safe, put-back-safe}
 use Rattle.machine.proofs.Positions.{Position, to, pickedBehind, Walks, goes}
 use Rattle.machine.proofs.Seeking.{Quiet, behind-inside}
-use Rattle.machine.proofs.Walking.{Given, given, GivenAllowed, At, tile, picked-behind}
+use Rattle.machine.proofs.Walking.{Given, given, GivenAllowed, At, tile, picked-behind, picked-on, gone-by}
 
 module _ (g : Given) where
   -- the state that counts is the one with the joins made that are due from depth `open` on
@@ -93,7 +93,7 @@ module _ (g : Given) where
           let settled : settle S o m′ k ≡ issued (g .cells) (g .words) m k =
           ap (λ d. settle S d m′ k) deep ∙ ap (λ n. settle S (f .task .depth) n k) is ∙ settle-tick (g .cells) (f .task .depth) (put m k f) k
           ∙ ap ticked (sym (carry-one S (step (programOf (g .cells)) (g .words) (chosen (m .interval))) m k f e)) in
-          let t = tile g allowed a walks runs-there settled in
+          let t = tile g allowed a runs-there in
           let same : (i : ℕ) → k < i → running (at m′ i) ≡ running (at m i) =
           λ i h. ap (λ (o : Machine). running (at o i)) is ∙ ap running (put-other m k f i (λ z. absurd (omega arith))) in
           let quiet : Quiet (settle S o m′ k) (k + 1) (k + at m k .task .places) =
@@ -128,6 +128,30 @@ pub record Leads (cells : List ℕ) (words : List ℤ) (order : List ℕ) (cours
   pub leads : (machine : Machine) → GivenAllowed (given cells words machine order course) → At (given cells words machine order course) m₀ p₀
       → At (given cells words machine order course) m p
   pub shorter : 65 * (p .until - m .work) + (p .reach - p .gone) ≤ 65 * (p₀ .until - m₀ .work) + (p₀ .reach - p₀ .gone)
+
+module _ {cells : List ℕ} {words : List ℤ} {order : List ℕ} {course : Course} {m₀ : Machine} {p₀ : Position} {m : Machine} {p : Position}
+    (l : Leads cells words order course m₀ p₀ m p) (walks : Walks m p) where
+  -- the places of a slot where nothing runs are gone by
+  pub leads-by : running (at m (p .slot)) ≡ false → {w slot : ℕ} → w ≡ width (at m (p .slot) .task .places) → slot ≡ behind (m .places) (p .slot) w
+      → Leads cells words order course m₀ p₀ m (to slot (p .gone + w) p)
+  leads-by idle {w} {slot} wide next = record {
+    leads = λ machine allowed a₀. rw (next, wide) (gone-by (given cells words machine order course) allowed (l .leads machine allowed a₀) walks idle);
+    shorter = omega (arith, l .shorter);
+  }
+
+  -- the slot's task is picked, and runs on
+  pub leads-on : p .reach ≤ 64 → running (at m (p .slot)) ≡ true → {m′ : Machine} → m′ ≡ issued cells words m (p .slot)
+      → ((i : ℕ) → (i ≡ p .slot → ⊥) → running (at m′ i) ≡ running (at m i))
+      → {slot gone : ℕ} → slot ≡ slotAfter (m .places) (p .reach) (p .gone) (p .slot) (at m (p .slot) .task .places)
+      → gone ≡ goneAfter (p .reach) (p .gone) (at m (p .slot) .task .places)
+      → Leads cells words order course m₀ p₀ m′ (to slot gone p)
+  leads-on reach on {m′} is others {slot} {gone} next still = record {
+    leads = λ machine allowed a₀. rw (next, still) (picked-on (given cells words machine order course) allowed (l .leads machine allowed a₀) walks on is others);
+    shorter =
+        let more : m′ .work ≡ m .work + 1 = ap (λ (n : Machine). n .work) is ∙ issued-work cells words m (p .slot) in
+        let x = goes {m = m} {p = p} walks in
+        omega (arith, l .shorter, x .picks-left);
+  }
 
 -- an instruction was carried out on small values, and the state does not have it yet
 pub record Stopped (cells : List ℕ) (words : List ℤ) (m : Machine) (p : Position) (e : Executed) : Type 0 where

@@ -78,6 +78,7 @@ pub record At (g : Given) (m : Machine) (p : Position) : Type 0 where
   pub slot-below : p .slot < m .places
   pub reach-most : p .reach ≤ 64
   pub until-most : p .until ≤ workLimit
+  pub work-most : m .work ≤ workLimit
   pub begun-most : p .begun ≤ mostStretches (g .course) (g .order)
   pub picks : ℕ
   pub all-picks : g .machine .work + picks ≡ m .work
@@ -91,6 +92,7 @@ at-first g fits allowed inside p slot reach until limit begun = record {
   slot-below = omega (arith, places-some (g .machine .places) (allowed .places-allowed));
   reach-most = omega arith;
   until-most = omega arith;
+  work-most = limit;
   begun-most = omega arith;
   picks = 0;
   all-picks = omega arith;
@@ -125,6 +127,7 @@ module _ (g : Given) (allowed : GivenAllowed g) {m : Machine} {p : Position} (a 
     slot-below = behind-below (m .places) k _ some-places;
     reach-most = a .reach-most;
     until-most = a .until-most;
+    work-most = a .work-most;
     begun-most = a .begun-most;
     picks = a .picks;
     all-picks = a .all-picks;
@@ -138,6 +141,23 @@ module _ (g : Given) (allowed : GivenAllowed g) {m : Machine} {p : Position} (a 
       by (Passes slot budget) whole (inl u) = clash walks (no-picks-left m p (u .no-picks))
       by (Passes slot budget) whole (inr x) = inr (passing whole x)
       by Listed whole x = list-goes-by cells words x walks idle _ (width-some (at m k .task .places))
+
+  -- ---- a running task in its places
+
+  pub record Tile : Type 0 where
+    pub some : 0 < at m k .task .places
+    pub inside : k + at m k .task .places ≤ m .places
+    pub quiet : Quiet m (k + 1) (k + at m k .task .places)
+
+  pub tile : running (at m k) ≡ true → Tile
+  tile runs-there =
+      let s = stand allowed words m k (a .fits) slot-below-there runs-there in
+      let P : g .machine .places ≡ 2 ^ rank (g .machine .places) = rank-power (g .machine .places) (allowed .places-allowed) in
+      record {
+        some = omega (arith, s .formed .has-places, pow-pos (s .height));
+        inside = omega (arith, s .formed .has-places, s .inside, P, a .fits .its-places);
+        quiet = λ i x y. s .alone i (omega arith) (omega (arith, s .formed .has-places));
+      }
 
   -- ---- its task is picked
 
@@ -164,6 +184,7 @@ module _ (g : Given) (allowed : GivenAllowed g) {m : Machine} {p : Position} (a 
       slot-below = omega (arith, same-places);
       reach-most = a .reach-most;
       until-most = a .until-most;
+      work-most = let more = ap (λ (n : Machine). n .work) is ∙ issued-work cells words m k in omega (arith, room);
       begun-most = a .begun-most;
       picks = a .picks + 1;
       all-picks = rise;
@@ -180,36 +201,20 @@ module _ (g : Given) (allowed : GivenAllowed g) {m : Machine} {p : Position} (a 
             inr (pass-behind cells words x allowed (a .fits) (a .slot-below) runs-there (goes {m = m} {p = p} walks .picks-left) (a .until-most) is w same-places some inside quiet)
         by Listed whole x = list-picked cells words x walks ready is _ _
 
-    -- where it stands in its places
-    pub record Tile : Type 0 where
-      pub some : 0 < at m k .task .places
-      pub inside : k + at m k .task .places ≤ m .places
-      pub quiet : Quiet m (k + 1) (k + at m k .task .places)
-
-    pub tile : Tile
-    tile =
-        let s = stand allowed words m k (a .fits) slot-below-there runs-there in
-        let P : g .machine .places ≡ 2 ^ rank (g .machine .places) = rank-power (g .machine .places) (allowed .places-allowed) in
-        record {
-          some = omega (arith, s .formed .has-places, pow-pos (s .height));
-          inside = omega (arith, s .formed .has-places, s .inside, P, a .fits .its-places);
-          quiet = λ i x y. s .alone i (omega arith) (omega (arith, s .formed .has-places));
-        }
-
     -- the task runs on, and the other slots are as they were: behind its places, or at once again where it runs alone
     pub picked-on : ((i : ℕ) → (i ≡ k → ⊥) → running (at m′ i) ≡ running (at m i))
         → let w = at m k .task .places in At g m′ (to (slotAfter (m .places) (p .reach) (p .gone) k w) (goneAfter (p .reach) (p .gone) w) p)
     picked-on others = by-below (p .gone + at m k .task .places) (p .reach)
-        (λ h. rw (lt-leb (p .reach) (p .gone + at m k .task .places) h) (picked-behind _ (tile .some) (tile .inside) quiet-on))
+        (λ h. rw (lt-leb (p .reach) (p .gone + at m k .task .places) h) (picked-behind _ (tile runs-there .some) (tile runs-there .inside) quiet-on))
         (λ h. rw (le-leb (p .reach) (p .gone + at m k .task .places) h) (onward k (p .gone) (a .slot-below) (by h course (result g) (a .stands))))
       where
         quiet-on : Quiet m′ (k + 1) (k + at m k .task .places)
-        quiet-on i x y = others i (λ e. absurd (omega arith)) ∙ tile .quiet i x y
+        quiet-on i x y = others i (λ e. absurd (omega arith)) ∙ tile runs-there .quiet i x y
 
         alone-on : p .reach ≤ p .gone + at m k .task .places → (whole : Driven) → Passing cells words whole m p (a .picks) → Alone m′ k
         alone-on h whole x i below other =
             others i other
-            ∙ alone (x .seeks) (p .gone) (at m k .task .places) (x .counted) (omega (arith, x .reach-all)) (tile .inside) (tile .quiet) i (omega (arith, same-places)) other
+            ∙ alone (x .seeks) (p .gone) (at m k .task .places) (x .counted) (omega (arith, x .reach-all)) (tile runs-there .inside) (tile runs-there .quiet) i (omega (arith, same-places)) other
 
         by : p .reach ≤ p .gone + at m k .task .places → (c : Course) (whole : Driven) → Stands c whole m p (a .picks) → Stands c whole m′ (to k (p .gone) p) (a .picks + 1)
         by h (Passes slot budget) whole (inl u) = clash walks (no-picks-left m p (u .no-picks))
@@ -226,12 +231,13 @@ module _ (g : Given) (allowed : GivenAllowed g) {m : Machine} {p : Position} (a 
       -- where the course stands at a stretch, the loop does
       comes : (s : Stretch) → Comes (result g) m (a .picks) (p .begun) (mostStretches course order) (λ q. Stands course (result g) m q (a .picks)) s
           → Comes (result g) m (a .picks) (p .begun) (mostStretches course order) (λ q. At g m q) s
-      comes s (comes-none o b e) = comes-none o b e
+      comes s (comes-none o b u r e) = comes-none o b u r e
       comes s (comes-one o f stands) = comes-one o f (record {
         fits = a .fits;
         slot-below = f .slot-below;
         reach-most = f .reach-most;
         until-most = f .until-most;
+        work-most = a .work-most;
         begun-most = f .begun-most;
         picks = a .picks;
         all-picks = a .all-picks;
@@ -256,7 +262,7 @@ module _ (g : Given) (allowed : GivenAllowed g) {m : Machine} {p : Position} (a 
       last : (whole : Driven) (slot budget : ℕ) → Passing cells words whole m p (a .picks) → p .begun ≤ 1
           → Comes whole m (a .picks) (p .begun) 1 (λ q. Stands (Passes slot budget) whole m q (a .picks)) (nextPass slot budget (p .begun) (m .places) (m .work))
       last whole slot budget x most =
-          rw (ne-eqb (p .begun) 0 (x .is-begun)) (comes-none refl (omega arith) (pass-rests cells words x allowed (a .fits) h))
+          rw (ne-eqb (p .begun) 0 (x .is-begun)) (comes-none refl (omega arith) refl refl (pass-rests cells words x allowed (a .fits) h))
 
       by : (c : Course) (whole : Driven) → Stands c whole m p (a .picks) → p .begun ≤ mostStretches c order
           → Comes whole m (a .picks) (p .begun) (mostStretches c order) (λ q. Stands c whole m q (a .picks)) (nextStretch c order (p .begun) (m .places) (m .work))

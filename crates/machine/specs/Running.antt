@@ -6,7 +6,6 @@ use lib.Dec.{eqb, ltb}
 use lib.IntN.{ℤ}
 use Rattle.task.specs.Frames.{running, workLimit}
 use Rattle.machine.specs.declared.Machine.{Machine}
-use Rattle.machine.specs.declared.Driven.{Driven}
 use Rattle.machine.specs.declared.Outcome.{Outcome}
 use Rattle.machine.specs.Slots.{at}
 use Rattle.machine.specs.Ending.{jobEnded}
@@ -40,9 +39,6 @@ module _ (cells : List ℕ) (words : List ℤ) where
   -- at most `budget` picks from slot k on
   abbrev pub runFrom : Machine → ℕ → ℕ → Run ℕ
   runFrom m k budget = runs budget (begun m k)
-
-  abbrev pub driven : Machine → ℕ → ℕ → Driven
-  driven m k budget = record { machine = runFrom m k budget .machine; picks = runFrom m k budget .picks }
 
   -- The pick's questions up to 20 apply first. Ended, or spent: it says which, and the picks carried out. A refused run hands back the old state
   abbrev pub outcomeBy : ℕ → Machine → Run ℕ → Outcome

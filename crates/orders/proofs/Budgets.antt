@@ -1,5 +1,5 @@
--- A budget that is spent in two runs. From the slot reached on, the second goes on with the first. From slot 0 on it does so where the first
--- stopped at a pass's end or can pick no more.
+-- A budget that is spent in two runs. With what the first kept, the second goes on with it, whoever chooses. From slot 0 on a budgeted run does
+-- so where the first stopped at a pass's end or can pick no more.
 use Prim.Native.Nat.{ℕ, zero, suc, _+_}
 use mathlib.Core.Path.{_≡_, refl, sym, ap, _∙_, subst⁻¹}
 use mathlib.Core.Logic.{_⊎_, inl, inr}
@@ -8,85 +8,91 @@ use mathlib.Core.List.{List}
 use native.Mathlib.Omega.{arith}
 use lib.IntN.{ℤ}
 use Rattle.facts.proofs.Tests.{by-test}
-use Rattle.machine.specs.declared.Machine.{Machine}
-use Rattle.machine.specs.Running.{Run, nextPick, stops, pickedAt, runs}
+use Rattle.machine.specs.Courses.{Next, over, turn, Chooser, Run, begun, pickedAt, follows}
+use Rattle.machine.specs.Running.{nextPick, stops, passes, runs}
+use Rattle.machine.proofs.CourseLaws.{stays, picks-turn}
 use Rattle.machine.proofs.Searching.{next-when-over}
 use Rattle.machine.proofs.Passing.{picks-next, rests}
-use Rattle.orders.specs.Runs.{RunsAdd, run, PassOver, AddsUp, BudgetsAdd}
+use Rattle.orders.specs.Runs.{CoursesAdd, RunsAdd, run, PassOver, AddsUp, BudgetsAdd}
 
--- ---- from the slot reached on
+-- ---- with what the first kept
 
-module _ (cells : List ℕ) (words : List ℤ) where
-  go-on : (a b : ℕ) (r : Run) → ((s : Run) → runs cells words (a + b) s ≡ runs cells words b (runs cells words a s))
-      → runs cells words (suc a + b) r ≡ runs cells words b (runs cells words (suc a) r)
-  go-on a b r rest = by-test (stops (r .machine))
-      (λ t. rests cells words (suc a + b) r t ∙ sym (rests cells words b r t) ∙ ap (runs cells words b) (sym (rests cells words (suc a) r t)))
-      (λ t. let more : suc a + b ≡ suc (a + b) = omega arith in
-      ap (λ (n : ℕ). runs cells words n r) more ∙ picks-next cells words (a + b) r t ∙ rest (pickedAt cells words (nextPick (r .machine) (r .slot)) r)
-      ∙ ap (runs cells words b) (sym (picks-next cells words a r t)))
+-- with p picks more counted
+abbrev counted : {C : Type 0} → ℕ → Run C → Run C
+counted p r = record { machine = r .machine; kept = r .kept; picks = p + r .picks }
 
-  one-run : (a b : ℕ) (r : Run) → runs cells words (a + b) r ≡ runs cells words b (runs cells words a r)
-  unfolding runs
-  one-run zero b r = let same : zero + b ≡ b = omega arith in ap (λ (n : ℕ). runs cells words n r) same
+module _ (cells : List ℕ) (words : List ℤ) {C : Type 0} (next : Chooser C) where
+  abbrev go : ℕ → Run C → Run C
+  go n r = follows cells words next n r
+
+  go-on : (a b : ℕ) (r : Run C) → ((s : Run C) → go (a + b) s ≡ go b (go a s)) → go (suc a + b) r ≡ go b (go (suc a) r)
+  go-on a b r rest = by (next (r .machine) (r .kept)) refl
+    where
+      by : (n : Next C) → next (r .machine) (r .kept) ≡ n → go (suc a + b) r ≡ go b (go (suc a) r)
+      by over e = stays cells words next (suc a + b) r e ∙ sym (stays cells words next b r e) ∙ ap (go b) (sym (stays cells words next (suc a) r e))
+      by (turn k c) e =
+          let more : suc a + b ≡ suc (a + b) = omega arith in
+          ap (λ (n : ℕ). go n r) more ∙ picks-turn cells words next (a + b) r k c e ∙ rest (pickedAt cells words k c r)
+          ∙ ap (go b) (sym (picks-turn cells words next a r k c e))
+
+  one-run : (a b : ℕ) (r : Run C) → go (a + b) r ≡ go b (go a r)
+  unfolding follows
+  one-run zero b r = let same : zero + b ≡ b = omega arith in ap (λ (n : ℕ). go n r) same
   one-run (suc a) b r = go-on a b r (one-run a b)
 
+  count-on : (p b : ℕ) (r : Run C) → ((s : Run C) → go b (counted p s) ≡ counted p (go b s)) → go (suc b) (counted p r) ≡ counted p (go (suc b) r)
+  count-on p b r rest = by (next (r .machine) (r .kept)) refl
+    where
+      by : (n : Next C) → next (r .machine) (r .kept) ≡ n → go (suc b) (counted p r) ≡ counted p (go (suc b) r)
+      by over e = stays cells words next (suc b) (counted p r) e ∙ ap (counted p) (sym (stays cells words next (suc b) r e))
+      by (turn k c) e =
+          let one : p + r .picks + 1 ≡ p + (r .picks + 1) = omega arith in
+          picks-turn cells words next b (counted p r) k c e
+          ∙ ap (λ (n : ℕ). go b (record { machine = pickedAt cells words k c r .machine; kept = c; picks = n })) one
+          ∙ rest (pickedAt cells words k c r) ∙ ap (counted p) (sym (picks-turn cells words next b r k c e))
+
+  -- the picks counted before do not matter
+  goes-counted : (p b : ℕ) (r : Run C) → go b (counted p r) ≡ counted p (go b r)
+  unfolding follows
+  goes-counted p zero r = refl
+  goes-counted p (suc b) r = count-on p b r (goes-counted p b)
+
+pub courses-add : CoursesAdd
+courses-add C j next = one-run (j .cells) (j .words) next
+
 pub runs-add : RunsAdd
-runs-add j = one-run (j .cells) (j .words)
+runs-add j = courses-add ℕ j passes
 
 -- ---- from slot 0 on
 
--- with p picks more counted
-abbrev counted : ℕ → Run → Run
-counted p r = record { machine = r .machine; slot = r .slot; picks = p + r .picks }
-
--- from slot 0 on, none counted yet
-abbrev afresh : Machine → Run
-afresh m = record { machine = m; slot = 0; picks = 0 }
-
 module _ (cells : List ℕ) (words : List ℤ) where
-  count-on : (p b : ℕ) (r : Run) → ((s : Run) → runs cells words b (counted p s) ≡ counted p (runs cells words b s))
-      → runs cells words (suc b) (counted p r) ≡ counted p (runs cells words (suc b) r)
-  count-on p b r rest = by-test (stops (r .machine))
-      (λ t. rests cells words (suc b) (counted p r) t ∙ ap (counted p) (sym (rests cells words (suc b) r t)))
-      (λ t. let k = nextPick (r .machine) (r .slot) in
-      let one : p + r .picks + 1 ≡ p + (r .picks + 1) = omega arith in
-      picks-next cells words b (counted p r) t
-      ∙ ap (λ (n : ℕ). runs cells words b (record { machine = pickedAt cells words k r .machine; slot = k + 1; picks = n })) one
-      ∙ rest (pickedAt cells words k r) ∙ ap (counted p) (sym (picks-next cells words b r t)))
-
-  -- the picks counted before do not matter
-  runs-counted : (p b : ℕ) (r : Run) → runs cells words b (counted p r) ≡ counted p (runs cells words b r)
-  unfolding runs
-  runs-counted p zero r = refl
-  runs-counted p (suc b) r = count-on p b r (runs-counted p b)
-
   -- where it can pick no more
-  adds-nothing : (b : ℕ) (r : Run) → stops (r .machine) ≡ true → AddsUp r (runs cells words b (afresh (r .machine))) (runs cells words b r)
-  adds-nothing b r t = rw (rests cells words b r t, rests cells words b (afresh (r .machine)) t) (record { same-state = refl; picks-add = omega arith })
+  adds-nothing : (b : ℕ) (r : Run ℕ) → stops (r .machine) ≡ true → AddsUp r (runs cells words b (begun (r .machine) 0)) (runs cells words b r)
+  adds-nothing b r t = rw (rests cells words b r t, rests cells words b (begun (r .machine) 0) t) (record { same-state = refl; picks-add = omega arith })
 
   -- where it looks for the next pick from slot 0 on
-  adds : (b : ℕ) (r : Run) → nextPick (r .machine) (r .slot) ≡ nextPick (r .machine) 0
-      → AddsUp r (runs cells words b (afresh (r .machine))) (runs cells words b r)
-  unfolding runs
+  adds : (b : ℕ) (r : Run ℕ) → nextPick (r .machine) (r .kept) ≡ nextPick (r .machine) 0
+      → AddsUp r (runs cells words b (begun (r .machine) 0)) (runs cells words b r)
+  unfolding follows
   adds zero r e = record { same-state = refl; picks-add = omega arith }
   adds (suc b) r e = by-test (stops (r .machine)) (adds-nothing (suc b) r) (λ t. adds-more b r t e)
     where
-      adds-more : (b : ℕ) (r : Run) → stops (r .machine) ≡ false → nextPick (r .machine) (r .slot) ≡ nextPick (r .machine) 0
-          → AddsUp r (runs cells words (suc b) (afresh (r .machine))) (runs cells words (suc b) r)
+      adds-more : (b : ℕ) (r : Run ℕ) → stops (r .machine) ≡ false → nextPick (r .machine) (r .kept) ≡ nextPick (r .machine) 0
+          → AddsUp r (runs cells words (suc b) (begun (r .machine) 0)) (runs cells words (suc b) r)
       adds-more b r t e =
           let m = r .machine in
-          let same : runs cells words (suc b) r ≡ counted (r .picks) (runs cells words (suc b) (afresh m)) =
+          let same : runs cells words (suc b) r ≡ counted (r .picks) (runs cells words (suc b) (begun m 0)) =
           picks-next cells words b r t
-          ∙ ap (λ (k : ℕ). runs cells words b (pickedAt cells words k r)) e
-          ∙ runs-counted (r .picks) b (pickedAt cells words (nextPick m 0) (afresh m))
-          ∙ ap (counted (r .picks)) (sym (picks-next cells words b (afresh m) t)) in
-          record { same-state = sym (ap (λ (s : Run). s .machine) same); picks-add = sym (ap (λ (s : Run). s .picks) same) }
+          ∙ ap (λ (k : ℕ). runs cells words b (pickedAt cells words k (k + 1) r)) e
+          ∙ goes-counted cells words passes (r .picks) b (pickedAt cells words (nextPick m 0) (nextPick m 0 + 1) (begun m 0))
+          ∙ ap (counted (r .picks)) (sym (picks-next cells words b (begun m 0) t)) in
+          record { same-state = sym (ap (λ (s : Run ℕ). s .machine) same); picks-add = sym (ap (λ (s : Run ℕ). s .picks) same) }
 
 pub budgets-add : BudgetsAdd
 budgets-add j m a b stopped =
-    subst⁻¹ (AddsUp (run j m a) (run j (run j m a .machine) b)) (one-run (j .cells) (j .words) a b (afresh m)) (by stopped)
+    subst⁻¹ (AddsUp (run j m a) (run j (run j m a .machine) b)) (runs-add j a b (begun m 0)) (by stopped)
   where
     by : PassOver (run j m a) ⊎ (stops (run j m a .machine) ≡ true)
         → AddsUp (run j m a) (run j (run j m a .machine) b) (runs (j .cells) (j .words) b (run j m a))
-    by (inl over) = adds (j .cells) (j .words) b (run j m a) (next-when-over (run j m a .machine) (run j m a .slot) over)
+    by (inl left) = adds (j .cells) (j .words) b (run j m a) (next-when-over (run j m a .machine) (run j m a .kept) left)
     by (inr t) = adds-nothing (j .cells) (j .words) b (run j m a) t

@@ -4,6 +4,8 @@ pub mod Plays
 pub mod Demand
 pub mod Complete
 pub mod Shapes
+pub mod Courses
+pub mod Lists
 pub mod Runs
 pub mod Budgets
 pub mod SameEnd

@@ -12,9 +12,9 @@ use Rattle.task.specs.declared.Frame.{Frame}
 use Rattle.machine.specs.declared.Machine.{Machine}
 use Rattle.machine.specs.Ending.{jobEnded}
 use Rattle.task.specs.Frames.{workLimit}
-use Rattle.machine.specs.Running.{Run}
+use Rattle.machine.specs.Courses.{Run}
 use Rattle.orders.specs.Demand.{Job, Accepted, startOn, playedOf, played, carriedOutOf, evaluation, Ends, Agrees}
-use Rattle.orders.specs.Runs.{IsOrder, run, EndsAlike, SameEnd}
+use Rattle.orders.specs.Runs.{IsRun, run, EndsAlike, SameEnd}
 use Rattle.orders.proofs.Plays.{played-on}
 use Rattle.orders.proofs.Demand.{demand-3}
 use Rattle.orders.proofs.Complete.{complete-orders-agree}
@@ -98,53 +98,58 @@ module _ (j : Job) (accepted : Accepted j) (m : Machine) where
   unfolding playedOf carriedOutOf
   start-work = demand-3 j accepted m [] .work-counted
 
-  in-one : {c : ℕ} {r : Run} → IsOrder j (startOn j m) c r → Spends c (r .machine)
-  in-one {c} {r} x = record {
-    order = x .order;
-    leads-here = x .leads-here;
-    within-budget = omega (arith, start-work, x .rise-in-work, x .within-budget);
-    within-limit = x .within-limit (omega (arith, start-work));
-    spent-when = λ o. by (x .spent-when o);
-  }
+  in-one : {c : ℕ} {r : Run ℕ} → IsRun j (startOn j m) c r → Spends c (r .machine)
+  in-one {c} {r} x =
+      let o = x .is-order in
+      record {
+        order = o .order;
+        leads-here = o .leads-here;
+        within-budget = omega (arith, start-work, o .rise-in-work, o .within-budget);
+        within-limit = o .within-limit (omega (arith, start-work));
+        spent-when = λ open-still. by (x .spent-when open-still);
+      }
     where
       by : (r .picks ≡ c) ⊎ (workLimit ≤ r .machine .work) → (r .machine .work ≡ c) ⊎ (workLimit ≤ r .machine .work)
-      by (inl p) = inl (omega (arith, start-work, x .rise-in-work))
+      by (inl p) = inl (omega (arith, start-work, x .is-order .rise-in-work))
       by (inr p) = inr p
 
-  in-two : {a b : ℕ} {r s : Run} → IsOrder j (startOn j m) a r → IsOrder j (r .machine) b s → Spends (a + b) (s .machine)
-  in-two {a} {b} {r} {s} x y = record {
-    order = x .order ++ y .order;
-    leads-here = y .leads-here ∙ ap (λ (n : Machine). played j n (y .order)) (x .leads-here) ∙ sym (played-on j (x .order) (y .order) (startOn j m));
-    within-budget = omega (arith, start-work, x .rise-in-work, x .within-budget, y .rise-in-work, y .within-budget);
-    within-limit = y .within-limit (x .within-limit (omega (arith, start-work)));
-    spent-when = λ o. by (x .spent-when (open-before o)) (y .spent-when o);
-  }
+  in-two : {a b : ℕ} {r s : Run ℕ} → IsRun j (startOn j m) a r → IsRun j (r .machine) b s → Spends (a + b) (s .machine)
+  in-two {a} {b} {r} {s} x y =
+      let o = x .is-order in
+      let p = y .is-order in
+      record {
+        order = o .order ++ p .order;
+        leads-here = p .leads-here ∙ ap (λ (n : Machine). played j n (p .order)) (o .leads-here) ∙ sym (played-on j (o .order) (p .order) (startOn j m));
+        within-budget = omega (arith, start-work, o .rise-in-work, o .within-budget, p .rise-in-work, p .within-budget);
+        within-limit = p .within-limit (o .within-limit (omega (arith, start-work)));
+        spent-when = λ open-still. by (x .spent-when (open-before open-still)) (y .spent-when open-still);
+      }
     where
       open-before : jobEnded (s .machine) ≡ false → jobEnded (r .machine) ≡ false
-      open-before o = by-test (jobEnded (r .machine)) (λ e. clash (ap jobEnded (y .ended-before e .same-state) ∙ e) o) (λ e. e)
+      open-before o = by-test (jobEnded (r .machine)) (λ e. clash (ap jobEnded (y .is-order .ended-before e .same-state) ∙ e) o) (λ e. e)
 
       by : (r .picks ≡ a) ⊎ (workLimit ≤ r .machine .work) → (s .picks ≡ b) ⊎ (workLimit ≤ s .machine .work)
           → (s .machine .work ≡ a + b) ⊎ (workLimit ≤ s .machine .work)
-      by (inl p) (inl q) = inl (omega (arith, start-work, x .rise-in-work, y .rise-in-work))
+      by (inl p) (inl q) = inl (omega (arith, start-work, x .is-order .rise-in-work, y .is-order .rise-in-work))
       by (inl p) (inr q) = inr q
-      by (inr p) q = inr (omega (arith, y .rise-in-work))
+      by (inr p) q = inr (omega (arith, y .is-order .rise-in-work))
 
-  alike : {a b : ℕ} {first second whole : Run} → IsOrder j (startOn j m) a first → IsOrder j (first .machine) b second
-      → IsOrder j (startOn j m) (a + b) whole → EndsAlike first second whole
+  alike : {a b : ℕ} {first second whole : Run ℕ} → IsRun j (startOn j m) a first → IsRun j (first .machine) b second
+      → IsRun j (startOn j m) (a + b) whole → EndsAlike first second whole
   alike x y w =
       let two = in-two x y in
       let one = in-one w in
       let both = same two one in
       record {
-        picks-add = omega (arith, start-work, x .rise-in-work, y .rise-in-work, w .rise-in-work, both .0);
+        picks-add = omega (arith, start-work, x .is-order .rise-in-work, y .is-order .rise-in-work, w .is-order .rise-in-work, both .0);
         both-end = both .1;
         same-end = λ e. same-when-ended two one (both .1 ∙ e) e;
       }
 
-  after-order : (ks : List ℕ) (b : ℕ) → IsOrder j (played j (startOn j m) ks) b (run j (played j (startOn j m) ks) b)
+  after-order : (ks : List ℕ) (b : ℕ) → IsRun j (played j (startOn j m) ks) b (run j (played j (startOn j m) ks) b)
   after-order ks b = run-is-order j (played j (startOn j m) ks) (every-order-meets j accepted m ks .sized) (order-passes j accepted m ks) 0 b
 
-  from-start : (b : ℕ) → IsOrder j (startOn j m) b (run j (startOn j m) b)
+  from-start : (b : ℕ) → IsRun j (startOn j m) b (run j (startOn j m) b)
   unfolding playedOf
   from-start b = after-order [] b
 
@@ -152,5 +157,5 @@ pub same-end : SameEnd
 same-end j accepted m a b =
     let first = from-start j accepted m a in
     alike j accepted m first
-    (subst⁻¹ (λ (n : Machine). IsOrder j n b (run j n b)) (first .leads-here) (after-order j accepted m (first .order) b))
+    (subst⁻¹ (λ (n : Machine). IsRun j n b (run j n b)) (first .is-order .leads-here) (after-order j accepted m (first .is-order .order) b))
     (from-start j accepted m (a + b))

@@ -1,6 +1,7 @@
--- The budgeted run is an order of picks, so demand 3 speaks of every run; and a budget may be spent in two runs. `proofs/Runs.antt`,
--- `Budgets.antt` and `SameEnd.antt` prove it. What a run is, machine's Running says: `outcome` is what `Machine::run` hands back, and `runFrom`
--- the run inside it. A `Run` has the state, the picks carried out and the slot that it reaches next.
+-- A run along a course is an order of picks, whoever chooses them, so demand 3 speaks of every run: of the budgeted one and of a list. And a
+-- budget may be spent in two runs. `proofs/Courses.antt`, `Lists.antt`, `Runs.antt`, `Budgets.antt` and `SameEnd.antt` prove it.
+-- What a course is, machine's Courses says; Running has the budgeted run: `outcome` is what `Machine::run` hands back, and `runFrom` the run
+-- inside it, whose chooser `passes` keeps the slot that it reaches next. Listing has the list.
 use Prim.Native.Nat.{ℕ, _+_, _<_, _≤_}
 use mathlib.Core.Path.{_≡_}
 use mathlib.Core.Logic.{_⊎_}
@@ -8,25 +9,33 @@ use mathlib.Core.Bool.{true, false}
 use mathlib.Core.List.{List, _++_}
 use lib.ListN.{length}
 use Rattle.agreement.specs.Picks.{once}
+use Rattle.image.specs.Questions.{programNo}
 use Rattle.task.specs.Frames.{running, workLimit}
 use Rattle.machine.specs.declared.Machine.{Machine}
 use Rattle.machine.specs.declared.Outcome.{Outcome}
 use Rattle.machine.specs.Slots.{at, Sized}
 use Rattle.machine.specs.Ending.{jobEnded}
-use Rattle.machine.specs.Picking.{stateNo}
-use Rattle.machine.specs.Running.{Run, stops, runs, runFrom, outcome}
+use Rattle.machine.specs.Picking.{slotNo, stateNo}
+use Rattle.machine.specs.Courses.{over, turn, Chooser, Run, begun, follows}
+use Rattle.machine.specs.Running.{stops, passes, runs, runFrom, outcome}
+use Rattle.machine.specs.Listing.{listed, listFrom}
 use Rattle.orders.specs.Demand.{Job, Accepted, startOn, played, carriedOut, WhateverTheOrder}
 use Rattle.orders.specs.Shapes.{Meets}
 
--- ---- A run is an order. Of a job only its program and its call record count here, as in `played`
+-- ---- A course is an order. Of a job only its program and its call record count here, as in `played`
+
+-- What is asked of a chooser: in a state that meets the shape, for a program that was accepted, it may be a slot's turn only where that slot
+-- can be picked, that is, where questions 21 to 24 let it pass. Whatever the chooser keeps
+pub record Sound {C : Type 0} (cells : List ℕ) (next : Chooser C) : Type 0 where
+  pub turn-pickable : programNo cells ≡ 0 → (m : Machine) → Meets cells m → (c : C) (k : ℕ) (c′ : C) → next m c ≡ turn k c′ → slotNo m k ≡ 0
 
 -- a run that leaves the state m as it was
-pub record Untouched (m : Machine) (r : Run) : Type 0 where
+pub record Untouched {C : Type 0} (m : Machine) (r : Run C) : Type 0 where
   pub no-picks : r .picks ≡ 0
   pub same-state : r .machine ≡ m
 
 -- r is what a run of budget b from the state m has come to
-pub record IsOrder (j : Job) (m : Machine) (b : ℕ) (r : Run) : Type 0 where
+pub record IsOrder {C : Type 0} (j : Job) (m : Machine) (b : ℕ) (r : Run C) : Type 0 where
   -- the slots that it picks, one after the other: none of these picks is refused
   pub order : List ℕ
   pub leads-here : r .machine ≡ played j m order
@@ -36,18 +45,43 @@ pub record IsOrder (j : Job) (m : Machine) (b : ℕ) (r : Run) : Type 0 where
   pub rise-in-work : r .machine .work ≡ m .work + r .picks
   pub within-budget : r .picks ≤ b
   pub within-limit : m .work ≤ workLimit → r .machine .work ≤ workLimit
-  -- it answers spent only where it has carried out exactly the budget's picks, or the work stands at the limit
-  pub spent-when : jobEnded (r .machine) ≡ false → (r .picks ≡ b) ⊎ (workLimit ≤ r .machine .work)
   pub ended-before : jobEnded m ≡ true → Untouched m r
   pub no-budget : b ≡ 0 → Untouched m r
   -- so a later call does not refuse the state for its shape
   pub meets : Meets (j .cells) (r .machine)
 
+-- at most b picks more
+abbrev pub course : {C : Type 0} → Job → Chooser C → ℕ → Run C → Run C
+course j next b r = follows (j .cells) (j .words) next b r
+
+-- for every sound chooser, whatever it keeps at first, and every state that the questions up to 20 let pass, reached or not
+abbrev pub CourseIsOrder : Type 1
+CourseIsOrder =
+    (C : Type 0) (j : Job) (next : Chooser C) → Sound (j .cells) next → (m : Machine) → Sized m → stateNo (j .cells) (j .words) m ≡ 0
+    → (c : C) (b : ℕ) → IsOrder j m b (course j next b (begun m c))
+
+-- a run has carried out its budget's picks, or its chooser says that it is over: for every chooser, sound or not, and every state
+abbrev pub SpentOrOver : Type 1
+SpentOrOver =
+    (C : Type 0) (j : Job) (next : Chooser C) (m : Machine) (c : C) (b : ℕ)
+    → let r = course j next b (begun m c) in (r .picks ≡ b) ⊎ (next (r .machine) (r .kept) ≡ over)
+
+-- ---- The budgeted run
+
+abbrev pub PassesSound : Type 0
+PassesSound = (cells : List ℕ) → Sound cells passes
+
+-- r is what a budgeted run of budget b from the state m has come to
+pub record IsRun (j : Job) (m : Machine) (b : ℕ) (r : Run ℕ) : Type 0 where
+  pub is-order : IsOrder j m b r
+  -- it answers spent only where it has carried out exactly the budget's picks, or the work stands at the limit
+  pub spent-when : jobEnded (r .machine) ≡ false → (r .picks ≡ b) ⊎ (workLimit ≤ r .machine .work)
+
 -- for every state that the questions up to 20 let pass, reached or not, and every slot that the run may begin at
 abbrev pub RunIsOrder : Type 0
 RunIsOrder =
     (j : Job) (m : Machine) → Sized m → stateNo (j .cells) (j .words) m ≡ 0
-    → (k b : ℕ) → IsOrder j m b (runFrom (j .cells) (j .words) m k b)
+    → (k b : ℕ) → IsRun j m b (runFrom (j .cells) (j .words) m k b)
 
 -- what run answers after the order ks from the state m₀ that start handed back
 pub record RunAfter (j : Job) (m₀ : Machine) (ks : List ℕ) (o : Outcome) : Type 0 where
@@ -66,23 +100,40 @@ EveryRun =
     (j : Job) → Accepted j → (m : Machine) (ks : List ℕ) (b : ℕ)
     → RunAfter j (startOn j m) ks (outcome (j .cells) (j .words) (played j (startOn j m) ks) b)
 
+-- ---- The list
+
+abbrev pub ListedSound : Type 0
+ListedSound = (cells : List ℕ) → Sound cells listed
+
+-- As a course a list asks of each slot questions 21 to 24 only, `played` all of them. They come to the same state, from every state that the
+-- questions up to 20 let pass, reached or not
+abbrev pub ListIsPlayed : Type 0
+ListIsPlayed =
+    (j : Job) (m : Machine) → Sized m → stateNo (j .cells) (j .words) m ≡ 0
+    → (ks : List ℕ) → listFrom (j .cells) (j .words) m ks .machine ≡ played j m ks
+
 -- ---- A run of budget a + b, against one of budget a and then one of budget b
 
--- where the second goes on from the slot that the first reached, they are one run: in every state
+-- where the second goes on with what the first kept, they are one run: for every chooser, sound or not, and every state
+abbrev pub CoursesAdd : Type 1
+CoursesAdd =
+    (C : Type 0) (j : Job) (next : Chooser C) (a b : ℕ) (r : Run C) → course j next (a + b) r ≡ course j next b (course j next a r)
+
+-- so where a budgeted run goes on from the slot that the first reached
 abbrev pub RunsAdd : Type 0
 RunsAdd =
-    (j : Job) (a b : ℕ) (r : Run) → runs (j .cells) (j .words) (a + b) r ≡ runs (j .cells) (j .words) b (runs (j .cells) (j .words) a r)
+    (j : Job) (a b : ℕ) (r : Run ℕ) → runs (j .cells) (j .words) (a + b) r ≡ runs (j .cells) (j .words) b (runs (j .cells) (j .words) a r)
 
 -- the public run begins at slot 0
-abbrev pub run : Job → Machine → ℕ → Run
+abbrev pub run : Job → Machine → ℕ → Run ℕ
 run j m b = runFrom (j .cells) (j .words) m 0 b
 
 -- no running task is left in the pass, from the slot reached on: so always where that slot is P
-abbrev pub PassOver : Run → Type 0
-PassOver r = (i : ℕ) → r .slot ≤ i → i < r .machine .places → running (at (r .machine) i) ≡ false
+abbrev pub PassOver : Run ℕ → Type 0
+PassOver r = (i : ℕ) → r .kept ≤ i → i < r .machine .places → running (at (r .machine) i) ≡ false
 
 -- the two runs come to the one
-pub record AddsUp (first second whole : Run) : Type 0 where
+pub record AddsUp (first second whole : Run ℕ) : Type 0 where
   pub same-state : second .machine ≡ whole .machine
   pub picks-add : first .picks + second .picks ≡ whole .picks
 
@@ -95,7 +146,7 @@ BudgetsAdd =
     → AddsUp (run j m a) (run j (run j m a .machine) b) (run j m (a + b))
 
 -- the two runs may pick other slots than the one, and come to the same end
-pub record EndsAlike (first second whole : Run) : Type 0 where
+pub record EndsAlike (first second whole : Run ℕ) : Type 0 where
   pub picks-add : first .picks + second .picks ≡ whole .picks
   pub both-end : jobEnded (second .machine) ≡ jobEnded (whole .machine)
   -- then in the same state, whole

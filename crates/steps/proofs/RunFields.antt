@@ -2,7 +2,7 @@
 use mathlib.Core.Path.{_≡_, subst⁻¹}
 use mathlib.Core.Bool.{true, false}
 use mathlib.Core.List.{List}
-use Prim.Native.Nat.{ℕ, zero, suc, _<_}
+use Prim.Native.Nat.{ℕ, zero, suc, _+_, _<_}
 use native.Mathlib.Omega.{arith}
 use lib.Dec.{eqb, ltb}
 use lib.IntN.{ℤ}
@@ -15,7 +15,8 @@ use Rattle.machine.specs.Ending.{jobEnded}
 use Rattle.machine.specs.Shape.{shape}
 use Rattle.task.specs.Frames.{workLimit}
 use Rattle.machine.specs.Picking.{stateNo}
-use Rattle.machine.specs.Running.{Run, nextPick, stops, pickedAt, runs, runFrom, outcome}
+use Rattle.machine.specs.Courses.{Run, begun, pickedAt, follows}
+use Rattle.machine.specs.Running.{nextPick, stops, runs, runFrom, outcome}
 use Rattle.machine.proofs.Models.{Allowed}
 use Rattle.machine.proofs.ShapeLaws.{Fits, shape-allowed, shape-fits, fits-shape}
 use Rattle.machine.proofs.PickLaws.{issued-fits}
@@ -35,25 +36,25 @@ module _ {cells : List ℕ} {interval places : ℕ} (allowed : Allowed cells int
       let n = next-runs m k (r .0) (r .1) (r .2) in
       record { below = n .0; runs = n .1; below-limit = ltb-true (m .work) workLimit room }
 
-  abbrev LeavesFields : ℕ → Run → Type 0
+  abbrev LeavesFields : ℕ → Run ℕ → Type 0
   LeavesFields n r = InFields (runs cells words n r .machine)
 
-  stays : (n : ℕ) (r : Run) → InFields (r .machine) → stops (r .machine) ≡ true → LeavesFields n r
-  stays n r x t = subst⁻¹ (λ (e : Run). InFields (e .machine)) (rests cells words n r t) x
+  stays : (n : ℕ) (r : Run ℕ) → InFields (r .machine) → stops (r .machine) ≡ true → LeavesFields n r
+  stays n r x t = subst⁻¹ (λ (e : Run ℕ). InFields (e .machine)) (rests cells words n r t) x
 
-  runs-in-fields : (n : ℕ) (r : Run) → Fits cells interval places (r .machine) → InFields (r .machine) → LeavesFields n r
-  unfolding runs
+  runs-in-fields : (n : ℕ) (r : Run ℕ) → Fits cells interval places (r .machine) → InFields (r .machine) → LeavesFields n r
+  unfolding follows
   runs-in-fields zero r s x = x
   runs-in-fields (suc n) r s x =
       let m = r .machine in
-      let k = nextPick m (r .slot) in
+      let k = nextPick m (r .kept) in
       by-test (jobEnded m)
       (λ e. stays (suc n) r x (rw e))
       (λ e. by-test (ltb (m .work) workLimit)
-      (λ l. let a = next-ready m (r .slot) s e l in
+      (λ l. let a = next-ready m (r .kept) s e l in
       let below : k < places = omega (arith, a .below, s .its-places) in
-      subst⁻¹ (λ (e : Run). InFields (e .machine)) (picks-next cells words n r (rw (e, l)))
-      (runs-in-fields n (pickedAt cells words k r) (issued-fits allowed words m k s below (a .runs) (a .below-limit))
+      subst⁻¹ (λ (e : Run ℕ). InFields (e .machine)) (picks-next cells words n r (rw (e, l)))
+      (runs-in-fields n (pickedAt cells words k (k + 1) r) (issued-fits allowed words m k s below (a .runs) (a .below-limit))
       (issued-in-fields cells words m k fit x allowed s below (a .runs) (a .below-limit))))
       (λ l. stays (suc n) r x (rw (e, l))))
 
@@ -61,7 +62,7 @@ module _ (cells : List ℕ) (words : List ℤ) (m : Machine) where
   pub run-in-fields : (k budget : ℕ) → programNo cells ≡ 0 → shape (programOf cells) m ≡ true → IntegersInField words → InFields m
       → InFields (runFrom cells words m k budget .machine)
   run-in-fields k budget program shaped fit x =
-      runs-in-fields (shape-allowed cells m program shaped) words fit budget (record { machine = m; slot = k; picks = 0 })
+      runs-in-fields (shape-allowed cells m program shaped) words fit budget (begun m k)
       (shape-fits cells m (x .sized) shaped) x
 
   -- a refused run hands back the old state

@@ -18,7 +18,7 @@ use Rattle.machine.specs.Picking.{pickNo}
 use Rattle.machine.specs.Running.{runFrom, outcome}
 use Rattle.machine.proofs.PickLaws.{picked-issued}
 use Rattle.orders.specs.Demand.{Job, Accepted, startOn, played, ours}
-use Rattle.orders.specs.Runs.{IsOrder}
+use Rattle.orders.specs.Runs.{IsRun}
 use Rattle.orders.proofs.Demand.{demand-3}
 use Rattle.orders.proofs.Shapes.{every-order-meets}
 use Rattle.orders.proofs.Runs.{order-passes, answers, run-is-order, every-run}
@@ -71,7 +71,7 @@ each-pick-issues cells words m k = record {
 
 -- a run after an order
 pub run-of : (j : Job) → Accepted j → (m : Machine) (ks : List ℕ) (b : ℕ)
-    → IsOrder j (played j (startOn j m) ks) b (runFrom (j .cells) (j .words) (played j (startOn j m) ks) 0 b)
+    → IsRun j (played j (startOn j m) ks) b (runFrom (j .cells) (j .words) (played j (startOn j m) ks) 0 b)
 run-of j a m ks b = run-is-order j (played j (startOn j m) ks) (every-order-meets j a m ks .sized) (order-passes j a m ks) 0 b
 
 pub spent-when-due : SpentWhenDue outcome
@@ -80,7 +80,7 @@ spent-when-due j a m ks b =
     let o = run-of j a m ks b in
     rw (answers j here b (order-passes j a m ks)) (record {
       an-order = rw (answers j here b (order-passes j a m ks)) at (every-run j a m ks b);
-      within-budget = o .within-budget;
+      within-budget = o .is-order .within-budget;
       spent-when = o .spent-when;
     })
 

@@ -13,7 +13,7 @@ use Rattle.machine.specs.Ending.{jobEnded}
 use Rattle.task.specs.Frames.{workLimit}
 use Rattle.machine.specs.Running.{runFrom, outcome}
 use Rattle.orders.specs.Demand.{Job, startOn, playedOf, carriedOutOf, Agrees}
-use Rattle.orders.specs.Runs.{IsOrder}
+use Rattle.orders.specs.Runs.{IsRun}
 use Rattle.orders.proofs.Demand.{demand-3}
 use Rattle.orders.proofs.Runs.{order-passes, answers}
 use Rattle.teeth.specs.Demands.{SpentWhenDue}
@@ -28,7 +28,7 @@ module _ {j : Job} {end : End} {W span : ℕ} (x : Known j end W span) (m : Mach
   unfolding playedOf carriedOutOf
   start-work = demand-3 j (x .accepted) m [] .work-counted
 
-  pub from-start : (b : ℕ) → IsOrder j (startOn j m) b (runFrom (j .cells) (j .words) (startOn j m) 0 b)
+  pub from-start : (b : ℕ) → IsRun j (startOn j m) b (runFrom (j .cells) (j .words) (startOn j m) 0 b)
   unfolding playedOf
   from-start b = run-of j (x .accepted) m [] b
 
@@ -40,7 +40,7 @@ module _ {j : Job} {end : End} {W span : ℕ} (x : Known j end W span) (m : Mach
 
   run-agrees : (b : ℕ) → Agrees j (runFrom (j .cells) (j .words) (startOn j m) 0 b .machine) (x .frame) W
   run-agrees b =
-      let o = from-start b in
+      let o = from-start b .is-order in
       rw (o .leads-here) (demand-3 j (x .accepted) m (o .order) .where-it-ends (x .frame) W (x .ends))
 
   -- a budget of the whole work is enough
@@ -52,7 +52,7 @@ module _ {j : Job} {end : End} {W span : ℕ} (x : Known j end W span) (m : Mach
 
       by : (runFrom (j .cells) (j .words) (startOn j m) 0 b .picks ≡ b) ⊎ (workLimit ≤ r .work) → jobEnded r ≡ true
       by (inl p) =
-          run-agrees b .ended-when-equal (omega (arith, from-start b .rise-in-work, start-work, run-agrees b .work-never-above))
+          run-agrees b .ended-when-equal (omega (arith, from-start b .is-order .rise-in-work, start-work, run-agrees b .work-never-above))
       by (inr p) = run-agrees b .ended-when-equal (omega (arith, x .ends .within-limit, run-agrees b .work-never-above))
 
 -- ---- The wrong ones
@@ -79,8 +79,8 @@ unfolding playedOf
 spent-one-short due =
     let r = runFrom (F1 .cells) (F1 .words) (startOn F1 blank) 0 0 in
     let a = rw (said f1-known blank 0) at (due F1 (f1-known .accepted) blank [] 1) in
-    let none = from-start f1-known blank 0 .no-budget refl in
-    let rise = from-start f1-known blank 0 .rise-in-work in
+    let none = from-start f1-known blank 0 .is-order .no-budget refl in
+    let rise = from-start f1-known blank 0 .is-order .rise-in-work in
     let start = start-work f1-known blank in
     by-test (jobEnded (r .machine))
     (λ e. omega (arith, run-agrees f1-known blank 0 .equal-when-ended e, none .no-picks, rise, start))
