@@ -90,7 +90,13 @@ fn run_job(job: &[u8], cells: &[u64], words: &mut [i64], budget: u64) -> Report
     let places = input::places_of(job);
     let interval = input::interval_of(job);
     let fresh = machine::start::fresh_machine(places, interval as u16, &registers);
-    let driven = machine::drive::drive(cells, words, fresh, &machine::drive::NO_ORDER, machine::course::Course::Passes(0, budget));
+    let driven = machine::drive::drive(
+        cells,
+        words,
+        fresh,
+        &machine::drive::NO_ORDER,
+        machine::course::Course::Passes(0, budget),
+    );
     let last = driven.machine;
     report::report_of(last, driven.picks)
 }

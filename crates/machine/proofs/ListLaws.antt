@@ -55,15 +55,15 @@ pub ready-asked : (m : Machine) (k : ℕ) → k < m .places → jobEnded m ≡ f
 unfolding slotNo
 ready-asked m k b e r w = rw (lt-ltb k (m .places) b, e, r, lt-ltb (m .work) workLimit w)
 
-listed-skips : (m : Machine) (k : ℕ) (ks : List ℕ) → eqb (slotNo m k) 0 ≡ false → listed m (k ∷ ks) ≡ listed m ks
+pub listed-skips : (m : Machine) (k : ℕ) (ks : List ℕ) → eqb (slotNo m k) 0 ≡ false → listed m (k ∷ ks) ≡ listed m ks
 unfolding listed
 listed-skips m k ks e = rw (listed, e)
 
-listed-over : (m : Machine) → listed m [] ≡ over
+pub listed-over : (m : Machine) → listed m [] ≡ over
 unfolding listed
 listed-over m = refl
 
-listed-turn : (m : Machine) (k : ℕ) (ks : List ℕ) → eqb (slotNo m k) 0 ≡ true → listed m (k ∷ ks) ≡ turn k ks
+pub listed-turn : (m : Machine) (k : ℕ) (ks : List ℕ) → eqb (slotNo m k) 0 ≡ true → listed m (k ∷ ks) ≡ turn k ks
 unfolding listed
 listed-turn m k ks e = rw (listed, e)
 

@@ -168,7 +168,7 @@ module _ (g : Given) (allowed : GivenAllowed g) where
             then-turns = λ {m′} is. none-due g allowed 0 side refl below (on m′ is);
             less = less-on n 0 0 (ap (λ (o : Machine). o .work) written) (omega arith);
             grows = let more : n .work ≡ m .work + 1 = ap (λ (o : Machine). o .work) written in
-              (omega (arith, a .all-picks), omega (arith, goes {m = m} {p = p} (s .walks) .picks-left, a .until-most));
+                (omega (arith, a .all-picks), omega (arith, goes {m = m} {p = p} (s .walks) .picks-left, a .until-most));
           }
         where
           on : (m′ : Machine) → m′ ≡ moved plan n → At g m′ (to (k + half) 0 p)

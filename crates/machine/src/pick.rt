@@ -153,7 +153,13 @@ impl Machine {
         if no != 0 {
             return Answered { no, machine: self };
         }
-        let driven = drive::drive(cells, words, self, &drive::NO_ORDER, Course::Passes(slot as usize, 1));
+        let driven = drive::drive(
+            cells,
+            words,
+            self,
+            &drive::NO_ORDER,
+            Course::Passes(slot as usize, 1),
+        );
         let machine = driven.machine;
         Answered { no: 0, machine }
     }

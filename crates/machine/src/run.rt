@@ -22,7 +22,13 @@ impl Machine {
                 machine: self,
             };
         }
-        let driven = drive::drive(cells, words, self, &drive::NO_ORDER, Course::Passes(0, budget));
+        let driven = drive::drive(
+            cells,
+            words,
+            self,
+            &drive::NO_ORDER,
+            Course::Passes(0, budget),
+        );
         let machine = driven.machine;
         let ended = pick::has_ended(pick::end_of(machine));
         Outcome {

@@ -12,7 +12,7 @@ use Rattle.machine.specs.Courses.{Next, over, turn, Chooser, Run, begun, picked
 use Rattle.machine.specs.Running.{nextPick, stops, passes, runs}
 use Rattle.machine.proofs.CourseLaws.{stays, picks-turn}
 use Rattle.machine.proofs.Searching.{next-when-over}
-use Rattle.machine.proofs.Passing.{picks-next, rests}
+use Rattle.machine.proofs.Passing.{picks-next, run-rests}
 use Rattle.orders.specs.Runs.{CoursesAdd, RunsAdd, run, PassOver, AddsUp, BudgetsAdd}
 
 -- ---- with what the first kept
@@ -68,7 +68,7 @@ runs-add j = courses-add ℕ j passes
 module _ (cells : List ℕ) (words : List ℤ) where
   -- where it can pick no more
   adds-nothing : (b : ℕ) (r : Run ℕ) → stops (r .machine) ≡ true → AddsUp r (runs cells words b (begun (r .machine) 0)) (runs cells words b r)
-  adds-nothing b r t = rw (rests cells words b r t, rests cells words b (begun (r .machine) 0) t) (record { same-state = refl; picks-add = omega arith })
+  adds-nothing b r t = rw (run-rests cells words b r t, run-rests cells words b (begun (r .machine) 0) t) (record { same-state = refl; picks-add = omega arith })
 
   -- where it looks for the next pick from slot 0 on
   adds : (b : ℕ) (r : Run ℕ) → nextPick (r .machine) (r .kept) ≡ nextPick (r .machine) 0

@@ -13,6 +13,7 @@ use Rattle.machine.specs.Picking.{slotNo, picked, issued}
 use Rattle.machine.specs.Courses.{Next, over, turn, Chooser, Run, follows}
 use Rattle.machine.specs.Listing.{listed}
 use Rattle.machine.proofs.CourseLaws.{stays, picks-turn}
+use Rattle.machine.proofs.ListLaws.{listed-over, listed-turn, listed-skips}
 use Rattle.machine.proofs.PickLaws.{picked-issued}
 use Rattle.machine.proofs.Picked.{pick-refused}
 use Rattle.orders.specs.Demand.{Job, playedOf, played}
@@ -22,27 +23,13 @@ use Rattle.orders.proofs.Courses.{Passed, state-passed, state-meets, sl
 
 -- ---- its turns
 
-module _ (m : Machine) where
-  listed-none : listed m [] ≡ over
-  unfolding listed
-  listed-none = refl
-
-  listed-turn : (k : ℕ) (ks : List ℕ) → eqb (slotNo m k) 0 ≡ true → listed m (k ∷ ks) ≡ turn k ks
-  unfolding listed
-  listed-turn k ks t = rw (listed, t)
-
-  -- a slot that cannot be picked is passed over
-  listed-skips : (k : ℕ) (ks : List ℕ) → eqb (slotNo m k) 0 ≡ false → listed m (k ∷ ks) ≡ listed m ks
-  unfolding listed
-  listed-skips k ks t = rw (listed, t)
-
-  turn-pickable : (ks : List ℕ) (k : ℕ) (ls : List ℕ) → listed m ks ≡ turn k ls → slotNo m k ≡ 0
-  turn-pickable [] k ls e = no-turn (sym listed-none ∙ e)
-  turn-pickable (i ∷ is) k ls e = by-test (eqb (slotNo m i) 0)
-      (λ t. let z : turn i is ≡ turn k ls = sym (listed-turn i is t) ∙ e in
-      let same : i ≡ k = cc in
-      ap (slotNo m) (sym same) ∙ eqb-true (slotNo m i) 0 t)
-      (λ t. turn-pickable is k ls (sym (listed-skips i is t) ∙ e))
+turn-pickable : (m : Machine) (ks : List ℕ) (k : ℕ) (ls : List ℕ) → listed m ks ≡ turn k ls → slotNo m k ≡ 0
+turn-pickable m [] k ls e = no-turn (sym (listed-over m) ∙ e)
+turn-pickable m (i ∷ is) k ls e = by-test (eqb (slotNo m i) 0)
+    (λ t. let z : turn i is ≡ turn k ls = sym (listed-turn m i is t) ∙ e in
+    let same : i ≡ k = cc in
+    ap (slotNo m) (sym same) ∙ eqb-true (slotNo m i) 0 t)
+    (λ t. turn-pickable m is k ls (sym (listed-skips m i is t) ∙ e))
 
 pub listed-sound : ListedSound
 listed-sound cells = record { turn-pickable = λ program m x ks k ls e. turn-pickable m ks k ls e }
@@ -81,7 +68,7 @@ module _ (j : Job) (passed : Passed (j .cells) (j .words)) where
   pub list-played : (ks : List ℕ) (n picks : ℕ) (m : Machine) → Meets cells m → length ks ≤ n
       → course j listed n (reached m picks ks) .machine ≡ played j m ks
   unfolding playedOf
-  list-played [] n picks m x enough = same-state (stays cells words listed n (reached m picks []) (listed-none m))
+  list-played [] n picks m x enough = same-state (stays cells words listed n (reached m picks []) (listed-over m))
   list-played (k ∷ ks) zero picks m x enough = absurd (omega arith)
   list-played (k ∷ ks) (suc n) picks m x enough = by-test (eqb (slotNo m k) 0)
       (λ t. let can = eqb-true (slotNo m k) 0 t in

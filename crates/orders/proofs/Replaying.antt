@@ -1,34 +1,20 @@
--- An order that is carried out pick by pick.
-use mathlib.Core.Path.{_≡_, refl, sym, ap, _∙_}
-use mathlib.Core.Bool.{false}
-use mathlib.Core.List.{List, [], _∷_}
-use Prim.Native.Nat.{ℕ, suc, _+_, _<_, _≤_}
-use native.Mathlib.Omega.{arith}
-use native.Mathlib.Numerals.{add-one}
-use lib.IntN.{ℤ}
-use lib.ListN.{length, getD, drop, drop-of-length-le}
-use lib.Seq.{drop-cons}
+-- An order carried out from a fresh start.
+use mathlib.Core.Path.{_≡_, sym, ap, _∙_, subst⁻¹}
+use mathlib.Core.List.{List, []}
+use Prim.Native.Nat.{ℕ}
+use lib.ListN.{length}
 use borrow.Author.Tests.{ne-eqb}
 use Rattle.image.specs.Doors.{unlessRefused}
 use Rattle.machine.specs.declared.Machine.{Machine}
+use Rattle.machine.specs.Slots.{Sized}
 use Rattle.machine.specs.Starting.{startNo, started, empty}
-use Rattle.machine.specs.Picking.{picked}
-use Rattle.orders.specs.Demand.{Job, startOn, playedOf, played}
-use Rattle.orders.specs.Replay.{jobOf, replayed}
-
-module _ (j : Job) (first : Machine) (order : List ℕ) where
-  -- one pick more
-  pub plays-on : (m next : Machine) (i slot : ℕ) → played j first order ≡ played j m (drop i order) → i < length order → slot ≡ getD order i 0
-      → next ≡ picked (j .cells) (j .words) m slot → played j first order ≡ played j next (drop (i + 1) order)
-  unfolding playedOf
-  plays-on m next i slot e h s p =
-      e ∙ ap (played j m) (drop-cons order i 0 h) ∙ ap (λ (k : ℕ). played j (picked (j .cells) (j .words) m k) (drop (suc i) order)) (sym s)
-      ∙ ap (λ (n : Machine). played j n (drop (suc i) order)) (sym p) ∙ ap (λ (k : ℕ). played j next (drop k order)) (sym (add-one i))
-
-  -- all of them
-  pub played-out : (m : Machine) (i : ℕ) → played j first order ≡ played j m (drop i order) → length order ≤ i → m ≡ played j first order
-  unfolding playedOf
-  played-out m i e h = sym (e ∙ ap (played j m) (drop-of-length-le order {i = i} h))
+use Rattle.machine.specs.Picking.{stateNo}
+use Rattle.machine.specs.Listing.{listFrom}
+use Rattle.machine.proofs.Picked.{Passed, state-passes}
+use Rattle.orders.specs.Demand.{Job, Accepted, startOn, playedOf, played}
+use Rattle.orders.specs.Replay.{replayed}
+use Rattle.orders.proofs.Runs.{order-passes}
+use Rattle.orders.proofs.Lists.{list-is-played}
 
 -- a refused start hands back the blank state that it was called on
 pub refused-blank : (j : Job) (blank m : Machine) (order : List ℕ) (answer : ℕ) → blank ≡ empty 0 0 → answer ≡ startNo (j .cells) (j .places) (j .interval) (j .registers) (j .words)
@@ -36,3 +22,17 @@ pub refused-blank : (j : Job) (blank m : Machine) (order : List ℕ) (answer : �
 unfolding unlessRefused
 refused-blank j blank m order answer b n e h =
     e ∙ rw (← n, ne-eqb answer 0 h) b
+
+module _ (j : Job) (accepted : Accepted j) {m : Machine} (fresh : m ≡ startOn j (empty 0 0)) where
+  passes-all : stateNo (j .cells) (j .words) m ≡ 0
+  unfolding playedOf
+  passes-all = ap (stateNo (j .cells) (j .words)) fresh ∙ order-passes j accepted (empty 0 0) []
+
+  -- the questions up to 20 would all be answered with yes
+  pub fresh-passes : Passed (j .cells) (j .words) m
+  fresh-passes = state-passes (j .cells) (j .words) m passes-all
+
+  -- the order as a course comes to the order played
+  pub replay-plays : Sized m → (order : List ℕ) → listFrom (j .cells) (j .words) m order .machine ≡ replayed 0 j order
+  unfolding unlessRefused
+  replay-plays sized order = list-is-played j m sized passes-all order ∙ ap (λ (n : Machine). played j n order) fresh

@@ -21,7 +21,7 @@ use Rattle.machine.proofs.Models.{Allowed}
 use Rattle.machine.proofs.ShapeLaws.{Fits, shape-allowed, shape-fits, fits-shape}
 use Rattle.machine.proofs.PickLaws.{issued-fits}
 use Rattle.machine.proofs.Searching.{next-runs}
-use Rattle.machine.proofs.Passing.{rests, picks-next}
+use Rattle.machine.proofs.Passing.{run-rests, picks-next}
 use Rattle.machine.proofs.Picked.{Ready, state-passes}
 use Rattle.orders.proofs.Shapes.{every-shape}
 use Rattle.state.specs.Fields.{InFields}
@@ -40,7 +40,7 @@ module _ {cells : List ℕ} {interval places : ℕ} (allowed : Allowed cells int
   LeavesFields n r = InFields (runs cells words n r .machine)
 
   stays : (n : ℕ) (r : Run ℕ) → InFields (r .machine) → stops (r .machine) ≡ true → LeavesFields n r
-  stays n r x t = subst⁻¹ (λ (e : Run ℕ). InFields (e .machine)) (rests cells words n r t) x
+  stays n r x t = subst⁻¹ (λ (e : Run ℕ). InFields (e .machine)) (run-rests cells words n r t) x
 
   runs-in-fields : (n : ℕ) (r : Run ℕ) → Fits cells interval places (r .machine) → InFields (r .machine) → LeavesFields n r
   unfolding follows

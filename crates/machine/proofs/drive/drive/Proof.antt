@@ -426,36 +426,36 @@ planned-at : (c : Moving) → let h = head-of (c .before) in
     (place (c .if1 .k) (c .if1 .gone) (h .loop .until) (h .loop .reach) (h .loop .begun)) (c .if1 .due) (c .if1 .side)
 planned-at c = elim (c .if1 .came) [
   | inl t ↦
-    let j : Joining = record {
-      before = record {
-        before = record { before = record { before = record { before = c .before; if1 = t .0 }; own = t .1 }; first-slot = t .2 };
-        has-room = t .3;
-      };
-      if2 = t .4;
-    } in
-    let a : Asked = record { before = record { before = record { before = j; parent = t .5 }; child = t .6 }; both-ended = t .7 } in
-    let h = head-of (c .before) in
-    let m = h .loop .m in
-    let written = t .13 ∙ ap (λ (v : Task). tasksWith m (q-of j) (q-of j + w-of j) v (t .9 .result .task)) (t .11 .ensures) in
-    planned-as (place-of (c .before)) (t .14) (t .15) (t .16) (t .17)
-    (join-planned (given-of h) (allowed-of h) (turns-at (c .before)) (q-of j) (w-of j) (t .0 .taken) refl (t .2 .ensures .0)
-    (sides a ∙ not-false (t .7 .result) (t .8 .left)) (inside j .0) (inside j .1) (t .9 .ensures) (h .loop .inv .2, h .loop .inv .3) written (t .18 ∙ t .12 .ensures))
+      let j : Joining = record {
+        before = record {
+          before = record { before = record { before = record { before = c .before; if1 = t .0 }; own = t .1 }; first-slot = t .2 };
+          has-room = t .3;
+        };
+        if2 = t .4;
+      } in
+      let a : Asked = record { before = record { before = record { before = j; parent = t .5 }; child = t .6 }; both-ended = t .7 } in
+      let h = head-of (c .before) in
+      let m = h .loop .m in
+      let written = t .13 ∙ ap (λ (v : Task). tasksWith m (q-of j) (q-of j + w-of j) v (t .9 .result .task)) (t .11 .ensures) in
+      planned-as (place-of (c .before)) (t .14) (t .15) (t .16) (t .17)
+      (join-planned (given-of h) (allowed-of h) (turns-at (c .before)) (q-of j) (w-of j) (t .0 .taken) refl (t .2 .ensures .0)
+      (sides a ∙ not-false (t .7 .result) (t .8 .left)) (inside j .0) (inside j .1) (t .9 .ensures) (h .loop .inv .2, h .loop .inv .3) written (t .18 ∙ t .12 .ensures))
   | inr s ↦ elim s [
     | inl t ↦
-      let w : Walk = record { before = record { before = record { before = c .before; if1 = t .0 }; go = t .1 }; loop2 = t .2 } in
-      let x : Halting = record { before = record { before = record { before = w; walks-on = t .3 }; if4 = t .4 }; if8 = t .5 } in
-      let h = head-of (c .before) in
-      planned-as (place-w w) (t .15) (t .16) (t .17 ∙ none-due-w w) (t .18)
-      (planned-below (omega (arith, w .loop2 .inv .0 .shorter, none-due-w w))
-      (fork-planned (given-of h) (allowed-of h) (at-w w) (stopped-at x) (t .9 .given .0 .0) (t .9 .given .1) (t .11 .ensures) (t .12 .ensures) (t .14)
-      (t .19 ∙ t .13 .ensures) (h .loop .side) (turns-at (c .before) .side-below)))
+        let w : Walk = record { before = record { before = record { before = c .before; if1 = t .0 }; go = t .1 }; loop2 = t .2 } in
+        let x : Halting = record { before = record { before = record { before = w; walks-on = t .3 }; if4 = t .4 }; if8 = t .5 } in
+        let h = head-of (c .before) in
+        planned-as (place-w w) (t .15) (t .16) (t .17 ∙ none-due-w w) (t .18)
+        (planned-below (omega (arith, w .loop2 .inv .0 .shorter, none-due-w w))
+        (fork-planned (given-of h) (allowed-of h) (at-w w) (stopped-at x) (t .9 .given .0 .0) (t .9 .given .1) (t .11 .ensures) (t .12 .ensures) (t .14)
+        (t .19 ∙ t .13 .ensures) (h .loop .side) (turns-at (c .before) .side-below)))
     | inr t ↦
-      let w : Walk = record { before = record { before = record { before = c .before; if1 = t .0 }; go = t .1 }; loop2 = t .2 } in
-      let x : Halting = record { before = record { before = record { before = w; walks-on = t .3 }; if4 = t .4 }; if8 = t .5 } in
-      let h = head-of (c .before) in
-      planned-as (place-w w) (t .13 ∙ t .11 .ensures) (t .14) (t .15) (t .16)
-      (planned-below (omega (arith, w .loop2 .inv .0 .shorter, none-due-w w))
-      (end-planned (given-of h) (allowed-of h) (at-w w) (stopped-at x) (t .8 .keys2) (t .9 .ensures) (t .12) (t .17 ∙ t .10 .ensures)))
+        let w : Walk = record { before = record { before = record { before = c .before; if1 = t .0 }; go = t .1 }; loop2 = t .2 } in
+        let x : Halting = record { before = record { before = record { before = w; walks-on = t .3 }; if4 = t .4 }; if8 = t .5 } in
+        let h = head-of (c .before) in
+        planned-as (place-w w) (t .13 ∙ t .11 .ensures) (t .14) (t .15) (t .16)
+        (planned-below (omega (arith, w .loop2 .inv .0 .shorter, none-due-w w))
+        (end-planned (given-of h) (allowed-of h) (at-w w) (stopped-at x) (t .8 .keys2) (t .9 .ensures) (t .12) (t .17 ∙ t .10 .ensures)))
   ]
 ]
 
