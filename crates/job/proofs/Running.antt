@@ -15,9 +15,11 @@ use Rattle.machine.specs.declared.Machine.{Machine}
 use Rattle.machine.specs.declared.Driven.{Driven}
 use Rattle.machine.specs.Starting.{fresh, empty}
 use Rattle.machine.specs.Shape.{shape}
-use Rattle.machine.specs.Running.{driven}
+use Rattle.machine.specs.declared.course.Course.the-variants.{Passes}
+use Rattle.machine.specs.Driving.{startsIn, driven}
 use Rattle.machine.proofs.Intervals.{interval-fits}
 use Rattle.machine.proofs.Owning.{places-some}
+use Rattle.machine.proofs.Picked.{starts-in}
 use Rattle.machine.proofs.ShapeLaws.{Fits, fits-shape}
 use Rattle.machine.proofs.StartLaws.{StartAccepted, start-accepted, started-fresh, fresh-fits}
 use Rattle.orders.specs.Demand.{Job, startOn}
@@ -45,20 +47,20 @@ module _ (bytes : List ℕ) (accepted : jobNo bytes ≡ 0) where
     its-state = e ∙ (λ i. fresh (q i) (r i) (s i))
 
     -- what the loop asks of a fresh start
-    pub fresh-ready : (programNo cells ≡ 0) × (length cells ≡ programCells) × (shape (programOf cells) m ≡ true) × (0 < m .places)
-    fresh-ready =
+    pub fresh-ready : (budget : ℕ) → (programNo cells ≡ 0) × (length cells ≡ programCells) × (shape (programOf cells) m ≡ true) × (startsIn (Passes 0 budget) m ≡ true)
+    fresh-ready budget =
         let x : Fits (j .cells) (j .interval) (j .places) m = subst⁻¹ (Fits (j .cells) (j .interval) (j .places)) its-state (fresh-fits start) in (
           ap programNo p ∙ start .allowed .program,
           ap length p ∙ eqb-true (length (j .cells)) programCells (start .lent .whole),
           ap (λ (c : List ℕ). shape (programOf c) m) p ∙ fits-shape (start .allowed) m x,
-          omega (arith, x .its-places, places-some (j .places) (start .allowed .places-allowed)),
+          starts-in m 0 budget (omega (arith, x .its-places, places-some (j .places) (start .allowed .places-allowed))),
         )
 
-    pub run-agrees : {words : List ℤ} (t : words ≡ jobWords bytes) (budget : ℕ) {d : Driven} {report : Report} → d ≡ driven cells words m 0 budget
+    pub run-agrees : {words : List ℤ} (t : words ≡ jobWords bytes) (order : List ℕ) (budget : ℕ) {d : Driven} {report : Report} → d ≡ driven cells words m order (Passes 0 budget)
         → report ≡ reportOf (d .machine) (d .picks) → report ≡ reportIn bytes budget
-    run-agrees t budget f g =
+    run-agrees t order budget f g =
         let first : m ≡ startOn j (empty 0 0) = its-state ∙ sym (started-fresh (empty 0 0) (j .cells) (j .places) (j .interval) (j .registers) (j .words) (start-agrees bytes accepted)) in
-        g ∙ ap (λ (o : Driven). reportOf (o .machine) (o .picks)) (f ∙ (λ i. driven (p i) (t i) (first i) 0 budget))
+        g ∙ ap (λ (o : Driven). reportOf (o .machine) (o .picks)) (f ∙ (λ i. driven (p i) (t i) (first i) order (Passes 0 budget)))
 
 -- ---- the text
 

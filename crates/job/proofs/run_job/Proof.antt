@@ -1,5 +1,6 @@
 -- `run_job` meets its contract.
 use mathlib.Core.Path.{refl, sym, subst⁻¹}
+use mathlib.Core.List.{[], _∷_}
 use Rattle.job.proofs.Replaying.{accepted-ends}
 use Rattle.job.proofs.Running.{interval-small, fresh-ready, run-agrees}
 use borrow.Author.Needs.{needs}
@@ -33,13 +34,17 @@ slice-aggregate-fresh-machine c = search needs
 fresh-machine-requires : tie.Need-fresh-machine-requires
 fresh-machine-requires c κs = search needs
 
+slice-aggregate-drive : tie.Need-slice-aggregate-drive
+slice-aggregate-drive c = search needs
+
 drive-requires : tie.Need-drive-requires
 drive-requires c κs =
-    let c3 = c .before .before .before in
-    let c4 = c3 .before in
-    let c9 = c4 .before .before .before .before .before in
-    let c13 = c9 .before .before .before .before in
-    fresh-ready (c13 .args .job .now) (c13 .pre .0) (c13 .pre .1) (c4 .places-of .ensures) (c3 .interval-of .ensures) (c9 .read-registers .ensures) (c .before .fresh-machine .ensures)
+    let f = c .before .before in
+    let i = f .before .before in
+    let r = i .before .before .before .before .before .before in
+    let start = r .before .before .before .before in
+    fresh-ready (start .args .job .now) (start .pre .0) (start .pre .1) (i .before .places-of .ensures) (i .interval-of .ensures) (r .read-registers .ensures)
+    (f .fresh-machine .ensures) (start .args .budget)
 
 report-of-requires : tie.Need-report-of-requires
 report-of-requires c κs = search needs
@@ -49,13 +54,14 @@ same-length c = search needs
 
 returns : tie.Need-returns
 returns c =
-    let c4 = c .before .before .before .before in
-    let c6 = c4 .before .before in
-    let c7 = c6 .before in
-    let c9 = c7 .before .before in
-    let c12 = c9 .before .before .before in
-    let c16 = c12 .before .before .before .before in
-    run-agrees (c16 .args .job .now) (c16 .pre .0) (c16 .pre .1) (c7 .places-of .ensures) (c6 .interval-of .ensures) (c12 .read-registers .ensures) (c4 .fresh-machine .ensures) (c9 .read-words .ensures) (c16 .args .budget) (c .before .before .drive .ensures) (c .report-of .ensures)
+    let d = c .before .before in
+    let f = d .before .before .before in
+    let i = f .before .before in
+    let w = i .before .before .before in
+    let r = w .before .before .before in
+    let start = r .before .before .before .before in
+    run-agrees (start .args .job .now) (start .pre .0) (start .pre .1) (i .before .places-of .ensures) (i .interval-of .ensures) (r .read-registers .ensures)
+    (f .fresh-machine .ensures) (w .read-words .ensures) (0 ∷ []) (start .args .budget) (d .drive .ensures) (c .report-of .ensures)
 
 pub run-job-spec : {M : Type 1} → statement M
 run-job-spec =
@@ -69,6 +75,7 @@ run-job-spec =
     cast-fresh-machine
     slice-aggregate-fresh-machine
     fresh-machine-requires
+    slice-aggregate-drive
     drive-requires
     report-of-requires
     same-length

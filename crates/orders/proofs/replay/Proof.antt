@@ -38,8 +38,11 @@ returns c =
     let s = c .before .before in
     let a = start-of s .args in (
       s .start .ensures .0,
-      (refused-blank (job-of (start-of s)) (s .before .blank .result) (s .start .result .machine) (a .order .now) (s .start .result .no) (s .before .blank .ensures)
-      (s .start .ensures .0) (s .start .ensures .1) (c .if1 .taken), λ e. absurd (c .if1 .taken e)),
+      (
+        refused-blank (job-of (start-of s)) (s .before .blank .result) (s .start .result .machine) (a .order .now) (s .start .result .no) (s .before .blank .ensures)
+            (s .start .ensures .0) (s .start .ensures .1) (c .if1 .taken),
+        λ e. absurd (c .if1 .taken e),
+      ),
     )
 
 accepted-at : (c : tie.Else1) → Accepted (job-of (start-of (c .before .before)))
@@ -58,8 +61,10 @@ returns-2 c =
     let j = job-of (start-of s) in
     let order = start-of s .args .order .now in (
       sym (accepted-at e),
-      (ap (λ (d : Driven). d .machine) (c .before .drive .ensures) ∙ replay-plays j (accepted-at e) (fresh-at s) (sized-at s) order,
-      λ z. demand-3 j (accepted-at e) (empty 0 0) order),
+      (
+        ap (λ (d : Driven). d .machine) (c .before .drive .ensures) ∙ replay-plays j (accepted-at e) (fresh-at s) (sized-at s) order,
+        λ z. demand-3 j (accepted-at e) (empty 0 0) order,
+      ),
     )
 
 pub replay-spec : {M : Type 1} → statement M
