@@ -60,12 +60,14 @@ pub fn end_moves(k: usize, kind: Kind) -> Moves
 pub fn join_moves(parent: usize, child: usize, pairs: u64, packed: u64, faulted: bool) -> Moves
     ensures { λ r. ⌜ r ≡ joinMoves parent child pairs packed faulted ⌝ }
 {
-    let mut n = no_moves();
-    n.from = child;
-    n.to = parent;
-    n.pairs = pairs;
-    n.packed = packed;
-    n.clears = 1;
+    let mut n = Moves {
+        from: child,
+        to: parent,
+        pairs,
+        packed,
+        clears: 1,
+        whole: 0,
+    };
     if faulted {
         n.whole = 1;
     }
