@@ -37,7 +37,7 @@ use Rattle.task.proofs.Executing.{after, parentSide, childSide, madeBy, made, s
 use Rattle.machine.specs.declared.Machine.{Machine}
 use Rattle.machine.specs.Slots.{at, put, ticked, slotsOf}
 use Rattle.machine.specs.Picking.{issued}
-use Rattle.machine.specs.Driving.{runsOn, storesIt, statusOf}
+use Rattle.machine.specs.Driving.{runsOn, storesIt, statusOf, sideOf}
 use Rattle.machine.specs.Moving.{faults, forkMoves, endMoves}
 use Rattle.machine.proofs.Copying.{filling}
 use Rattle.machine.proofs.PlanLaws.{moved, fork-moved, end-moved}
@@ -143,52 +143,39 @@ module _ {cells : List ℕ} {words : List ℤ} {m : Machine} {k : ℕ} {x : Inst
 
   -- ---- it has forked
 
-  -- a side of the fork, at this instruction and with this counter, where `opened` are its open forks
-  abbrev pub sideAt : List Fork → ℕ → ℕ → Task
-  sideAt opened pc counter = record {
-    status = Running;
-    places = f .task .places / 2;
-    pc = pc;
-    counter = counter;
-    span = f .task .span + 1;
-    depth = f .task .depth + 1;
-    forks = opened;
-  }
-
   -- both sides' records
-  abbrev pub forkedAt : List Fork → ℕ → Machine
-  forkedAt opened pc = record {
+  abbrev pub forkedAt : Fork → ℕ → Machine
+  forkedAt under pc = record {
     places = m .places;
     interval = m .interval;
     work = m .work + 1;
     bank = m .bank;
-    tasks = set (set (m .tasks) k (sideAt opened (e .pc) (e .counter))) (k + f .task .places / 2) (sideAt opened pc 0);
+    tasks = set (set (m .tasks) k (sideOf (f .task) under (e .pc) (e .counter))) (k + f .task .places / 2) (movedTo pc 0 (sideOf (f .task) under (e .pc) (e .counter)));
   }
 
   -- these written and the moves made
-  pub forks-issued : (pc : ℕ) {under : Fork} {opened : List Fork} → e .kind ≡ Forks pc → under ≡ recordOf (e .value) → opened ≡ set (f .task .forks) (f .task .depth) under
-      → moved (forkMoves k (k + f .task .places / 2)) (forkedAt opened pc) ≡ issued cells words m k
-  forks-issued pc {under} {opened} h is opens =
+  pub forks-issued : (pc : ℕ) {under : Fork} → e .kind ≡ Forks pc → under ≡ recordOf (e .value)
+      → moved (forkMoves k (k + f .task .places / 2)) (forkedAt under pc) ≡ issued cells words m k
+  forks-issued pc {under} h is =
       let half = f .task .places / 2 in
-      let more : opened ≡ set (f .task .forks) (f .task .depth) (recordOf (e .value)) = opens ∙ ap (set (f .task .forks) (f .task .depth)) is in
       let on : Running ≡ f .task .status = sym (running-is (f .task .status) runs) in
-      let parent : sideAt opened (e .pc) (e .counter) ≡ parentSide e (f .task) = λ i. side-by (on i) (more i) (e .pc) (e .counter) in
-      let child : sideAt opened pc 0 ≡ childSide pc e (f .task) = λ i. side-by (on i) (more i) pc 0 in
-      fork-moved (forkedAt opened pc) k (k + half)
-      ∙ ap (λ (o : Machine). ticked (put o (k + half) (withTask (sideAt opened pc 0) f))) (sym (put-task m k (sideAt opened (e .pc) (e .counter))))
-      ∙ ap₂ (λ (p c : Task). ticked (put (put m k (withTask p f)) (k + half) (withTask c f))) parent child
+      let parent : sideOf (f .task) under (e .pc) (e .counter) ≡ parentSide e (f .task) = λ i. side-by (on i) (is i) in
+      fork-moved (forkedAt under pc) k (k + half)
+      ∙ ap (λ (o : Machine). ticked (put o (k + half) (withTask (movedTo pc 0 (sideOf (f .task) under (e .pc) (e .counter))) f)))
+      (sym (put-task m k (sideOf (f .task) under (e .pc) (e .counter))))
+      ∙ ap (λ (p : Task). ticked (put (put m k (withTask p f)) (k + half) (withTask (movedTo pc 0 p) f))) parent
       ∙ ap ticked (sym (carry-two (slotsOf (programOf cells)) (step (programOf cells) words (chosen (m .interval))) m k
       (withTask (parentSide e (f .task)) f) (withTask (childSide pc e (f .task)) f) (steps-by (Forks pc) h)))
     where
-      side-by : Status → List Fork → ℕ → ℕ → Task
-      side-by s l pc counter = record {
+      side-by : Status → Fork → Task
+      side-by s u = record {
         status = s;
         places = f .task .places / 2;
-        pc = pc;
-        counter = counter;
+        pc = e .pc;
+        counter = e .counter;
         span = f .task .span + 1;
         depth = f .task .depth + 1;
-        forks = l;
+        forks = set (f .task .forks) (f .task .depth) u;
       }
 
   -- there is room for an open fork more, and each side gets a place

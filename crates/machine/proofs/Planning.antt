@@ -131,12 +131,12 @@ module _ (g : Given) (allowed : GivenAllowed g) where
     less-on : (n : Machine) (slot o : ℕ) → n .work ≡ m .work + 1 → o ≤ 6 → ahead g n (to slot 0 p) o < ahead g m p 0
     less-on n slot o more few = let x = goes {m = m} {p = p} (s .walks) in omega (arith, x .picks-left, x .places-left, a .reach-most)
 
-    pub end-planned : OneOf (0 ∷ 1 ∷ 2 ∷ 3 ∷ 4 ∷ []) (tagOf the-type (e .kind)) → {status : Status} → status ≡ statusOf (e .kind)
-        → {n : Machine} → n ≡ ticked (withTaskAt m k (ended status (counted (at m k .task)))) → {plan : Moves} → plan ≡ endMoves k (e .kind)
+    pub end-planned : OneOf (0 ∷ 1 ∷ 2 ∷ 3 ∷ 4 ∷ []) (tagOf the-type (e .kind)) → {t : Task} → t ≡ ended (statusOf (e .kind)) (counted (at m k .task))
+        → {n : Machine} → n ≡ ticked (withTaskAt m k t) → {plan : Moves} → plan ≡ endMoves k (e .kind)
         → Planned g (ahead g m p 0) n plan (pickedBehind m (at m k .task .places) p) (at m k .task .depth) k
-    end-planned no-fork {status} st {n} written {plan} planned =
+    end-planned no-fork {t} is-ended {n} written {plan} planned =
         let step-is = ends-steps allowed-there fits-there (a .slot-below) (s .runs-there) (s .fetched) (s .stops-it) no-fork in
-        let put-is = end-put allowed-there fits-there (a .slot-below) (s .runs-there) (s .fetched) (ap (λ (o : Status). ended o (counted (at m k .task))) st) in
+        let put-is = end-put allowed-there fits-there (a .slot-below) (s .runs-there) (s .fetched) is-ended in
         let deep = fits-safe allowed m (a .fits) k .depth-fits in
         record {
           plan-fits = rw planned (end-fits k (e .kind) here);
@@ -157,11 +157,11 @@ module _ (g : Given) (allowed : GivenAllowed g) where
           let t = tile g allowed a (s .runs-there) in
           (omega (arith, r .1), omega (arith, r .1, t .inside), r .0)
 
-      pub fork-planned : {under : Fork} {opened : List Fork} → under ≡ recordOf (e .value) → opened ≡ set (at m k .task .forks) (at m k .task .depth) under
-          → {n : Machine} → n ≡ forkedAt allowed-there fits-there (a .slot-below) (s .runs-there) (s .fetched) opened pc
+      pub fork-planned : {under : Fork} → under ≡ recordOf (e .value)
+          → {n : Machine} → n ≡ forkedAt allowed-there fits-there (a .slot-below) (s .runs-there) (s .fetched) under pc
           → {plan : Moves} → plan ≡ forkMoves k (k + half) → (side : ℕ) → side < 64
           → Planned g (ahead g m p 0) n plan (to (k + half) 0 p) 0 side
-      fork-planned {under} {opened} is-under opens {n} written {plan} planned side below =
+      fork-planned {under} is-under {n} written {plan} planned side below =
           let r = fork-room in
           record {
             plan-fits = rw planned (fork-fits k (k + half) (omega (arith, r .0)) (omega (arith, r .1, places-few)));
@@ -174,10 +174,10 @@ module _ (g : Given) (allowed : GivenAllowed g) where
           on : (m′ : Machine) → m′ ≡ moved plan n → At g m′ (to (k + half) 0 p)
           on m′ is =
               let issued-is = is ∙ ap₂ moved planned written
-              ∙ forks-issued allowed-there fits-there (a .slot-below) (s .runs-there) (s .fetched) pc kind-is is-under opens in
+              ∙ forks-issued allowed-there fits-there (a .slot-below) (s .runs-there) (s .fetched) pc kind-is is-under in
               let r = fork-room in
               let l = m .tasks in
-              let f = forkedAt allowed-there fits-there (a .slot-below) (s .runs-there) (s .fetched) opened pc in
+              let f = forkedAt allowed-there fits-there (a .slot-below) (s .runs-there) (s .fetched) under pc in
               let kept : m′ .tasks ≡ f .tasks = ap (λ (o : Machine). o .tasks) is ∙ moved-tasks plan n ∙ ap (λ (o : Machine). o .tasks) written in
               let mine : getD (m′ .tasks) k noTask ≡ _ = ap (λ (l : List Task). getD l k noTask) kept
               ∙ getD-set-other (set l k _) (k + half) k _ noTask (λ z. absurd (omega (arith, r .0)))

@@ -2,14 +2,16 @@
 -- run of its course is proved.
 use mathlib.Core.Bool.{Bool, true, false, cond, not, _&&_}
 use mathlib.Core.List.{List, [], _∷_}
-use Prim.Native.Nat.{ℕ, _+_, _-_}
+use Prim.Native.Nat.{ℕ, _+_, _-_, _/_}
 use lib.Dec.{eqb, ltb, leb}
 use lib.IntN.{ℤ}
-use lib.ListN.{drop}
+use lib.ListN.{drop, set}
 use Rattle.task.specs.declared.Kind.{Kind}
 use Rattle.task.specs.declared.Kind.the-variants.{Stores, Goes, Waits, Halts, Faults, Forks}
 use Rattle.task.specs.declared.Status.{Status}
 use Rattle.task.specs.declared.Status.the-variants.{Running, Waiting, Halted, Faulted}
+use Rattle.task.specs.declared.Fork.{Fork}
+use Rattle.task.specs.declared.Task.{Task}
 use Rattle.task.specs.Frames.{workLimit}
 use Rattle.machine.specs.declared.Machine.{Machine}
 use Rattle.machine.specs.declared.Driven.{Driven}
@@ -92,6 +94,18 @@ statusOf Waits = Waiting
 statusOf Halts = Halted
 statusOf (Faults n) = Faulted n
 statusOf (Forks pc) = Running
+
+-- the parent's side of a fork
+abbrev pub sideOf : Task → Fork → ℕ → ℕ → Task
+sideOf t under pc counter = record {
+  status = Running;
+  places = t .places / 2;
+  pc = pc;
+  counter = counter;
+  span = t .span + 1;
+  depth = t .depth + 1;
+  forks = set (t .forks) (t .depth) under;
+}
 
 -- ---- What the loop leaves
 

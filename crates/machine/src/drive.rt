@@ -12,8 +12,6 @@ use crate::records;
 use crate::slots;
 use task::Active;
 use task::Kind;
-use task::Status;
-use task::Task;
 use task::running::is_running;
 ghost use mathlib.Core.Path.{_≡_};
 ghost use mathlib.Core.Bool.{true};
@@ -77,10 +75,10 @@ pub fn drive(cells: &[u64], words: &[i64], machine: Machine, order: &[u8], cours
                 let status = record.status;
                 if is_running(status) {
                     let active = Active {
-                        places: m.tasks[k].places,
-                        pc: m.tasks[k].pc,
-                        counter: m.tasks[k].counter,
-                        depth: m.tasks[k].depth,
+                        places: record.places,
+                        pc: record.pc,
+                        counter: record.counter,
+                        depth: record.depth,
                     };
                     let forks = record.forks;
                     let x = image::layout::instruction_of(cells, active.pc as usize);
@@ -134,54 +132,24 @@ pub fn drive(cells: &[u64], words: &[i64], machine: Machine, order: &[u8], cours
                 continue;
             }
             // the pick that stopped it
-            let places = m.tasks[k].places;
-            let span = m.tasks[k].span + 1;
-            let depth = m.tasks[k].depth;
             let record = m.tasks[k];
-            let forks = record.forks;
             m.work = m.work + 1;
             gone = 0;
             let kind = e.kind;
             if let Kind::Forks(pc) = kind {
                 let value = e.value;
-                let more = records::opened(forks, depth, records::record_of(value));
-                let half = places / 2;
-                let c = k + (half as usize);
-                m.tasks[k] = Task {
-                    status: Status::Running,
-                    places: half,
-                    pc: e.pc,
-                    counter: e.counter,
-                    span,
-                    depth: depth + 1,
-                    forks: more,
-                };
-                m.tasks[c] = Task {
-                    status: Status::Running,
-                    places: half,
-                    pc,
-                    counter: 0,
-                    span,
-                    depth: depth + 1,
-                    forks: more,
-                };
+                let parent = records::side_task(record, records::record_of(value), e.pc, e.counter);
+                let c = k + (parent.places as usize);
+                m.tasks[k] = parent;
+                m.tasks[c] = records::begun_at(parent, pc);
                 plan = moves::fork_moves(k, c);
                 k = c;
             } else {
-                let status = records::status_of(kind);
-                m.tasks[k] = Task {
-                    status,
-                    places,
-                    pc: 0,
-                    counter: 0,
-                    span,
-                    depth,
-                    forks,
-                };
+                m.tasks[k] = records::ended_task(record, kind);
                 plan = moves::end_moves(k, kind);
-                due = depth;
+                due = record.depth;
                 side = k;
-                k = course::behind_slot(m.places, k, places);
+                k = course::behind_slot(m.places, k, record.places);
             }
         }
         let from = plan.from;

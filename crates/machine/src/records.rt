@@ -6,11 +6,10 @@ use task::Task;
 use task::Value;
 ghost use mathlib.Core.Path.{_≡_};
 ghost use Prim.Native.Nat.{_<_};
-ghost use lib.ListN.{set};
 ghost use Rattle.task.specs.Frames.{workLimit};
 ghost use Rattle.task.specs.Values.{recordOf};
 ghost use Rattle.task.specs.Step.{counted, movedTo, ended};
-ghost use Rattle.machine.specs.Driving.{runsOn, storesIt, statusOf};
+ghost use Rattle.machine.specs.Driving.{runsOn, storesIt, statusOf, sideOf};
 
 // Whether the task runs on alone.
 pub fn runs_on(kind: Kind) -> bool
@@ -40,7 +39,7 @@ pub fn does_store(kind: Kind) -> bool
 }
 
 // The status of a task that an instruction has ended.
-pub fn status_of(kind: Kind) -> Status
+fn status_of(kind: Kind) -> Status
     ensures { λ r. ⌜ r ≡ statusOf kind ⌝ }
 {
     match kind {
@@ -65,17 +64,6 @@ pub fn ran_on(t: Task, pc: u16, counter: u32) -> Task
     n
 }
 
-// The open forks of both sides of a fork. An instruction that forks leaves room for an open fork more.
-pub fn opened(forks: [Fork; 6], depth: u32, under: Fork) -> [Fork; 6]
-    requires { ⌜ depth < 6 ⌝ }
-    ensures { λ r. ⌜ r ≡ set forks depth under ⌝ }
-{
-    let mut n = forks;
-    let at = depth as usize;
-    n[at] = under;
-    n
-}
-
 // The record that a fork is opened under.
 pub fn record_of(v: Value) -> Fork
     ensures { λ r. ⌜ r ≡ recordOf v ⌝ }
@@ -94,4 +82,52 @@ pub fn record_of(v: Value) -> Fork
             depth,
         },
     }
+}
+
+// A task whose side an instruction has ended. The caller has found the work below its limit.
+pub fn ended_task(t: Task, kind: Kind) -> Task
+    requires { ⌜ t .span < workLimit ⌝ }
+    ensures { λ r. ⌜ r ≡ ended (statusOf kind) (counted t) ⌝ }
+{
+    let status = status_of(kind);
+    let forks = t.forks;
+    Task {
+        status,
+        places: t.places,
+        pc: 0,
+        counter: 0,
+        span: t.span + 1,
+        depth: t.depth,
+        forks,
+    }
+}
+
+// The parent's side of a fork of a running task, opened under this record. The caller has found the work below its limit, and an instruction
+// that forks leaves room for an open fork more.
+pub fn side_task(t: Task, under: Fork, pc: u16, counter: u32) -> Task
+    requires { ⌜ (t .span < workLimit) × (t .depth < 6) ⌝ }
+    ensures { λ r. ⌜ r ≡ sideOf t under pc counter ⌝ }
+{
+    let mut forks = t.forks;
+    let at = t.depth as usize;
+    forks[at] = under;
+    Task {
+        status: Status::Running,
+        places: t.places / 2,
+        pc,
+        counter,
+        span: t.span + 1,
+        depth: t.depth + 1,
+        forks,
+    }
+}
+
+// The child's side: the same, at its own first instruction and with counter 0.
+pub fn begun_at(parent: Task, pc: u16) -> Task
+    ensures { λ r. ⌜ r ≡ movedTo pc 0 parent ⌝ }
+{
+    let mut n = parent;
+    n.pc = pc;
+    n.counter = 0;
+    n
 }

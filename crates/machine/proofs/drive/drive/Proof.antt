@@ -20,7 +20,7 @@ use Rattle.task.specs.declared.Register.{Register}
 use Rattle.task.specs.declared.Task.{Task}
 use Rattle.task.specs.declared.Value.{Value}
 use Rattle.task.specs.Frames.{running, isRunning, noTask, zeros, zeroRegister}
-use Rattle.task.specs.Step.{copied}
+use Rattle.task.specs.Step.{copied, movedTo}
 use Rattle.task.proofs.Copying.{copies-first, copies-none}
 use Rattle.task.proofs.Executing.{after}
 use Rattle.task.proofs.Sizes.{length-by}
@@ -31,13 +31,15 @@ use Rattle.machine.specs.declared.course.Stretch.{Stretch}
 use Rattle.machine.specs.Slots.{at, Sized, ticked, slotsOf}
 use Rattle.machine.specs.Picking.{issued}
 use Rattle.machine.specs.Driving.{slotAfter, width}
+use Rattle.machine.specs.Moving.{forkMoves}
 use Rattle.machine.proofs.Copying.{filling}
 use Rattle.machine.proofs.InPlace.{withTaskAt, storedAt}
 use Rattle.machine.proofs.Intervals.{interval-fits}
 use Rattle.machine.proofs.Issuing.{Fetched, stores-issued, goes-issued}
 use Rattle.machine.proofs.Moving.{filling-none, filling-all, zero-next, copy-next, placed, placed-none, placed-next}
 use Rattle.machine.proofs.PlanLaws.{pairedAt, clearedAt, copiedAt, moved}
-use Rattle.machine.proofs.Planning.{ahead, Planned, then-less, then-grows, less-with, planned-below, planned-as, join-planned, end-planned, fork-room, fork-planned, next-at, next-ends, next-less}
+use Rattle.machine.proofs.Planning.{ahead, Planned, then-less, then-grows, less-with, planned-below, planned-as}
+use Rattle.machine.proofs.Planning.{join-planned, end-planned, fork-room, fork-planned, next-at, next-ends, next-less}
 use Rattle.machine.proofs.Positions.{Position, to, Walks, Goes, goes, Comes}
 use Rattle.machine.proofs.Readiness.{its-instruction, s-small, r-small, label-small, left-read, right-read, ready}
 use Rattle.machine.proofs.SettleLaws.{sides-decide, without-room}
@@ -191,10 +193,13 @@ none-due-w c = omega (arith, c .before .before .if1 .left)
 at-w : (c : Walk) → At (given-of (head-of (turn-w c))) (c .loop2 .m) (place-w c)
 at-w c =
     let h = head-of (turn-w c) in
-    c .loop2 .inv .0 .leads (start-of h .args .machine) (allowed-of h) (at-head (given-of h) (allowed-of h) (turns-at (turn-w c)) (none-due-w c))
+    c .loop2 .inv .0 .leads (start-of h .args .machine) (allowed-of h)
+    (at-head (given-of h) (allowed-of h) (turns-at (turn-w c)) (none-due-w c))
 
 few-places : (c : Walk) → c .loop2 .m .places ≤ 64
-few-places c = omega (arith, at-w c .fits .its-places, places-most (start-of (head-of (turn-w c)) .args .machine .places) (allowed-of (head-of (turn-w c)) .places-allowed))
+few-places c =
+    let h = head-of (turn-w c) in
+    omega (arith, at-w c .fits .its-places, places-most (start-of h .args .machine .places) (allowed-of h .places-allowed))
 
 slot-inside : (c : Walk) → c .loop2 .k < 64
 slot-inside c = omega (arith, at-w c .slot-below, few-places c)
@@ -202,7 +207,8 @@ slot-inside c = omega (arith, at-w c .slot-below, few-places c)
 -- its places at most
 width-few : (c : Walk) → width (at (c .loop2 .m) (c .loop2 .k) .task .places) ≤ 64
 width-few c =
-    omega (arith, few-places c, width-inside (allowed-of (head-of (turn-w c))) (c .loop2 .m) (at-w c .fits) (c .loop2 .k) (at-w c .slot-below))
+    let w = width-inside (allowed-of (head-of (turn-w c))) (c .loop2 .m) (at-w c .fits) (c .loop2 .k) (at-w c .slot-below) in
+    omega (arith, few-places c)
 
 -- ---- a look
 
@@ -257,7 +263,8 @@ abbrev s-of : Done → Value
 s-of c = getD (walk-d c .loop2 .m .bank) (16 * walk-d c .loop2 .k + x-of c .s) zeroRegister .value
 
 fetched-at : (c : Done) → let w = walk-d c in
-    Fetched (given-of (head-of (turn-w w)) .cells) (given-of (head-of (turn-w w)) .words) (w .loop2 .m) (w .loop2 .k) (x-of c) (s-of c) (c .before .operand .result) (c .execute .result)
+    let g = given-of (head-of (turn-w w)) in
+    Fetched (g .cells) (g .words) (w .loop2 .m) (w .loop2 .k) (x-of c) (s-of c) (c .before .operand .result) (c .execute .result)
 fetched-at c =
     let w = walk-d c in
     let h = head-of (turn-w w) in
@@ -286,12 +293,14 @@ walk-f c = walk-r (c .before .before .before)
 s-inside : (c : Fetching) → c .instruction-of .result .s ≤ 15
 s-inside c =
     let w = walk-f c in
-    s-small (allowed-of (head-of (turn-w w))) (given-of (head-of (turn-w w)) .words) (at-w w .fits) (below-g w) (runs-at (c .before .before .before)) (c .instruction-of .result) (c .instruction-of .ensures)
+    let h = head-of (turn-w w) in
+    s-small (allowed-of h) (given-of h .words) (at-w w .fits) (below-g w) (runs-at (c .before .before .before)) (c .instruction-of .result) (c .instruction-of .ensures)
 
 r-inside : (c : Fetching) → c .instruction-of .result .r ≤ 15
 r-inside c =
     let w = walk-f c in
-    r-small (allowed-of (head-of (turn-w w))) (given-of (head-of (turn-w w)) .words) (at-w w .fits) (below-g w) (runs-at (c .before .before .before)) (c .instruction-of .result) (c .instruction-of .ensures)
+    let h = head-of (turn-w w) in
+    r-small (allowed-of h) (given-of h .words) (at-w w .fits) (below-g w) (runs-at (c .before .before .before)) (c .instruction-of .result) (c .instruction-of .ensures)
 
 -- ---- the task runs on
 
@@ -306,7 +315,7 @@ walk-n c = walk-d (done-r c)
 
 -- the state with the instruction's record, and its register where it stores one
 abbrev ran-state : Ran → Machine
-ran-state c = record { places = c .if7 .m .places; interval = c .if7 .m .interval; work = c .if7 .m .work + 1; bank = c .if7 .m .bank; tasks = c .if7 .m .tasks }
+ran-state c = ticked (c .if7 .m)
 
 ran-record : (c : Ran) → c .before .before .ran-on .result ≡ after (done-r c .execute .result) (at (walk-n c .loop2 .m) (walk-n c .loop2 .k) .task)
 ran-record c = c .before .before .ran-on .ensures
@@ -323,10 +332,14 @@ ran-issued c =
     let r = x-of (done-r c) .r in
     let runs-on = sym (c .before .before .before .before .runs-on .ensures) ∙ c .before .before .before .if6 .taken in
     elim (c .if7 .came) [
-      | inl t ↦ ap ticked (t .2) ∙ ap (λ (o : Task). ticked (storedAt m k o r (t .1 .result))) (ran-record c)
-          ∙ stores-issued allowed fits (at-w w .slot-below) on got (sym (c .before .does-store .ensures) ∙ t .0 .taken) (omega (arith, r-inside (c .before .before .before .before .before .before .before .before .before .before))) (t .1 .ensures)
-      | inr t ↦ ap ticked (t .1) ∙ ap (λ (o : Task). ticked (withTaskAt m k o)) (ran-record c)
-          ∙ goes-issued allowed fits (at-w w .slot-below) on got runs-on (sym (c .before .does-store .ensures) ∙ t .0 .left)
+      | inl t ↦
+          let stores = sym (c .before .does-store .ensures) ∙ t .0 .taken in
+          ap ticked (t .2) ∙ ap (λ (o : Task). ticked (storedAt m k o r (t .1 .result))) (ran-record c)
+          ∙ stores-issued allowed fits (at-w w .slot-below) on got stores (omega (arith, r-inside (done-r c .before .before .before .before .before))) (t .1 .ensures)
+      | inr t ↦
+          let stores-not = sym (c .before .does-store .ensures) ∙ t .0 .left in
+          ap ticked (t .1) ∙ ap (λ (o : Task). ticked (withTaskAt m k o)) (ran-record c)
+          ∙ goes-issued allowed fits (at-w w .slot-below) on got runs-on stores-not
     ]
 
 ran-tasks : (c : Ran) → c .if7 .m .tasks ≡ set (walk-n c .loop2 .m .tasks) (walk-n c .loop2 .k) (c .before .before .ran-on .result)
@@ -372,7 +385,8 @@ Asking = Here tie.After-next-stretch
 abbrev ComesAt : Walk → Stretch → Type 0
 ComesAt w s =
     let g = given-of (head-of (turn-w w)) in
-    Comes (result g) (w .loop2 .m) (at-w w .picks) (head-of (turn-w w) .loop .begun) (mostStretches (g .course) (g .order)) (λ q. At g (w .loop2 .m) q) s
+    let b = head-of (turn-w w) .loop .begun in
+    Comes (result g) (w .loop2 .m) (at-w w .picks) b (mostStretches (g .course) (g .order)) (λ q. At g (w .loop2 .m) q) s
 
 comes-at : (c : Asking) → ComesAt (c .before .before .before .before) (c .next-stretch .result)
 comes-at c =
@@ -405,13 +419,22 @@ halt-span c = omega (arith, halt-room c, at-w (walk-h c) .fits .counts (walk-h c
 abbrev Forking : Type 0
 Forking = Here tie.After-known-told
 
-fork-at : (c : Forking) → let w = walk-h (c .before .before .before .before .before) in
+fork-at : (c : Forking) → let w = walk-h (c .before .before .before .before) in
     let places = at (w .loop2 .m) (w .loop2 .k) .task .places in
     (0 < places / 2) × (w .loop2 .k + places / 2 < w .loop2 .m .places) × (at (w .loop2 .m) (w .loop2 .k) .task .depth < 6)
 fork-at c =
-    let w = walk-h (c .before .before .before .before .before) in
+    let w = walk-h (c .before .before .before .before) in
     let h = head-of (turn-w w) in
-    fork-room (given-of h) (allowed-of h) (at-w w) (stopped-at (c .before .before .before .before .before)) (c .before .kind .given .0 .0) (c .before .kind .given .1)
+    fork-room (given-of h) (allowed-of h) (at-w w) (stopped-at (c .before .before .before .before)) (c .before .kind .given .0 .0) (c .before .kind .given .1)
+
+-- both sides' slots, and their numbers
+fork-slots : (c : Forking) → let w = walk-h (c .before .before .before .before) in
+    let t = at (w .loop2 .m) (w .loop2 .k) .task in
+    (w .loop2 .k + t .places / 2 < 64) × (t .depth < 6) × (w .loop2 .k < 64)
+fork-slots c =
+    let f = fork-at c in
+    let w = walk-h (c .before .before .before .before) in
+    (omega (arith, f .1, few-places w), f .2, slot-inside w)
 
 -- ---- what a turn has planned
 
@@ -420,6 +443,10 @@ tasksWith m q c v t = record { places = m .places; interval = m .interval; work 
 
 abbrev Moving : Type 0
 Moving = Here tie.Joined1
+
+abbrev sidesWritten : Machine → ℕ → Task → Task → Machine
+sidesWritten m k p q =
+    record { places = m .places; interval = m .interval; work = m .work + 1; bank = m .bank; tasks = set (set (m .tasks) k p) (k + p .places) q }
 
 planned-at : (c : Moving) → let h = head-of (c .before) in
     Planned (given-of h) (ahead (given-of h) (h .loop .m) (place-of (c .before)) (h .loop .due)) (c .if1 .m) (c .if1 .plan)
@@ -445,17 +472,23 @@ planned-at c = elim (c .if1 .came) [
         let w : Walk = record { before = record { before = record { before = c .before; if1 = t .0 }; go = t .1 }; loop2 = t .2 } in
         let x : Halting = record { before = record { before = record { before = w; walks-on = t .3 }; if4 = t .4 }; if8 = t .5 } in
         let h = head-of (c .before) in
-        planned-as (place-w w) (t .15) (t .16) (t .17 ∙ none-due-w w) (t .18)
+        let m = w .loop2 .m in
+        let k = w .loop2 .k in
+        let pc = t .8 .given .0 .0 in
+        let parent = t .11 .ensures in
+        let written = t .14 ∙ ap₂ (λ (p q : Task). sidesWritten m k p q) parent (t .12 .ensures ∙ ap (movedTo pc 0) parent) in
+        let child = ap (λ (p : Task). k + p .places) parent in
+        planned-as (place-w w) (t .15 ∙ child) (t .16) (t .17 ∙ none-due-w w) (t .18)
         (planned-below (omega (arith, w .loop2 .inv .0 .shorter, none-due-w w))
-        (fork-planned (given-of h) (allowed-of h) (at-w w) (stopped-at x) (t .9 .given .0 .0) (t .9 .given .1) (t .11 .ensures) (t .12 .ensures) (t .14)
-        (t .19 ∙ t .13 .ensures) (h .loop .side) (turns-at (c .before) .side-below)))
+        (fork-planned (given-of h) (allowed-of h) (at-w w) (stopped-at x) pc (t .8 .given .1) (t .10 .ensures) written
+        (t .19 ∙ t .13 .ensures ∙ ap (forkMoves k) child) (h .loop .side) (turns-at (c .before) .side-below)))
     | inr t ↦
         let w : Walk = record { before = record { before = record { before = c .before; if1 = t .0 }; go = t .1 }; loop2 = t .2 } in
         let x : Halting = record { before = record { before = record { before = w; walks-on = t .3 }; if4 = t .4 }; if8 = t .5 } in
         let h = head-of (c .before) in
-        planned-as (place-w w) (t .13 ∙ t .11 .ensures) (t .14) (t .15) (t .16)
+        planned-as (place-w w) (t .12 ∙ t .10 .ensures) (t .13) (t .14) (t .15)
         (planned-below (omega (arith, w .loop2 .inv .0 .shorter, none-due-w w))
-        (end-planned (given-of h) (allowed-of h) (at-w w) (stopped-at x) (t .8 .keys2) (t .9 .ensures) (t .12) (t .17 ∙ t .10 .ensures)))
+        (end-planned (given-of h) (allowed-of h) (at-w w) (stopped-at x) (t .7 .keys2) (t .8 .ensures) (t .11) (t .16 ∙ t .9 .ensures)))
   ]
 ]
 
@@ -467,7 +500,8 @@ Cleared = Here tie.Joined9
 paired-at : (c : Cleared) → c .before .before .before .loop3 .m ≡ pairedAt (c .before .before .before .before .if1 .plan) (c .before .before .before .before .if1 .m)
 paired-at c =
     let i = c .before .before .before .loop3 .inv in
-    i .3 ∙ ap (placed (c .before .before .before .before .if1 .m) (c .before .before .before .before .if1 .plan .to)) (sym (i .4 ∙ copies-none _ (c .before .before .before .loop3 .pairs) (c .before .before .before .loop3 .packed) (i .1) (c .before .before .loop3-test .left)))
+    let l = c .before .before .before .loop3 in
+    i .3 ∙ ap (placed (c .before .before .before .before .if1 .m) (c .before .before .before .before .if1 .plan .to)) (sym (i .4 ∙ copies-none _ (l .pairs) (l .packed) (i .1) (c .before .before .loop3-test .left)))
 
 cleared-at : (c : Cleared) → c .if9 .m ≡ clearedAt (c .before .before .before .before .if1 .plan) (pairedAt (c .before .before .before .before .if1 .plan) (c .before .before .before .before .if1 .m))
 cleared-at c =
@@ -475,8 +509,10 @@ cleared-at c =
     let m₂ = c .before .before .before .loop3 .m in
     elim (c .if9 .came) [
       | inl t ↦ t .3 ∙ filling-all m₂ (plan .from) zeros (t .1 .i) (t .1 .inv .0) (t .2 .left) (t .1 .inv .1)
-          ∙ sym (ap (λ (b : Bool). cond b (filling m₂ (plan .from) zeros 16) m₂) (lt-ltb 0 (plan .clears) (t .0 .taken))) ∙ ap (clearedAt plan) (paired-at c)
-      | inr t ↦ t .1 ∙ sym (ap (λ (b : Bool). cond b (filling m₂ (plan .from) zeros 16) m₂) (le-ltb 0 (plan .clears) (t .0 .left))) ∙ ap (clearedAt plan) (paired-at c)
+          ∙ sym (ap (λ (b : Bool). cond b (filling m₂ (plan .from) zeros 16) m₂) (lt-ltb 0 (plan .clears) (t .0 .taken)))
+          ∙ ap (clearedAt plan) (paired-at c)
+      | inr t ↦ t .1 ∙ sym (ap (λ (b : Bool). cond b (filling m₂ (plan .from) zeros 16) m₂) (le-ltb 0 (plan .clears) (t .0 .left)))
+          ∙ ap (clearedAt plan) (paired-at c)
     ]
 
 copied-on : (c : Here tie.After-loop5) → c .before .loop5 .m ≡ moved (c .before .before .before .before .before .before .before .before .if1 .plan) (c .before .before .before .before .before .before .before .before .if1 .m)
@@ -495,6 +531,8 @@ copied-not c =
     sym (ap (λ (b : Bool). cond b (filling m₃ (plan .to) (at m₃ (plan .from) .registers) 16) m₃) (le-ltb 0 (plan .whole) (c .if10 .left)))
     ∙ ap (copiedAt plan) (cleared-at (c .before .before))
 
+-- ---- what the code needs at its places
+
 loop-holds : Here tie.Need-loop-holds
 loop-holds c =
     let a = c .before .before .args in
@@ -503,14 +541,12 @@ loop-holds c =
     let allowed = shape-allowed (a .cells .now) (a .machine) (c .before .before .pre .0) (c .before .before .pre .2) in
     let fits = shape-fits (a .cells .now) (a .machine) sized (c .before .before .pre .2) in
     let few : a .machine .work ≤ 4294967295 = search needs in (
-      λ z. none-due g allowed 0 0 refl (omega arith) (at-first g fits allowed (c .before .before .pre .3) (place 0 0 (a .machine .work) 0 0) refl refl refl few refl),
+      λ z. none-due g allowed 0 0 refl (omega arith)
+          (at-first g fits allowed (c .before .before .pre .3) (place 0 0 (a .machine .work) 0 0) refl refl refl few refl),
       λ e. clash e refl,
       omega arith,
       few,
     )
-
-no-moves-requires : Here tie.Need-no-moves-requires
-no-moves-requires c κs = search needs
 
 mul-own : Here tie.Need-mul-own
 mul-own c = omega (arith, turns-at (c .before) .side-below)
@@ -531,7 +567,8 @@ loop-again : Here tie.Need-loop-again
 loop-again c =
     let t = c .before .before .before .before .before in
     let h = head-of t in
-    let none = without-room (given-of h .cells) (h .loop .m) (c .before .before .first-slot .result) (at (h .loop .m) (h .loop .side) .task .places) (h .loop .due)
+    let w = at (h .loop .m) (h .loop .side) .task .places in
+    let none = without-room (given-of h .cells) (h .loop .m) (c .before .before .first-slot .result) w (h .loop .due)
     (sym (c .before .has-room .ensures) ∙ not-true (c .before .has-room .result) (c .if2 .taken)) in (
       λ z. stops (given-of h) (allowed-of h) (turns-at t) (c .before .before .first-slot .result) _ (c .before .before .before .before .if1 .taken) refl (c .before .before .first-slot .ensures .0) none,
       λ e. clash e (going-on t),
@@ -554,18 +591,17 @@ mul-child c = omega (arith, inside (c .before))
 element-copy-out-child : Here tie.Need-element-copy-out-child
 element-copy-out-child c = omega (arith, inside (c .before))
 
-both-ended-requires : Here tie.Need-both-ended-requires
-both-ended-requires c κs = search needs
-
 loop-less-2 : Here tie.Need-loop-less-2
 loop-less-2 c = omega (arith, c .before .before .before .before .before .before .before .before .if1 .taken)
 
 loop-again-2 : Here tie.Need-loop-again-2
 loop-again-2 c =
-    let t = c .before .before .before .before .before .before .before .before .before in
+    let j = c .before .before .before .before in
+    let l = j .before .before in
+    let t = j .before .before .before .before .before in
     let h = head-of t in
     let none = sides (c .before) ∙ not-true (c .before .both-ended .result) (c .if3 .taken) in (
-      λ z. stops (given-of h) (allowed-of h) (turns-at t) (q-of (c .before .before .before .before)) _ (c .before .before .before .before .before .before .before .before .if1 .taken) refl (c .before .before .before .before .before .before .first-slot .ensures .0) none,
+      λ z. stops (given-of h) (allowed-of h) (turns-at t) (q-of j) _ (l .before .before .if1 .taken) refl (l .first-slot .ensures .0) none,
       λ e. clash e (going-on t),
       h .loop .inv .2,
       h .loop .inv .3,
@@ -573,15 +609,13 @@ loop-again-2 c =
 
 joined-requires : Here tie.Need-joined-requires
 joined-requires c κs =
-    let h = head-of (c .before .before .before .before .before .before .before .before .before) in
-    due-joinable (given-of h .cells) (h .loop .m) (q-of (c .before .before .before .before)) (w-of (c .before .before .before .before)) (h .loop .due) (start-of h .pre .0) (turns-at (c .before .before .before .before .before .before .before .before .before) .safe) (c .before .before .before .before .before .before .before .before .if1 .taken)
-    (sides (c .before) ∙ not-false (c .before .both-ended .result) (c .if3 .left))
+    let j = c .before .before .before .before in
+    let h = head-of (turn-j j) in
+    due-joinable (given-of h .cells) (h .loop .m) (q-of j) (w-of j) (h .loop .due) (start-of h .pre .0) (turns-at (turn-j j) .safe)
+    (j .before .before .before .before .if1 .taken) (sides (c .before) ∙ not-false (c .before .both-ended .result) (c .if3 .left))
 
-vacant-task-requires : Here tie.Need-vacant-task-requires
-vacant-task-requires c κs = search needs
-
-mul-t69 : Here tie.Need-mul-t69
-mul-t69 c = omega (arith, inside (c .before .before .before .before .before .before .before))
+mul-t63 : Here tie.Need-mul-t63
+mul-t63 c = omega (arith, inside (c .before .before .before .before .before .before .before))
 
 element-set-from-m : Here tie.Need-element-set-from-m
 element-set-from-m c = omega (arith, inside (c .before .before .before .before .before .before .before))
@@ -592,20 +626,11 @@ mul-whole c = omega (arith, inside (c .before .before .before .before .before .b
 element-set-from-whole : Here tie.Need-element-set-from-whole
 element-set-from-whole c = omega (arith, inside (c .before .before .before .before .before .before .before))
 
-join-moves-requires : Here tie.Need-join-moves-requires
-join-moves-requires c κs = search needs
-
 sub-due : Here tie.Need-sub-due
 sub-due c = omega (arith, c .before .before .before .before .before .before .before .before .before .before .before .before .if1 .taken)
 
-go-requires : Here tie.Need-go-requires
-go-requires c κs = search needs
-
 loop2-holds : Here tie.Need-loop2-holds
 loop2-holds c = (record { leads = λ machine a h. h; shorter = omega arith }, λ e. clash e refl)
-
-walks-on-requires : Here tie.Need-walks-on-requires
-walks-on-requires c κs = search needs
 
 mul-record : Here tie.Need-mul-record
 mul-record c = omega (arith, slot-inside (walk-of c))
@@ -613,41 +638,12 @@ mul-record c = omega (arith, slot-inside (walk-of c))
 element-copy-out-record : Here tie.Need-element-copy-out-record
 element-copy-out-record c = omega (arith, slot-inside (walk-of c))
 
-is-running-requires : Here tie.Need-is-running-requires
-is-running-requires c κs = search needs
-
-mul-at-v : Here tie.Need-mul-at-v
-mul-at-v c = omega (arith, slot-inside (walk-r c))
-
-element-copy-out-at-v : Here tie.Need-element-copy-out-at-v
-element-copy-out-at-v c = omega (arith, slot-inside (walk-r c))
-
-mul-execute : Here tie.Need-mul-execute
-mul-execute c = omega (arith, slot-inside (walk-r c))
-
-element-copy-out-execute : Here tie.Need-element-copy-out-execute
-element-copy-out-execute c = omega (arith, slot-inside (walk-r c))
-
-mul-t98 : Here tie.Need-mul-t98
-mul-t98 c = omega (arith, slot-inside (walk-r c))
-
-element-copy-out-t101 : Here tie.Need-element-copy-out-t101
-element-copy-out-t101 c = omega (arith, slot-inside (walk-r c))
-
-mul-t102 : Here tie.Need-mul-t102
-mul-t102 c = omega (arith, slot-inside (walk-r c))
-
-element-copy-out-t105 : Here tie.Need-element-copy-out-t105
-element-copy-out-t105 c = omega (arith, slot-inside (walk-r c))
-
-cast-instruction-of : Here tie.Need-cast-instruction-of
-cast-instruction-of c = search needs
-
 instruction-of-requires : Here tie.Need-instruction-of-requires
 instruction-of-requires c κs =
     let w = walk-r (c .before .before) in
     let h = head-of (turn-w w) in
-    omega (arith, its-instruction (allowed-of h) (given-of h .words) (at-w w .fits) (below-g w) (runs-at (c .before .before)) .is-stored, start-of h .pre .1)
+    let x = its-instruction (allowed-of h) (given-of h .words) (at-w w .fits) (below-g w) (runs-at (c .before .before)) in
+    omega (arith, x .is-stored, start-of h .pre .1)
 
 mul-base : Here tie.Need-mul-base
 mul-base c = omega (arith, slot-inside (walk-f c), s-inside c)
@@ -672,9 +668,10 @@ element-copy-out-right-register c = omega (arith, slot-inside (walk-f (c .before
 
 operand-requires : Here tie.Need-operand-requires
 operand-requires c κs =
-    let w = walk-f (c .before .before .before) in
+    let f = c .before .before .before in
+    let w = walk-f f in
     let h = head-of (turn-w w) in
-    label-small (allowed-of h) (given-of h .words) (at-w w .fits) (below-g w) (runs-at (c .before .before .before .before .before .before)) (c .before .before .before .instruction-of .result) (c .before .before .before .instruction-of .ensures)
+    label-small (allowed-of h) (given-of h .words) (at-w w .fits) (below-g w) (runs-at (f .before .before .before)) (f .instruction-of .result) (f .instruction-of .ensures)
 
 cast-execute : Here tie.Need-cast-execute
 cast-execute c =
@@ -684,38 +681,31 @@ cast-execute c =
 
 execute-requires : Here tie.Need-execute-requires
 execute-requires c κs =
-    let w = walk-f (c .before .before .before .before) in
+    let f = c .before .before .before .before in
+    let w = walk-f f in
     let h = head-of (turn-w w) in
-    let on = runs-at (c .before .before .before .before .before .before .before) in
-    let x = c .before .before .before .before .instruction-of .result in
-    let e = c .before .before .before .before .instruction-of .ensures in
+    let r = f .before .before .before in
+    let x = f .instruction-of .result in
+    let e = f .instruction-of .ensures in
     let words = given-of h .words in
-    ready (allowed-of h) words (at-w w .fits) (below-g w) on x e _ (c .operand .result) (left-read (allowed-of h) words (at-w w .fits) (below-g w) on x e)
-    (right-read (allowed-of h) words (at-w w .fits) (below-g w) on x e (c .operand .result) (c .operand .ensures)) (room-at (c .before .before .before .before .before .before .before))
-
-runs-on-requires : Here tie.Need-runs-on-requires
-runs-on-requires c κs = search needs
+    let s = left-read (allowed-of h) words (at-w w .fits) (below-g w) (runs-at r) x e in
+    let v = right-read (allowed-of h) words (at-w w .fits) (below-g w) (runs-at r) x e (c .operand .result) (c .operand .ensures) in
+    ready (allowed-of h) words (at-w w .fits) (below-g w) (runs-at r) x e _ (c .operand .result) s v (room-at r)
 
 ran-on-requires : Here tie.Need-ran-on-requires
 ran-on-requires c κs = span-at (runs-of (c .before .before))
 
-mul-t113 : Here tie.Need-mul-t113
-mul-t113 c = omega (arith, slot-inside (walk-d (c .before .before .before)))
+mul-t94 : Here tie.Need-mul-t94
+mul-t94 c = omega (arith, slot-inside (walk-d (c .before .before .before)))
 
 element-set-from-m-2 : Here tie.Need-element-set-from-m-2
 element-set-from-m-2 c = omega (arith, slot-inside (walk-d (c .before .before .before)))
 
-does-store-requires : Here tie.Need-does-store-requires
-does-store-requires c κs = search needs
-
 add-at-r : Here tie.Need-add-at-r
 add-at-r c = omega (arith, slot-inside (walk-d (c .before .before .before .before .before)), r-inside (c .before .before .before .before .before .before .before .before .before .before))
 
-holding-requires : Here tie.Need-holding-requires
-holding-requires c κs = search needs
-
-mul-t117 : Here tie.Need-mul-t117
-mul-t117 c = omega (arith, slot-inside (walk-d (c .before .before .before .before .before .before)), r-inside (c .before .before .before .before .before .before .before .before .before .before .before))
+mul-t98 : Here tie.Need-mul-t98
+mul-t98 c = omega (arith, slot-inside (walk-d (c .before .before .before .before .before .before)), r-inside (c .before .before .before .before .before .before .before .before .before .before .before))
 
 element-set-from-m-3 : Here tie.Need-element-set-from-m-3
 element-set-from-m-3 c = omega (arith, slot-inside (walk-d (c .before .before .before .before .before .before)), r-inside (c .before .before .before .before .before .before .before .before .before .before .before))
@@ -740,7 +730,8 @@ loop2-again c =
     let r = c .before .before in
     let w = walk-n r in
     let look = look-of (runs-of (done-r r)) in (
-      leads-on (w .loop2 .inv .0) (tests look .1) (at-w w .reach-most) (runs-at (runs-of (done-r r))) (ran-issued r) (ran-others r) (ran-next (c .before)) (c .gone-after .ensures),
+      leads-on (w .loop2 .inv .0) (tests look .1) (at-w w .reach-most) (runs-at (runs-of (done-r r))) (ran-issued r) (ran-others r)
+          (ran-next (c .before)) (c .gone-after .ensures),
       λ e. clash e (not-stopped look),
     )
 
@@ -764,9 +755,6 @@ loop2-again-2 c =
       },
     )
 
-width-of-requires : Here tie.Need-width-of-requires
-width-of-requires c κs = search needs
-
 add-gone : Here tie.Need-add-gone
 add-gone c =
     let w = walk-of (c .before .before .before .before) in omega (arith, c .width-of .ensures, width-few w, goes-at (c .before .before .before .before) .places-left, at-w w .reach-most)
@@ -778,7 +766,8 @@ behind-slot-requires c κs =
 loop2-less-3 : Here tie.Need-loop2-less-3
 loop2-less-3 c =
     let w = walk-of (c .before .before .before .before .before) in
-    omega (arith, c .before .width-of .ensures, width-some (at (w .loop2 .m) (w .loop2 .k) .task .places), goes-at (c .before .before .before .before .before) .places-left)
+    let some = width-some (at (w .loop2 .m) (w .loop2 .k) .task .places) in
+    omega (arith, c .before .width-of .ensures, goes-at (c .before .before .before .before .before) .places-left)
 
 loop2-again-3 : Here tie.Need-loop2-again-3
 loop2-again-3 c =
@@ -788,13 +777,11 @@ loop2-again-3 c =
       λ e. clash e (not-stopped (c .before .before .before .before .before)),
     )
 
-next-stretch-requires : Here tie.Need-next-stretch-requires
-next-stretch-requires c κs = search needs
-
 loop-less-3 : Here tie.Need-loop-less-3
 loop-less-3 c =
     let w = c .before .before .before .before in
-    omega (arith, next-less (given-of (head-of (turn-w w))) (at-w w) (comes-at c), w .loop2 .inv .0 .shorter, one-more (turn-w w), none-due-w w)
+    let less = next-less (given-of (head-of (turn-w w))) (at-w w) (comes-at c) in
+    omega (arith, w .loop2 .inv .0 .shorter, one-more (turn-w w), none-due-w w)
 
 loop-again-3 : Here tie.Need-loop-again-3
 loop-again-3 c =
@@ -807,27 +794,6 @@ loop-again-3 c =
       at-w w .work-most,
     )
 
-mul-places : Here tie.Need-mul-places
-mul-places c = omega (arith, slot-inside (walk-h c))
-
-element-copy-out-places : Here tie.Need-element-copy-out-places
-element-copy-out-places c = omega (arith, slot-inside (walk-h c))
-
-mul-span : Here tie.Need-mul-span
-mul-span c = omega (arith, slot-inside (walk-h c))
-
-element-copy-out-span : Here tie.Need-element-copy-out-span
-element-copy-out-span c = omega (arith, slot-inside (walk-h c))
-
-add-span : Here tie.Need-add-span
-add-span c = omega (arith, halt-span c)
-
-mul-depth : Here tie.Need-mul-depth
-mul-depth c = omega (arith, slot-inside (walk-h c))
-
-element-copy-out-depth : Here tie.Need-element-copy-out-depth
-element-copy-out-depth c = omega (arith, slot-inside (walk-h c))
-
 mul-record-2 : Here tie.Need-mul-record-2
 mul-record-2 c = omega (arith, slot-inside (walk-h c))
 
@@ -835,64 +801,40 @@ element-copy-out-record-2 : Here tie.Need-element-copy-out-record-2
 element-copy-out-record-2 c = omega (arith, slot-inside (walk-h c))
 
 add-m-2 : Here tie.Need-add-m-2
-add-m-2 c = omega (arith, halt-room (c .before .before))
+add-m-2 c = omega (arith, halt-room (c .before))
 
-enum-known-kind : Here tie.Need-enum-known-kind
-enum-known-kind c = search needs
-
-record-of-requires : Here tie.Need-record-of-requires
-record-of-requires c κs = search needs
-
-opened-requires : Here tie.Need-opened-requires
-opened-requires c κs = fork-at (c .before) .2
+side-task-requires : Here tie.Need-side-task-requires
+side-task-requires c κs = (halt-span (c .before .before .before .before .before), fork-at (c .before) .2)
 
 add-c-2 : Here tie.Need-add-c-2
-add-c-2 c =
-    let f = fork-at (c .before .before) in omega (arith, f .0, f .1, f .2, few-places (walk-h (c .before .before .before .before .before .before .before)), slot-inside (walk-h (c .before .before .before .before .before .before .before)))
+add-c-2 c = omega (arith, fork-slots (c .before .before), ap (λ (t : Task). t .places) (c .side-task .ensures))
 
-add-t143 : Here tie.Need-add-t143
-add-t143 c =
-    let f = fork-at (c .before .before) in omega (arith, f .0, f .1, f .2, few-places (walk-h (c .before .before .before .before .before .before .before)), slot-inside (walk-h (c .before .before .before .before .before .before .before)))
+mul-parent-2 : Here tie.Need-mul-parent-2
+mul-parent-2 c = omega (arith, fork-slots (c .before .before), ap (λ (t : Task). t .places) (c .side-task .ensures))
 
-mul-m : Here tie.Need-mul-m
-mul-m c =
-    let f = fork-at (c .before .before) in omega (arith, f .0, f .1, f .2, few-places (walk-h (c .before .before .before .before .before .before .before)), slot-inside (walk-h (c .before .before .before .before .before .before .before)))
+element-set-from-parent : Here tie.Need-element-set-from-parent
+element-set-from-parent c = omega (arith, fork-slots (c .before .before), ap (λ (t : Task). t .places) (c .side-task .ensures))
+
+mul-t116 : Here tie.Need-mul-t116
+mul-t116 c = omega (arith, fork-slots (c .before .before .before), ap (λ (t : Task). t .places) (c .before .side-task .ensures))
 
 element-set-from-m-4 : Here tie.Need-element-set-from-m-4
-element-set-from-m-4 c =
-    let f = fork-at (c .before .before) in omega (arith, f .0, f .1, f .2, few-places (walk-h (c .before .before .before .before .before .before .before)), slot-inside (walk-h (c .before .before .before .before .before .before .before)))
+element-set-from-m-4 c = omega (arith, fork-slots (c .before .before .before), ap (λ (t : Task). t .places) (c .before .side-task .ensures))
 
-add-t143-2 : Here tie.Need-add-t143-2
-add-t143-2 c =
-    let f = fork-at (c .before .before) in omega (arith, f .0, f .1, f .2, few-places (walk-h (c .before .before .before .before .before .before .before)), slot-inside (walk-h (c .before .before .before .before .before .before .before)))
+ended-task-requires : Here tie.Need-ended-task-requires
+ended-task-requires c κs = halt-span (c .before .before)
 
-mul-t141 : Here tie.Need-mul-t141
-mul-t141 c =
-    let f = fork-at (c .before .before) in omega (arith, f .0, f .1, f .2, few-places (walk-h (c .before .before .before .before .before .before .before)), slot-inside (walk-h (c .before .before .before .before .before .before .before)))
+mul-t123 : Here tie.Need-mul-t123
+mul-t123 c = omega (arith, slot-inside (walk-h (c .before .before .before)))
 
 element-set-from-m-5 : Here tie.Need-element-set-from-m-5
-element-set-from-m-5 c =
-    let f = fork-at (c .before .before) in omega (arith, f .0, f .1, f .2, few-places (walk-h (c .before .before .before .before .before .before .before)), slot-inside (walk-h (c .before .before .before .before .before .before .before)))
-
-fork-moves-requires : Here tie.Need-fork-moves-requires
-fork-moves-requires c κs = search needs
-
-status-of-requires : Here tie.Need-status-of-requires
-status-of-requires c κs = search needs
-
-mul-t150 : Here tie.Need-mul-t150
-mul-t150 c = omega (arith, slot-inside (walk-h (c .before .before .before .before)))
-
-element-set-from-m-6 : Here tie.Need-element-set-from-m-6
-element-set-from-m-6 c = omega (arith, slot-inside (walk-h (c .before .before .before .before)))
-
-end-moves-requires : Here tie.Need-end-moves-requires
-end-moves-requires c κs = search needs
+element-set-from-m-5 c = omega (arith, slot-inside (walk-h (c .before .before .before)))
 
 behind-slot-requires-2 : Here tie.Need-behind-slot-requires-2
 behind-slot-requires-2 c κs =
-    let w = walk-h (c .before .before .before .before .before) in
-    let t = tile (given-of (head-of (turn-w w))) (allowed-of (head-of (turn-w w))) (at-w w) (stopped-at (c .before .before .before .before .before) .runs-there) in
+    let w = walk-h (c .before .before .before .before) in
+    let h = head-of (turn-w w) in
+    let t = tile (given-of h) (allowed-of h) (at-w w) (stopped-at (c .before .before .before .before) .runs-there) in
     (slot-inside w, omega (arith, t .inside, few-places w))
 
 loop3-holds : Here tie.Need-loop3-holds
@@ -946,20 +888,17 @@ loop3-again c =
 loop4-holds : Here tie.Need-loop4-holds
 loop4-holds c = (omega arith, filling-none _ _ zeros)
 
-zero-register-requires : Here tie.Need-zero-register-requires
-zero-register-requires c κs = search needs
+mul-t140 : Here tie.Need-mul-t140
+mul-t140 c = omega (arith, planned-at (c .before .before .before .before .before .before .before) .plan-fits .from-below, c .before .loop4-test .taken)
 
-mul-t167 : Here tie.Need-mul-t167
-mul-t167 c = omega (arith, planned-at (c .before .before .before .before .before .before .before) .plan-fits .from-below, c .before .loop4-test .taken)
+add-t141 : Here tie.Need-add-t141
+add-t141 c = omega (arith, planned-at (c .before .before .before .before .before .before .before) .plan-fits .from-below, c .before .loop4-test .taken)
 
-add-t168 : Here tie.Need-add-t168
-add-t168 c = omega (arith, planned-at (c .before .before .before .before .before .before .before) .plan-fits .from-below, c .before .loop4-test .taken)
+mul-t142 : Here tie.Need-mul-t142
+mul-t142 c = omega (arith, planned-at (c .before .before .before .before .before .before .before) .plan-fits .from-below, c .before .loop4-test .taken)
 
-mul-t169 : Here tie.Need-mul-t169
-mul-t169 c = omega (arith, planned-at (c .before .before .before .before .before .before .before) .plan-fits .from-below, c .before .loop4-test .taken)
-
-element-set-from-m-7 : Here tie.Need-element-set-from-m-7
-element-set-from-m-7 c = omega (arith, planned-at (c .before .before .before .before .before .before .before) .plan-fits .from-below, c .before .loop4-test .taken)
+element-set-from-m-6 : Here tie.Need-element-set-from-m-6
+element-set-from-m-6 c = omega (arith, planned-at (c .before .before .before .before .before .before .before) .plan-fits .from-below, c .before .loop4-test .taken)
 
 add-i : Here tie.Need-add-i
 add-i c = omega (arith, planned-at (c .before .before .before .before .before .before .before) .plan-fits .from-below, c .before .loop4-test .taken)
@@ -968,7 +907,9 @@ loop4-less : Here tie.Need-loop4-less
 loop4-less c = omega (arith, c .before .loop4-test .taken)
 
 loop4-again : Here tie.Need-loop4-again
-loop4-again c = (omega (arith, c .before .loop4-test .taken), zero-next _ _ (c .before .before .loop4 .i) (c .before .before .loop4 .inv .1) (c .before .loop4-test .taken) (c .zero-register .ensures))
+loop4-again c =
+    let l = c .before .before .loop4 in
+    (omega (arith, c .before .loop4-test .taken), zero-next _ _ (l .i) (l .inv .1) (c .before .loop4-test .taken) (c .zero-register .ensures))
 
 loop5-holds : Here tie.Need-loop5-holds
 loop5-holds c = (omega arith, filling-none _ _ _)
@@ -1017,9 +958,11 @@ loop5-less c = omega (arith, c .before .loop5-test .taken)
 
 loop5-again : Here tie.Need-loop5-again
 loop5-again c =
+    let l = c .before .before in
     let plan = c .before .before .before .before .before .before .before .before .before .if1 .plan in (
       omega (arith, c .before .loop5-test .taken),
-      copy-next _ (plan .to) (plan .from) (c .before .before .loop5 .i) (planned-at (c .before .before .before .before .before .before .before .before .before) .plan-fits .whole-apart (c .before .before .before .if10 .taken)) (c .before .before .loop5 .inv .1) (c .before .loop5-test .taken) refl,
+      copy-next _ (plan .to) (plan .from) (l .loop5 .i) (planned-at (c .before .before .before .before .before .before .before .before .before) .plan-fits .whole-apart (l .before .if10 .taken)) (l .loop5 .inv .1)
+          (c .before .loop5-test .taken) refl,
     )
 
 loop-less-5 : Here tie.Need-loop-less-5
@@ -1048,20 +991,143 @@ pub drive-spec : {M : Type 1} → statement M
 drive-spec =
     tie.close
     (tie.spec Inv-loop2 μ-loop2 Inv-loop3 μ-loop3 Inv-loop4 μ-loop4 Inv-loop5 μ-loop5 Inv-loop μ-loop
-    loop-holds no-moves-requires mul-own element-copy-out-own first-slot-requires has-room-requires loop-less loop-again add-c mul-parent
-    element-copy-out-parent mul-child element-copy-out-child both-ended-requires loop-less-2 loop-again-2 joined-requires
-    vacant-task-requires mul-t69 element-set-from-m mul-whole element-set-from-whole join-moves-requires sub-due go-requires loop2-holds
-    walks-on-requires mul-record element-copy-out-record is-running-requires mul-at-v element-copy-out-at-v mul-execute
-    element-copy-out-execute mul-t98 element-copy-out-t101 mul-t102 element-copy-out-t105 cast-instruction-of instruction-of-requires
-    mul-base add-at-s mul-left-register element-copy-out-left-register add-at-v mul-right-register element-copy-out-right-register
-    operand-requires cast-execute execute-requires runs-on-requires ran-on-requires mul-t113 element-set-from-m-2 does-store-requires
-    add-at-r holding-requires mul-t117 element-set-from-m-3 add-m slot-after-requires gone-after-requires loop2-less loop2-again loop2-less-2
-    loop2-again-2 width-of-requires add-gone behind-slot-requires loop2-less-3 loop2-again-3 next-stretch-requires loop-less-3 loop-again-3
-    mul-places element-copy-out-places mul-span element-copy-out-span add-span mul-depth element-copy-out-depth mul-record-2
-    element-copy-out-record-2 add-m-2 enum-known-kind record-of-requires opened-requires add-c-2 add-t143 mul-m element-set-from-m-4
-    add-t143-2 mul-t141 element-set-from-m-5 fork-moves-requires status-of-requires mul-t150 element-set-from-m-6 end-moves-requires
-    behind-slot-requires-2 loop3-holds mul-moved add-moved mul-moved-2 element-copy-out-moved mul-moved-3 add-moved-2 mul-moved-4
-    element-set-from-moved sub-pairs loop3-less loop3-again loop4-holds zero-register-requires mul-t167 add-t168 mul-t169
-    element-set-from-m-7 add-i loop4-less loop4-again loop5-holds loop-less-4 loop-again-4 mul-copied add-copied mul-copied-2
-    element-copy-out-copied mul-copied-3 add-copied-2 mul-copied-4 element-set-from-copied add-i-2 loop5-less loop5-again loop-less-5
-    loop-again-5 sub-picks cast-picks returns)
+    -- the loop begins
+    loop-holds
+    -- a turn
+    (λ c κs. search needs)
+    -- a look at a join
+    mul-own
+    element-copy-out-own
+    first-slot-requires
+    has-room-requires
+    loop-less
+    loop-again
+    add-c
+    mul-parent
+    element-copy-out-parent
+    mul-child
+    element-copy-out-child
+    (λ c κs. search needs)
+    loop-less-2
+    loop-again-2
+    joined-requires
+    (λ c κs. search needs)
+    mul-t63
+    element-set-from-m
+    mul-whole
+    element-set-from-whole
+    (λ c κs. search needs)
+    sub-due
+    -- a walk
+    (λ c κs. search needs)
+    loop2-holds
+    (λ c κs. search needs)
+    -- a look
+    mul-record
+    element-copy-out-record
+    (λ c κs. search needs)
+    -- a running task: its instruction and registers
+    (λ c. search needs)
+    instruction-of-requires
+    mul-base
+    add-at-s
+    mul-left-register
+    element-copy-out-left-register
+    add-at-v
+    mul-right-register
+    element-copy-out-right-register
+    operand-requires
+    cast-execute
+    execute-requires
+    -- it runs on
+    (λ c κs. search needs)
+    ran-on-requires
+    mul-t94
+    element-set-from-m-2
+    (λ c κs. search needs)
+    add-at-r
+    (λ c κs. search needs)
+    mul-t98
+    element-set-from-m-3
+    add-m
+    slot-after-requires
+    gone-after-requires
+    loop2-less
+    loop2-again
+    loop2-less-2
+    loop2-again-2
+    -- nothing runs there
+    (λ c κs. search needs)
+    add-gone
+    behind-slot-requires
+    loop2-less-3
+    loop2-again-3
+    -- the next stretch
+    (λ c κs. search needs)
+    loop-less-3
+    loop-again-3
+    -- the pick that stopped the walk
+    mul-record-2
+    element-copy-out-record-2
+    add-m-2
+    -- a fork
+    (λ c. search needs)
+    (λ c κs. search needs)
+    side-task-requires
+    add-c-2
+    mul-parent-2
+    element-set-from-parent
+    (λ c κs. search needs)
+    mul-t116
+    element-set-from-m-4
+    (λ c κs. search needs)
+    -- an ended side
+    ended-task-requires
+    mul-t123
+    element-set-from-m-5
+    (λ c κs. search needs)
+    behind-slot-requires-2
+    -- pairs
+    loop3-holds
+    mul-moved
+    add-moved
+    mul-moved-2
+    element-copy-out-moved
+    mul-moved-3
+    add-moved-2
+    mul-moved-4
+    element-set-from-moved
+    sub-pairs
+    loop3-less
+    loop3-again
+    -- registers cleared
+    loop4-holds
+    (λ c κs. search needs)
+    mul-t140
+    add-t141
+    mul-t142
+    element-set-from-m-6
+    add-i
+    loop4-less
+    loop4-again
+    -- registers copied
+    loop5-holds
+    loop-less-4
+    loop-again-4
+    mul-copied
+    add-copied
+    mul-copied-2
+    element-copy-out-copied
+    mul-copied-3
+    add-copied-2
+    mul-copied-4
+    element-set-from-copied
+    add-i-2
+    loop5-less
+    loop5-again
+    loop-less-5
+    loop-again-5
+    -- the end
+    sub-picks
+    cast-picks
+    returns)
