@@ -87,7 +87,8 @@ planned-below le x = record { plan-fits = x .plan-fits; then-turns = λ {m′} i
 
 -- with other names for its numbers
 pub planned-as : {g : Given} {before : ℕ} {m : Machine} {plan : Moves} (p : Position) {slot slot′ gone gone′ o o′ side side′ : ℕ}
-    → slot′ ≡ slot → gone′ ≡ gone → o′ ≡ o → side′ ≡ side → Planned g before m plan (to slot gone p) o side → Planned g before m plan (to slot′ gone′ p) o′ side′
+    → slot′ ≡ slot → gone′ ≡ gone → o′ ≡ o → side′ ≡ side
+    → Planned g before m plan (to slot gone p) o side → Planned g before m plan (to slot′ gone′ p) o′ side′
 planned-as {g} {before} {m} {plan} p {slot′ = slot′} {gone = gone} {gone′ = gone′} {o = o} {o′ = o′} {side = side} a b c d x =
     subst⁻¹ (λ n. Planned g before m plan (to slot′ gone′ p) o′ n) d
     (subst⁻¹ (λ n. Planned g before m plan (to slot′ gone′ p) n side) c
@@ -100,7 +101,8 @@ module _ (g : Given) (allowed : GivenAllowed g) where
   module _ {m : Machine} {p : Position} {o side : ℕ} (t : Turns g m p o side) (q w : ℕ) (some : 0 < o) (width : at m side .task .places ≡ w)
       (first : q ≡ side - side % (2 * w)) (is-due : due (slotsOf (programOf (g .cells))) m q w o ≡ true) (wide : 0 < w) (room : q + w < 64)
       {j : Joint} (e : j ≡ jointOf (programOf (g .cells)) (at m q .task) (at m (q + w) .task)) where
-    pub join-planned : (g .machine .work ≤ m .work) × (m .work ≤ workLimit) → {n : Machine} {plan : Moves} → n ≡ tasksJoined m q (q + w) (j .task) → plan ≡ joinMoves q (q + w) (j .pairs) (j .packed) (j .faulted)
+    pub join-planned : (g .machine .work ≤ m .work) × (m .work ≤ workLimit) → {n : Machine} {plan : Moves}
+        → n ≡ tasksJoined m q (q + w) (j .task) → plan ≡ joinMoves q (q + w) (j .pairs) (j .packed) (j .faulted)
         → Planned g (ahead g m p o) n plan p (o - 1) q
     join-planned grown {n} {plan} written planned = record {
       plan-fits = rw planned (join-fits (g .cells) m (t .sized) q w wide room e);

@@ -214,12 +214,15 @@ module _ (g : Given) (allowed : GivenAllowed g) {m : Machine} {p : Position} (a 
         alone-on : p .reach ≤ p .gone + at m k .task .places → (whole : Driven) → Passing cells words whole m p (a .picks) → Alone m′ k
         alone-on h whole x i below other =
             others i other
-            ∙ alone (x .seeks) (p .gone) (at m k .task .places) (x .counted) (omega (arith, x .reach-all)) (tile runs-there .inside) (tile runs-there .quiet) i (omega (arith, same-places)) other
+            ∙ alone (x .seeks) (p .gone) (at m k .task .places) (x .counted) (omega (arith, x .reach-all)) (tile runs-there .inside) (tile runs-there .quiet) i
+            (omega (arith, same-places)) other
 
         by : p .reach ≤ p .gone + at m k .task .places → (c : Course) (whole : Driven) → Stands c whole m p (a .picks) → Stands c whole m′ (to k (p .gone) p) (a .picks + 1)
         by h (Passes slot budget) whole (inl u) = clash walks (no-picks-left m p (u .no-picks))
         by h (Passes slot budget) whole (inr x) =
-            inr (pass-again cells words x allowed (a .fits) (a .slot-below) runs-there (goes {m = m} {p = p} walks .picks-left) (a .until-most) is (p .gone) same-places (goes {m = m} {p = p} walks .places-left) (alone-on h whole x))
+            let on = goes {m = m} {p = p} walks in
+            inr (pass-again cells words x allowed (a .fits) (a .slot-below) runs-there (on .picks-left) (a .until-most) is (p .gone) same-places (on .places-left)
+            (alone-on h whole x))
         by h Listed whole x = list-picked cells words x walks ready is k (p .gone)
 
   -- ---- the walk does not go on: the next stretch, or the end

@@ -116,6 +116,37 @@ pub fn rest(picks: u64) -> Vec<u8> {
         .bytes()
 }
 
+/// Forks until four tasks have one place each; all of them loop, for more rounds than there are picks.
+pub fn four(picks: u64) -> Vec<u8> {
+    const SECOND: u8 = 1;
+    const LOOP: u8 = 2;
+    const JOIN: u8 = 3;
+    const DONE: u8 = 4;
+    let mut four = Assembly::default();
+    four.block(
+        Annotation::None,
+        &[
+            jralloc(RECORD, Lab(DONE)),
+            fork(RECORD, Lab(SECOND)),
+            jump(Lab(SECOND)),
+        ],
+    );
+    four.block(
+        Annotation::None,
+        &[fork(RECORD, Lab(LOOP)), jump(Lab(LOOP))],
+    );
+    count_down_and_join(&mut four, LOOP, JOIN, DONE);
+    JobInput::new(four.image(), 4, 0)
+        .with_register(ROUNDS.into(), picks as i64)
+        .bytes()
+}
+
+/// An order for `four`: the four slots in turn. Five picks at its head are refused, until the last of
+/// the four runs; all others are carried out.
+pub fn four_in_turn(picks: u64) -> Vec<u8> {
+    (0..4).cycle().take(picks as usize).collect()
+}
+
 /// Of a round of the loop.
 const COUNT_DOWN_PICKS: u64 = 3;
 

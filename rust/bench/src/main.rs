@@ -12,6 +12,8 @@
 //!   new state's.
 //! - `run-serial`, `run-figure2`, `run-forks`, `run-waits`, `run-rest`: a whole run of a million picks,
 //!   from the job's bytes to the report. Both put question 10, the reader's and start's own once.
+//! - `replay`: an order of 65,536 bytes on a job of four running tasks, from the job's bytes and the
+//!   order to the state's bytes. The model plays it in place.
 //! - `job`, `job-small`: a whole call, from the job's bytes to the text in a lent buffer, with the same
 //!   questions: 256 instructions, words and picks; and program F, nine picks.
 //!
@@ -30,6 +32,9 @@ use timing::{black_box, calls_in_turns, in_turns, print, timed, Times};
 
 /// Larger than any run here.
 const BUDGET: u64 = 1_000_000_000;
+
+/// The work's place in a state.
+const WORK: usize = 2;
 
 fn compare_images() {
     const ROUNDS: usize = 401;
@@ -148,6 +153,48 @@ fn compare_runs(name: &str, what: &str, job: &[u8]) {
     );
 }
 
+/// Plays an order in place, refused picks passed over, as the engine's replay does. The program's
+/// questions are put thrice, which is nothing beside a long order.
+fn replay_on_model(job: &[u8], order: &[u8], state: &mut [u8]) -> Result<(), u8> {
+    let job = model::Job::parse(job)?;
+    let mut machine = job.start()?;
+    let call = model::Call::new(&job.program, &job.words)?;
+    for &slot in order {
+        let _ = machine.pick_in(call, slot.into());
+    }
+    model::state::write(&machine, state);
+    Ok(())
+}
+
+/// Times replays, from the bytes of a job and an order to the state's in a lent buffer.
+fn compare_replays(name: &str, what: &str, job: &[u8], order: &[u8]) {
+    const ROUNDS: usize = 101;
+    let [mut models, mut engines] = [(); 2].map(|_| vec![0; engine::STATE_BYTES]);
+    let times = in_turns(
+        ROUNDS,
+        || {
+            let (job, order, state) = (black_box(job), black_box(order), black_box(&mut models));
+            timed(|| assert!(replay_on_model(job, order, state).is_ok()))
+        },
+        || {
+            let (job, order, state) = (black_box(job), black_box(order), black_box(&mut engines));
+            timed(|| assert!(engine::replay(job, order, state) == 0))
+        },
+    );
+    assert!(models == engines);
+    let picks = order.len() as u64;
+    let nanoseconds = |time: f64| time / picks as f64 * 1e9;
+    print(name, what, &times);
+    println!(
+        "{:12} {} picks, {} refused: model {:.2} ns, engine {:.2} ns a pick",
+        name,
+        picks,
+        picks - checks::numbers::number_at(&engines, WORK),
+        nanoseconds(times.model),
+        nanoseconds(times.engine)
+    );
+}
+
 /// Times whole calls, from a job's bytes to its text in a lent buffer.
 fn compare_jobs(name: &str, what: &str, job: &[u8]) {
     const ROUNDS: usize = 201;
@@ -255,6 +302,13 @@ fn main() {
         "run-rest",
         "64 tasks, P 64: one loops, the others wait",
         &jobs::rest(picks),
+    );
+    let picks_in_order = 65_536;
+    compare_replays(
+        "replay",
+        "an order of 65,536 picks, four tasks that loop, P 4",
+        &jobs::four(picks_in_order),
+        &jobs::four_in_turn(picks_in_order),
     );
     compare_jobs(
         "job",

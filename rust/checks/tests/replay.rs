@@ -1,8 +1,10 @@
 //! Engine and model on seeded jobs with orders of picks, and program F's orders.
 
+use checks::assemble::JobInput;
 use checks::hand::{by_zero, f, f_with, outside};
+use checks::layout::even_blocks;
 use checks::numbers::number_at;
-use checks::replay::{run, state_after};
+use checks::replay::{compare, run, state_after, ReplayCase};
 use checks::shares::expect_all_met;
 
 const SEED: u64 = 0x7265_706c_6179;
@@ -11,6 +13,24 @@ const JOBS: u64 = 24_000;
 #[test]
 fn seeded_jobs() {
     expect_all_met(run(SEED, 0..JOBS), JOBS);
+}
+
+/// A task that loops for ever; of every three picks one is carried out, one names a slot without a
+/// task and one a slot that the state has not.
+#[test]
+fn a_long_order_is_carried_out_to_its_end() {
+    const PICKS: usize = 65_536;
+    let case = ReplayCase {
+        job: JobInput::new(even_blocks(128, 1024), 64, 0).bytes(),
+        order: (0..PICKS).map(|at| [0, 1, 200][at % 3]).collect(),
+        state_len: engine::STATE_BYTES,
+    };
+    let replayed = compare(&case, 0)
+        .unwrap()
+        .ok()
+        .expect("start accepts the job");
+    assert_eq!(replayed.refused.len(), PICKS - (PICKS + 2) / 3);
+    assert_eq!(replayed.refused[..2], [23, 21]);
 }
 
 const HALTED: u64 = 3;

@@ -199,6 +199,7 @@ impl Machine {
     }
 
     /// A pick that has only the questions from 21 on left to put.
+    #[inline]
     pub fn pick_in(&mut self, call: Call, slot: usize) -> Result<(), u8> {
         if slot >= self.places() {
             return Err(question::SLOT);

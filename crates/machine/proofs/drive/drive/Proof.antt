@@ -19,7 +19,7 @@ use Rattle.task.specs.declared.Executed.{Executed}
 use Rattle.task.specs.declared.Register.{Register}
 use Rattle.task.specs.declared.Task.{Task}
 use Rattle.task.specs.declared.Value.{Value}
-use Rattle.task.specs.Frames.{running, isRunning, noTask, zeros, zeroRegister}
+use Rattle.task.specs.Frames.{running, isRunning, noTask, zeros, zeroRegister, workLimit}
 use Rattle.task.specs.Step.{copied, movedTo}
 use Rattle.task.proofs.Copying.{copies-first, copies-none}
 use Rattle.task.proofs.Executing.{after}
@@ -93,7 +93,7 @@ Inv-loop cells words order course m₀ first begun₀ until₀ reach₀ k₀ gon
     (over ≡ false → Turns (given cells words m₀ order course) m (place k gone until reach begun) due side)
     × (over ≡ true → result (given cells words m₀ order course) ≡ record { machine = m; picks = m .work - m₀ .work })
     × (m₀ .work ≤ m .work)
-    × (m .work ≤ 4294967295)
+    × (m .work ≤ workLimit)
 
 abbrev μ-loop : tie.MeasureT-loop
 μ-loop cells words order course m₀ first begun₀ until₀ reach₀ k₀ gone₀ due₀ side₀ over₀ m begun until reach k gone due side over =
@@ -240,10 +240,10 @@ walk-r c = walk-of (look-of c)
 runs-at : (c : Runs) → running (at (walk-r c .loop2 .m) (walk-r c .loop2 .k)) ≡ true
 runs-at c = sym (c .before .is-running .ensures) ∙ c .if5 .taken
 
-room-at : (c : Runs) → walk-r c .loop2 .m .work < 4294967295
+room-at : (c : Runs) → walk-r c .loop2 .m .work < workLimit
 room-at c = omega (arith, goes-at (look-of c) .picks-left, at-w (walk-r c) .until-most)
 
-span-at : (c : Runs) → at (walk-r c .loop2 .m) (walk-r c .loop2 .k) .task .span < 4294967295
+span-at : (c : Runs) → at (walk-r c .loop2 .m) (walk-r c .loop2 .k) .task .span < workLimit
 span-at c = omega (arith, room-at c, at-w (walk-r c) .fits .counts (walk-r c .loop2 .k) .span-most)
 
 -- its instruction, carried out on small values
@@ -407,12 +407,12 @@ stopped-at : (c : Halting) → let w = walk-h c in
     Stopped (given-of (head-of (turn-w w)) .cells) (given-of (head-of (turn-w w)) .words) (w .loop2 .m) (place-w w) (w .loop2 .e)
 stopped-at c = walk-h c .loop2 .inv .1 (not-false (walk-h c .loop2 .stopped) (c .if8 .left))
 
-halt-room : (c : Halting) → walk-h c .loop2 .m .work < 4294967295
+halt-room : (c : Halting) → walk-h c .loop2 .m .work < workLimit
 halt-room c =
     let w = walk-h c in
     omega (arith, goes {m = w .loop2 .m} {p = place-w w} (stopped-at c .walks) .picks-left, at-w w .until-most)
 
-halt-span : (c : Halting) → at (walk-h c .loop2 .m) (walk-h c .loop2 .k) .task .span < 4294967295
+halt-span : (c : Halting) → at (walk-h c .loop2 .m) (walk-h c .loop2 .k) .task .span < workLimit
 halt-span c = omega (arith, halt-room c, at-w (walk-h c) .fits .counts (walk-h c .loop2 .k) .span-most)
 
 -- a fork: the child's slot is in the state
@@ -501,9 +501,10 @@ paired-at : (c : Cleared) → c .before .before .before .loop3 .m ≡ pairedAt (
 paired-at c =
     let i = c .before .before .before .loop3 .inv in
     let l = c .before .before .before .loop3 in
-    i .3 ∙ ap (placed (c .before .before .before .before .if1 .m) (c .before .before .before .before .if1 .plan .to)) (sym (i .4 ∙ copies-none _ (l .pairs) (l .packed) (i .1) (c .before .before .loop3-test .left)))
+    let j = c .before .before .before .before .if1 in
+    i .3 ∙ ap (placed (j .m) (j .plan .to)) (sym (i .4 ∙ copies-none _ (l .pairs) (l .packed) (i .1) (c .before .before .loop3-test .left)))
 
-cleared-at : (c : Cleared) → c .if9 .m ≡ clearedAt (c .before .before .before .before .if1 .plan) (pairedAt (c .before .before .before .before .if1 .plan) (c .before .before .before .before .if1 .m))
+cleared-at : (c : Cleared) → let j = c .before .before .before .before .if1 in c .if9 .m ≡ clearedAt (j .plan) (pairedAt (j .plan) (j .m))
 cleared-at c =
     let plan = c .before .before .before .before .if1 .plan in
     let m₂ = c .before .before .before .loop3 .m in
@@ -515,7 +516,7 @@ cleared-at c =
           ∙ ap (clearedAt plan) (paired-at c)
     ]
 
-copied-on : (c : Here tie.After-loop5) → c .before .loop5 .m ≡ moved (c .before .before .before .before .before .before .before .before .if1 .plan) (c .before .before .before .before .before .before .before .before .if1 .m)
+copied-on : (c : Here tie.After-loop5) → let j = c .before .before .before .before .before .before .before .before .if1 in c .before .loop5 .m ≡ moved (j .plan) (j .m)
 copied-on c =
     let plan = c .before .before .before .before .before .before .before .before .if1 .plan in
     let i = c .before .loop5 .inv in
@@ -524,7 +525,7 @@ copied-on c =
     ∙ sym (ap (λ (b : Bool). cond b (filling m₃ (plan .to) (at m₃ (plan .from) .registers) 16) m₃) (lt-ltb 0 (plan .whole) (c .before .before .if10 .taken)))
     ∙ ap (copiedAt plan) (cleared-at (c .before .before .before .before))
 
-copied-not : (c : Here tie.Else10) → c .before .before .if9 .m ≡ moved (c .before .before .before .before .before .before .if1 .plan) (c .before .before .before .before .before .before .if1 .m)
+copied-not : (c : Here tie.Else10) → let j = c .before .before .before .before .before .before .if1 in c .before .before .if9 .m ≡ moved (j .plan) (j .m)
 copied-not c =
     let plan = c .before .before .before .before .before .before .if1 .plan in
     let m₃ = c .before .before .if9 .m in
@@ -540,7 +541,7 @@ loop-holds c =
     let sized : Sized (a .machine) = record { of-bank = search (needs, length-by); of-tasks = search (needs, length-by) } in
     let allowed = shape-allowed (a .cells .now) (a .machine) (c .before .before .pre .0) (c .before .before .pre .2) in
     let fits = shape-fits (a .cells .now) (a .machine) sized (c .before .before .pre .2) in
-    let few : a .machine .work ≤ 4294967295 = search needs in (
+    let few : a .machine .work ≤ workLimit = search needs in (
       λ z. none-due g allowed 0 0 refl (omega arith)
           (at-first g fits allowed (c .before .before .pre .3) (place 0 0 (a .machine .work) 0 0) refl refl refl few refl),
       λ e. clash e refl,
@@ -568,9 +569,10 @@ loop-again c =
     let t = c .before .before .before .before .before in
     let h = head-of t in
     let w = at (h .loop .m) (h .loop .side) .task .places in
-    let none = without-room (given-of h .cells) (h .loop .m) (c .before .before .first-slot .result) w (h .loop .due)
+    let l = c .before .before in
+    let none = without-room (given-of h .cells) (h .loop .m) (l .first-slot .result) w (h .loop .due)
     (sym (c .before .has-room .ensures) ∙ not-true (c .before .has-room .result) (c .if2 .taken)) in (
-      λ z. stops (given-of h) (allowed-of h) (turns-at t) (c .before .before .first-slot .result) _ (c .before .before .before .before .if1 .taken) refl (c .before .before .first-slot .ensures .0) none,
+      λ z. stops (given-of h) (allowed-of h) (turns-at t) (l .first-slot .result) _ (l .before .before .if1 .taken) refl (l .first-slot .ensures .0) none,
       λ e. clash e (going-on t),
       h .loop .inv .2,
       h .loop .inv .3,
@@ -705,10 +707,10 @@ add-at-r : Here tie.Need-add-at-r
 add-at-r c = omega (arith, slot-inside (walk-d (c .before .before .before .before .before)), r-inside (c .before .before .before .before .before .before .before .before .before .before))
 
 mul-t98 : Here tie.Need-mul-t98
-mul-t98 c = omega (arith, slot-inside (walk-d (c .before .before .before .before .before .before)), r-inside (c .before .before .before .before .before .before .before .before .before .before .before))
+mul-t98 c = let d = c .before .before .before .before .before .before in omega (arith, slot-inside (walk-d d), r-inside (d .before .before .before .before .before))
 
 element-set-from-m-3 : Here tie.Need-element-set-from-m-3
-element-set-from-m-3 c = omega (arith, slot-inside (walk-d (c .before .before .before .before .before .before)), r-inside (c .before .before .before .before .before .before .before .before .before .before .before))
+element-set-from-m-3 c = let d = c .before .before .before .before .before .before in omega (arith, slot-inside (walk-d d), r-inside (d .before .before .before .before .before))
 
 add-m : Here tie.Need-add-m
 add-m c = omega (arith, ran-work c, room-at (runs-of (done-r c)))
@@ -841,28 +843,36 @@ loop3-holds : Here tie.Need-loop3-holds
 loop3-holds c = (omega arith, at (c .if1 .m) (c .if1 .plan .to) .registers, length-reads zeroRegister (c .if1 .m .bank) _ 16, placed-none _ _, refl)
 
 mul-moved : Here tie.Need-mul-moved
-mul-moved c = omega (arith, planned-at (c .before .before) .plan-fits .from-below)
+mul-moved c =
+    let p = planned-at (c .before .before) .plan-fits in omega (arith, p .from-below, p .to-below)
 
 add-moved : Here tie.Need-add-moved
-add-moved c = omega (arith, planned-at (c .before .before) .plan-fits .from-below)
+add-moved c =
+    let p = planned-at (c .before .before) .plan-fits in omega (arith, p .from-below, p .to-below)
 
 mul-moved-2 : Here tie.Need-mul-moved-2
-mul-moved-2 c = omega (arith, planned-at (c .before .before) .plan-fits .from-below)
+mul-moved-2 c =
+    let p = planned-at (c .before .before) .plan-fits in omega (arith, p .from-below, p .to-below)
 
 element-copy-out-moved : Here tie.Need-element-copy-out-moved
-element-copy-out-moved c = omega (arith, planned-at (c .before .before) .plan-fits .from-below)
+element-copy-out-moved c =
+    let p = planned-at (c .before .before) .plan-fits in omega (arith, p .from-below, p .to-below)
 
 mul-moved-3 : Here tie.Need-mul-moved-3
-mul-moved-3 c = omega (arith, planned-at (c .before .before .before) .plan-fits .to-below)
+mul-moved-3 c =
+    let p = planned-at (c .before .before .before) .plan-fits in omega (arith, p .from-below, p .to-below)
 
 add-moved-2 : Here tie.Need-add-moved-2
-add-moved-2 c = omega (arith, planned-at (c .before .before .before) .plan-fits .to-below)
+add-moved-2 c =
+    let p = planned-at (c .before .before .before) .plan-fits in omega (arith, p .from-below, p .to-below)
 
 mul-moved-4 : Here tie.Need-mul-moved-4
-mul-moved-4 c = omega (arith, planned-at (c .before .before .before) .plan-fits .to-below)
+mul-moved-4 c =
+    let p = planned-at (c .before .before .before) .plan-fits in omega (arith, p .from-below, p .to-below)
 
 element-set-from-moved : Here tie.Need-element-set-from-moved
-element-set-from-moved c = omega (arith, planned-at (c .before .before .before) .plan-fits .to-below)
+element-set-from-moved c =
+    let p = planned-at (c .before .before .before) .plan-fits in omega (arith, p .from-below, p .to-below)
 
 sub-pairs : Here tie.Need-sub-pairs
 sub-pairs c = omega (arith, c .before .loop3-test .taken)
@@ -959,9 +969,10 @@ loop5-less c = omega (arith, c .before .loop5-test .taken)
 loop5-again : Here tie.Need-loop5-again
 loop5-again c =
     let l = c .before .before in
-    let plan = c .before .before .before .before .before .before .before .before .before .if1 .plan in (
+    let p = c .before .before .before .before .before .before .before .before .before in
+    let plan = p .if1 .plan in (
       omega (arith, c .before .loop5-test .taken),
-      copy-next _ (plan .to) (plan .from) (l .loop5 .i) (planned-at (c .before .before .before .before .before .before .before .before .before) .plan-fits .whole-apart (l .before .if10 .taken)) (l .loop5 .inv .1)
+      copy-next _ (plan .to) (plan .from) (l .loop5 .i) (planned-at p .plan-fits .whole-apart (l .before .if10 .taken)) (l .loop5 .inv .1)
           (c .before .loop5-test .taken) refl,
     )
 
