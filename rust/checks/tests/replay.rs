@@ -25,10 +25,7 @@ fn a_long_order_is_carried_out_to_its_end() {
         order: (0..PICKS).map(|at| [0, 1, 200][at % 3]).collect(),
         state_len: engine::STATE_BYTES,
     };
-    let replayed = compare(&case, 0)
-        .unwrap()
-        .ok()
-        .expect("start accepts the job");
+    let replayed = compare(&case, 0).unwrap().expect("start accepts the job");
     assert_eq!(replayed.refused.len(), PICKS - (PICKS + 2) / 3);
     assert_eq!(replayed.refused[..2], [23, 21]);
 }
