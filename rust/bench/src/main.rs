@@ -159,9 +159,7 @@ fn replay_on_model(job: &[u8], order: &[u8], state: &mut [u8]) -> Result<(), u8>
     let job = model::Job::parse(job)?;
     let mut machine = job.start()?;
     let call = model::Call::new(&job.program, &job.words)?;
-    for &slot in order {
-        let _ = machine.pick_in(call, slot.into());
-    }
+    machine.play(call, order);
     model::state::write(&machine, state);
     Ok(())
 }

@@ -198,8 +198,14 @@ impl Machine {
         self.pick_in(call, slot)
     }
 
+    /// A pick for each byte of the order, refused ones passed over.
+    pub fn play(&mut self, call: Call, order: &[u8]) {
+        for &slot in order {
+            let _ = self.pick_in(call, slot.into());
+        }
+    }
+
     /// A pick that has only the questions from 21 on left to put.
-    #[inline]
     pub fn pick_in(&mut self, call: Call, slot: usize) -> Result<(), u8> {
         if slot >= self.places() {
             return Err(question::SLOT);
