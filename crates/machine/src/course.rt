@@ -61,7 +61,7 @@ fn next_pass(slot: usize, picks: u64, begun: usize, places: u64, work: u32) -> S
     }
 }
 
-// A byte that names no slot of the state (question 21) is passed over. Next_stretch alone calls it, with a state's places.
+// A byte that names no slot of the state (question 21) is passed over.
 fn next_listed(order: &[u8], begun: usize, places: u64, work: u32) -> Stretch
     ensures { λ r. ⌜ r ≡ nextListed (drop begun (now (order .entry))) begun places work ⌝ }
 {
@@ -106,7 +106,8 @@ pub fn walks_on(stopped: bool, work: u32, until: u32, gone: u64, reach: u64) -> 
     gone < reach
 }
 
-// The slot behind w places of slot k; 0 behind the last.
+// The slot behind w places of slot k; 0 behind the last. Drive alone calls this and the next two, with a slot of the state, the places of its
+// task (of a state of the shape at most 64) and the places gone by, which are fewer than the stretch's reach.
 pub fn behind_slot(places: u64, k: usize, w: u64) -> usize
     requires { ⌜ (k < 64) × (w ≤ 64) ⌝ }
     ensures { λ r. ⌜ r ≡ behind places k w ⌝ }

@@ -130,7 +130,7 @@ pub fn ask_state(cells: &[u64], words: usize, m: Machine) -> u8
     0
 }
 
-// The questions of a pick. Pick and `orders` call it, and read t, the task at slot % 64, out of the state where it stands: read here, it
+// The questions of a pick. Pick alone calls it, and reads t, the task at slot % 64, out of the state where it stands: read here, it
 // would cost a copy of the state.
 pub fn ask_pick(cells: &[u64], words: usize, m: Machine, t: Task, slot: u64) -> u8
     requires { ⌜ t ≡ getD (m .tasks) (slot % 64) noTask ⌝ }

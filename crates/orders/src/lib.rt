@@ -9,8 +9,8 @@ ghost use Rattle.machine.specs.Starting.{startNo, empty};
 ghost use Rattle.orders.specs.Demand.{Job, WhateverTheOrder, startOn, played};
 ghost use Rattle.orders.specs.Replay.{jobOf, replayed};
 
-// Starts a job and carries out one pick for each byte of the order, refused ones passed over. The number is start's; a refused start hands back a blank state. Otherwise whatever the
-// order, demand 3 holds of the state.
+// Starts a job and carries out one pick for each byte of the order, refused ones passed over. The number is start's; a refused start hands
+// back a blank state. Otherwise whatever the order, demand 3 holds of the state.
 pub fn replay(
     cells: &[u64],
     places: u64,
@@ -21,7 +21,8 @@ pub fn replay(
 ) -> Answered
     ensures { λ r. ⌜ r .no ≡ startNo (now (cells .entry)) places interval (now (registers .entry)) (now (words .entry)) ⌝ }
     ensures { λ r. ⌜ r .machine ≡ replayed (r .no) (jobOf (now (cells .entry)) places interval (now (registers .entry)) (now (words .entry))) (now (order .entry)) ⌝ }
-    ensures { λ r. ⌜ (r .no ≡ 0 → WhateverTheOrder (jobOf (now (cells .entry)) places interval (now (registers .entry)) (now (words .entry))) (startOn (jobOf (now (cells .entry)) places interval (now (registers .entry)) (now (words .entry))) (empty 0 0)) (now (order .entry))) ⌝ }
+    ensures { λ r. ⌜ (r .no ≡ 0 → WhateverTheOrder (jobOf (now (cells .entry)) places interval (now (registers .entry)) (now (words .entry)))
+        (startOn (jobOf (now (cells .entry)) places interval (now (registers .entry)) (now (words .entry))) (empty 0 0)) (now (order .entry))) ⌝ }
 {
     let answer = Machine::blank().start(cells, places, interval, registers, words);
     let no = answer.no;
