@@ -21,12 +21,13 @@ use Rattle.task.specs.declared.Value.{Value}
 use Rattle.task.specs.declared.Value.the-variants.{Int, Label, Record}
 use Rattle.task.specs.declared.Frame.{Frame}
 use Rattle.task.specs.Step.{register}
-use Rattle.machine.specs.declared.Machine.{Machine}
-use Rattle.machine.specs.declared.End.{End}
-use Rattle.machine.specs.declared.End.the-variants.{NotEnded, Halt, Fault}
-use Rattle.machine.specs.Slots.{at}
-use Rattle.machine.specs.Ending.{endOf, jobEnded}
-use Rattle.machine.specs.Starting.{placesAllowed, intervalAllowed, startNo, startNoBy}
+use Rattle.drive.specs.declared.State.{State}
+use Rattle.drive.specs.declared.End.{End}
+use Rattle.drive.specs.declared.End.the-variants.{NotEnded, Halt, Fault}
+use Rattle.drive.specs.Slots.{at}
+use Rattle.drive.specs.Ending.{endOf, jobEnded}
+use Rattle.drive.specs.Settings.{placesAllowed, intervalAllowed}
+use Rattle.machine.specs.Starting.{startNo, startNoBy}
 use Rattle.task.specs.Frames.{workLimit}
 use Rattle.machine.proofs.StartLaws.{fresh-fits}
 use Rattle.orders.specs.Demand.{Job, Accepted, startOn, played, evaluation, Ends}
@@ -106,13 +107,13 @@ evaluation-shows x fuel l (ran e work) p h =
 
 -- ---- Orders
 
-order-completes : (j : Job) → Accepted j → (m : Machine) (ks : List ℕ) → endsIn j ks ≡ true → Complete j (startOn j m) ks
+order-completes : (j : Job) → Accepted j → (m : State) (ks : List ℕ) → endsIn j ks ≡ true → Complete j (startOn j m) ks
 order-completes j a m ks t =
     let s = job-accepted j a in
     ap (λ n. jobEnded (played j n ks)) (started-job j a m) ∙ ap jobEnded (played-is s ks (freshJob j) (fresh-fits s)) ∙ t
 
 order-shows : (x : Case) → Accepted (jobOf x) → (e : Frame) → Ends (jobOf x) e (x .outcome .work) → Shows x e (x .outcome .work)
-    → (m : Machine) (ks : List ℕ) → Complete (jobOf x) (start x m) ks → Shows x (at (after x m ks) 0) (after x m ks .work)
+    → (m : State) (ks : List ℕ) → Complete (jobOf x) (start x m) ks → Shows x (at (after x m ks) 0) (after x m ks .work)
 order-shows x a e t s m ks done =
     let same = demand-3 (jobOf x) a m ks .where-it-ends e (x .outcome .work) t .then-same-result done in
     record {

@@ -13,7 +13,8 @@ use Rattle.agreement.specs.Picks.{pick, play}
 use Rattle.task.specs.Effect.{asked, belong, fits}
 use Rattle.task.specs.Step.{operand, promotes, step, copied, join}
 use Rattle.task.specs.Stretches.{reads}
-use Rattle.machine.specs.Starting.{rank, fresh}
+use Rattle.drive.specs.Settings.{rank}
+use Rattle.machine.specs.Starting.{fresh}
 use Rattle.cases.specs.Assembly.{assembled}
 use Rattle.cases.specs.ProgramF.{forking, programF, imageF, twoFaults, haltInSide}
 use Rattle.cases.specs.Figure2.{product}

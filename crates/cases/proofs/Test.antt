@@ -12,10 +12,10 @@ use Rattle.task.specs.declared.Value.{Value}
 use Rattle.task.specs.declared.Value.the-variants.{Int, Label, Record}
 use Rattle.task.specs.declared.Frame.{Frame}
 use Rattle.task.specs.Step.{register}
-use Rattle.machine.specs.declared.End.{End}
-use Rattle.machine.specs.declared.End.the-variants.{NotEnded, Halt, Fault}
-use Rattle.machine.specs.Ending.{endOf, jobEnded}
-use Rattle.machine.specs.Starting.{placesAllowed, intervalAllowed}
+use Rattle.drive.specs.declared.End.{End}
+use Rattle.drive.specs.declared.End.the-variants.{NotEnded, Halt, Fault}
+use Rattle.drive.specs.Ending.{endOf, jobEnded}
+use Rattle.drive.specs.Settings.{placesAllowed, intervalAllowed}
 use Rattle.task.specs.Frames.{workLimit}
 use Rattle.orders.specs.Demand.{Job, evaluation}
 use Rattle.orders.proofs.Plays.{modelOfJob, freshJob}

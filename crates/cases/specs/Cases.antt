@@ -8,10 +8,10 @@ use Rattle.image.specs.Doors.{imageNo}
 use Rattle.task.specs.declared.Value.{Value}
 use Rattle.task.specs.declared.Frame.{Frame}
 use Rattle.task.specs.Step.{register}
-use Rattle.machine.specs.declared.Machine.{Machine}
-use Rattle.machine.specs.declared.End.{End}
-use Rattle.machine.specs.Slots.{at}
-use Rattle.machine.specs.Ending.{endOf}
+use Rattle.drive.specs.declared.State.{State}
+use Rattle.drive.specs.declared.End.{End}
+use Rattle.drive.specs.Slots.{at}
+use Rattle.drive.specs.Ending.{endOf}
 use Rattle.orders.specs.Demand.{Job, Accepted, startOn, played, Ends}
 use Rattle.orders.specs.Complete.{Complete}
 
@@ -52,10 +52,10 @@ jobOf x = record {
 }
 
 -- the state that start hands back, called on the state m; and the state after the order ks
-abbrev pub start : Case → Machine → Machine
+abbrev pub start : Case → State → State
 start x m = startOn (jobOf x) m
 
-abbrev pub after : Case → Machine → List ℕ → Machine
+abbrev pub after : Case → State → List ℕ → State
 after x m ks = played (jobOf x) (start x m) ks
 
 -- n slots, from i on
@@ -89,6 +89,6 @@ pub record Right (x : Case) : Type 0 where
   -- the plain evaluation ends within the limit, with the outcome
   pub evaluated : (e : Frame) × Ends (jobOf x) e (x .outcome .work) × Shows x e (x .outcome .work)
   -- the orders above are complete, whatever state start was called on
-  pub orders-complete : (m : Machine) (ks : List ℕ) → List·Memᴰ ks (ordersOf x) → Complete (jobOf x) (start x m) ks
+  pub orders-complete : (m : State) (ks : List ℕ) → List·Memᴰ ks (ordersOf x) → Complete (jobOf x) (start x m) ks
   -- they and all other complete orders end with the outcome
-  pub orders-show : (m : Machine) (ks : List ℕ) → Complete (jobOf x) (start x m) ks → Shows x (at (after x m ks) 0) (after x m ks .work)
+  pub orders-show : (m : State) (ks : List ℕ) → Complete (jobOf x) (start x m) ks → Shows x (at (after x m ks) 0) (after x m ks .work)

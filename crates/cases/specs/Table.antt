@@ -6,7 +6,7 @@ use lib.IntN.{ℤ, pos, negℤ}
 use lib.ListN.{length, replicate}
 use Rattle.image.specs.declared.Instruction.{Instruction}
 use Rattle.task.specs.declared.Value.the-variants.{Int, Record}
-use Rattle.machine.specs.declared.End.the-variants.{Halt, Fault}
+use Rattle.drive.specs.declared.End.the-variants.{Halt, Fault}
 use Rattle.cases.specs.Assembly.{block, none, int, plus, divide, modulo, less, halt, assembled}
 use Rattle.cases.specs.ProgramF.{imageF, twoFaults, haltInSide}
 use Rattle.cases.specs.Figure2.{product, c}

@@ -14,11 +14,14 @@ use Rattle.task.specs.Effect.{asked, belong, fits}
 use Rattle.task.specs.Step.{operand, promotes, step, copied, join}
 use Rattle.task.specs.Formed.{every as everySlot, isTarget, formed, isVacant}
 use Rattle.task.specs.Stretches.{reads}
-use Rattle.machine.specs.Starting.{rank, startNoBy, fresh}
-use Rattle.machine.specs.Shape.{shape}
-use Rattle.machine.specs.Picking.{slotNo, stateNoBy}
-use Rattle.machine.specs.Courses.{follows}
-use Rattle.machine.specs.Running.{firstRunning, nextPick, passes as passing, outcome}
+use Rattle.drive.specs.Settings.{rank}
+use Rattle.machine.specs.Starting.{startNoBy, fresh}
+use Rattle.drive.specs.Shape.{shape}
+use Rattle.drive.specs.Issue.{slotNo}
+use Rattle.machine.specs.Picking.{stateNoBy}
+use Rattle.drive.specs.Courses.{follows}
+use Rattle.drive.specs.Passes.{firstRunning, nextPick, passes as passing}
+use Rattle.machine.specs.Running.{outcome}
 use Rattle.state.specs.Numbers.{integersIn, inBytes}
 use Rattle.state.specs.Reading.{table}
 use Rattle.report.specs.Words.{digits}

@@ -14,7 +14,7 @@ use Rattle.image.specs.Doors.{imageNo, readNo, rewriteNo, writeNo}
 use Rattle.agreement.specs.Plain.{Stepped, one, two}
 use Rattle.task.specs.declared.Frame.{Frame}
 use Rattle.task.specs.Step.{step}
-use Rattle.machine.specs.declared.Machine.{Machine}
+use Rattle.drive.specs.declared.State.{State}
 use Rattle.machine.specs.declared.Outcome.{Outcome}
 use Rattle.machine.specs.Starting.{startNo}
 use Rattle.machine.specs.Picking.{pickNo}
@@ -41,9 +41,9 @@ pub data Call : Type 0 where
   -- start: a program buffer, P, the interval, registers and words
   start : List ℕ → ℕ → ℕ → List ℤ → List ℤ → Call
   -- pick: a program buffer, words, a state and a slot
-  pick : List ℕ → List ℤ → Machine → ℕ → Call
+  pick : List ℕ → List ℤ → State → ℕ → Call
   -- run: a program buffer, words, a state and a budget
-  run : List ℕ → List ℤ → Machine → ℕ → Call
+  run : List ℕ → List ℤ → State → ℕ → Call
   -- the run program: a job
   job : List ℕ → Call
   -- the run and the replay of a job: a job, and the length of the buffer that is lent
@@ -111,7 +111,7 @@ pub data Row : Type 0 where
   -- the call answers this number
   _gives_ : Call → ℕ → Row
   -- a run of this program buffer, words, state and budget says this
-  says : List ℕ → List ℤ → Machine → ℕ → Said → Row
+  says : List ℕ → List ℤ → State → ℕ → Said → Row
   -- the run program prints these lines for a job and a budget
   prints : List ℕ → ℕ → List String → Row
 

@@ -6,14 +6,14 @@ use lib.IntN.{pos}
 use lib.ListN.{take}
 use Rattle.task.specs.declared.Value.the-variants.{Int, Label, Record}
 use Rattle.task.specs.declared.Status.the-variants.{Waiting, Halted, Faulted}
-use Rattle.machine.specs.declared.Machine.{Machine}
+use Rattle.drive.specs.declared.State.{State}
 use Rattle.doors.specs.Doors.{Call, Row, _gives_, says, refused, ended, spent, pick, run}
 use Rattle.doors.specs.Programs.{programF, onlyHalt, zeros, noState}
 use Rattle.doors.specs.States.{after, fresh, forked, parentWaits, halted, faulted}
 use Rattle.doors.specs.States.{withPlaces, withInterval, withWork, status, places, pc, counter, span, depth, fork, register, but, copied}
 
 -- a pick of F's task in a slot, with no words
-abbrev pub pickF : Machine → ℕ → Call
+abbrev pub pickF : State → ℕ → Call
 pickF state slot = pick programF [] state slot
 
 -- ---- The program's questions stand in Programs.antt; then 14, 15 and 20

@@ -5,7 +5,7 @@ use Prim.Native.Nat.{ℕ}
 use lib.IntN.{ℤ, pos}
 use lib.ListN.{set, take, replicate}
 use Rattle.image.specs.Layout.{cellsIn}
-use Rattle.machine.specs.declared.Machine.{Machine}
+use Rattle.drive.specs.declared.State.{State}
 use Rattle.machine.specs.Starting.{empty}
 use Rattle.cases.specs.ProgramF.{imageF}
 use Rattle.doors.specs.Doors.{Asked, _gets_, Row, _gives_, write, start, pick, run, orLater}
@@ -25,7 +25,7 @@ abbrev pub zeros : ℕ → List ℤ
 zeros n = replicate n (pos 0)
 
 -- no state that start or a pick leaves
-abbrev pub noState : Machine
+abbrev pub noState : State
 noState = empty 0 0
 
 -- ---- Question 4, and what a short buffer lacks

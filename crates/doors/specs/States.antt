@@ -9,49 +9,49 @@ use Rattle.task.specs.declared.Status.{Status}
 use Rattle.task.specs.declared.Fork.{Fork}
 use Rattle.task.specs.declared.Task.{Task}
 use Rattle.task.specs.declared.Frame.{Frame}
-use Rattle.machine.specs.declared.Machine.{Machine}
-use Rattle.machine.specs.Slots.{at, put}
+use Rattle.drive.specs.declared.State.{State}
+use Rattle.drive.specs.Slots.{at, put}
 use Rattle.machine.specs.Starting as start
-use Rattle.machine.specs.Picking.{issued}
+use Rattle.drive.specs.Issue.{issued}
 use Rattle.doors.specs.Programs.{programF, zeros}
 
 -- ---- F after picks
 
 -- picks of these slots that are carried out, one after the other
-abbrev pub carriedOut : List ℕ → Machine → Machine
+abbrev pub carriedOut : List ℕ → State → State
 carriedOut [] m = m
 carriedOut (k ∷ ks) m = carriedOut ks (issued programF [] m k)
 
 -- from a start with P, interval 0, r0 4, other registers 0 and no words
-abbrev pub after : ℕ → List ℕ → Machine
+abbrev pub after : ℕ → List ℕ → State
 after places slots = carriedOut slots (start.fresh places 0 (pos 4 ∷ zeros 15))
 
 -- with P 2: the start; both sides open; the parent's side waits; the end
-abbrev pub fresh : Machine
+abbrev pub fresh : State
 fresh = after 2 []
 
-abbrev pub forked : Machine
+abbrev pub forked : State
 forked = after 2 (0 ∷ 0 ∷ [])
 
-abbrev pub parentWaits : Machine
+abbrev pub parentWaits : State
 parentWaits = after 2 (0 ∷ 0 ∷ 0 ∷ 0 ∷ [])
 
-abbrev pub halted : Machine
+abbrev pub halted : State
 halted = after 2 (0 ∷ 0 ∷ 0 ∷ 0 ∷ 1 ∷ 1 ∷ 0 ∷ 0 ∷ 0 ∷ [])
 
 -- with P 1: the end by fault 37
-abbrev pub faulted : Machine
+abbrev pub faulted : State
 faulted = after 1 (0 ∷ 0 ∷ [])
 
 -- ---- Those states changed
 
-abbrev pub withPlaces : ℕ → Machine → Machine
+abbrev pub withPlaces : ℕ → State → State
 withPlaces places m = record { places = places; interval = m .interval; work = m .work; bank = m .bank; tasks = m .tasks }
 
-abbrev pub withInterval : ℕ → Machine → Machine
+abbrev pub withInterval : ℕ → State → State
 withInterval interval m = record { places = m .places; interval = interval; work = m .work; bank = m .bank; tasks = m .tasks }
 
-abbrev pub withWork : ℕ → Machine → Machine
+abbrev pub withWork : ℕ → State → State
 withWork work m = record { places = m .places; interval = m .interval; work = work; bank = m .bank; tasks = m .tasks }
 
 -- a field of a task record, an entry of its forks, or a register
@@ -141,9 +141,9 @@ abbrev pub frameBut : Change → Frame → Frame
 frameBut c f = record { task = taskBut c (f .task); registers = registersBut c (f .registers) }
 
 -- the frame of slot k changed
-abbrev pub but : ℕ → Change → Machine → Machine
+abbrev pub but : ℕ → Change → State → State
 but k c m = put m k (frameBut c (at m k))
 
 -- what one slot holds, put at another
-abbrev pub copied : ℕ → ℕ → Machine → Machine
+abbrev pub copied : ℕ → ℕ → State → State
 copied from to m = put m to (at m from)

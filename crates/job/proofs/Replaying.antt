@@ -12,7 +12,7 @@ use Rattle.image.specs.Layout.{cellsIn}
 use Rattle.image.specs.Questions.{ask, orElse}
 use Rattle.image.specs.Doors.{unlessRefused, imageNo}
 use Rattle.image.proofs.Asked.{ask-yes, or-else-both}
-use Rattle.machine.specs.declared.Machine.{Machine}
+use Rattle.drive.specs.declared.State.{State}
 use Rattle.machine.specs.Starting.{startNo, startNoBy, empty}
 use Rattle.machine.proofs.StartLaws.{start-accepted}
 use Rattle.orders.specs.Demand.{Job, WhateverTheOrder, startOn, played}
@@ -45,7 +45,7 @@ module _ (bytes : List ℕ) (accepted : jobNo bytes ≡ 0) where
       let s = start-accepted (cellsIn (jobImage bytes)) (jobPlaces bytes) (jobInterval bytes) (jobRegisters bytes) (jobWords bytes) start-agrees in
       omega (arith, leb-true (length (jobWords bytes)) 4096 (s .lent .few-words), word-length)
 
-  module _ (order cells : List ℕ) (places interval : ℕ) (registers words : List ℤ) (answer : ℕ) (m : Machine) (p : cells ≡ cellsIn (jobImage bytes))
+  module _ (order cells : List ℕ) (places interval : ℕ) (registers words : List ℤ) (answer : ℕ) (m : State) (p : cells ≡ cellsIn (jobImage bytes))
       (q : places ≡ jobPlaces bytes) (r : interval ≡ jobInterval bytes) (s : registers ≡ jobRegisters bytes) (t : words ≡ jobWords bytes) where
     same-job : jobOf cells places interval registers words ≡ jobIn bytes
     same-job = λ i. record { cells = p i; places = q i; interval = r i; registers = s i; words = t i }

@@ -11,16 +11,16 @@ use lib.Seq.{sets}
 use borrow.Author.Tests.{eq-eqb, ne-eqb, eqb-true}
 use Rattle.image.specs.Layout.{programCells, cellsIn, programOf}
 use Rattle.image.specs.Questions.{programNo}
-use Rattle.machine.specs.declared.Machine.{Machine}
-use Rattle.machine.specs.declared.Driven.{Driven}
+use Rattle.drive.specs.declared.State.{State}
+use Rattle.drive.specs.declared.Driven.{Driven}
 use Rattle.machine.specs.Starting.{fresh, empty}
-use Rattle.machine.specs.Shape.{shape}
-use Rattle.machine.specs.declared.course.Course.the-variants.{Passes}
-use Rattle.machine.specs.Driving.{startsIn, driven}
-use Rattle.machine.proofs.Intervals.{interval-fits}
-use Rattle.machine.proofs.Owning.{places-some}
+use Rattle.drive.specs.Shape.{shape}
+use Rattle.turns.specs.declared.course.Course.the-variants.{Passes}
+use Rattle.drive.specs.Driving.{startsIn, driven}
+use Rattle.drive.proofs.Intervals.{interval-fits}
+use Rattle.drive.proofs.Owning.{places-some}
 use Rattle.machine.proofs.Picked.{starts-in}
-use Rattle.machine.proofs.ShapeLaws.{Fits, fits-shape}
+use Rattle.drive.proofs.ShapeLaws.{Fits, fits-shape}
 use Rattle.machine.proofs.StartLaws.{StartAccepted, start-accepted, started-fresh, fresh-fits}
 use Rattle.orders.specs.Demand.{Job, startOn}
 use Rattle.report.specs.declared.Report.{Report}
@@ -42,7 +42,7 @@ module _ (bytes : List ℕ) (accepted : jobNo bytes ≡ 0) where
   interval-small = interval-fits (jobInterval bytes) (start .allowed .interval-allowed)
 
   module _ {cells : List ℕ} {places interval : ℕ} {registers : List ℤ} (p : cells ≡ cellsIn (jobImage bytes)) (q : places ≡ jobPlaces bytes)
-      (r : interval ≡ jobInterval bytes) (s : registers ≡ jobRegisters bytes) {m : Machine} (e : m ≡ fresh places interval registers) where
+      (r : interval ≡ jobInterval bytes) (s : registers ≡ jobRegisters bytes) {m : State} (e : m ≡ fresh places interval registers) where
     its-state : m ≡ fresh (j .places) (j .interval) (j .registers)
     its-state = e ∙ (λ i. fresh (q i) (r i) (s i))
 
@@ -57,10 +57,10 @@ module _ (bytes : List ℕ) (accepted : jobNo bytes ≡ 0) where
         )
 
     pub run-agrees : {words : List ℤ} (t : words ≡ jobWords bytes) (order : List ℕ) (budget : ℕ) {d : Driven} {report : Report} → d ≡ driven cells words m order (Passes 0 budget)
-        → report ≡ reportOf (d .machine) (d .picks) → report ≡ reportIn bytes budget
+        → report ≡ reportOf (d .state) (d .picks) → report ≡ reportIn bytes budget
     run-agrees t order budget f g =
         let first : m ≡ startOn j (empty 0 0) = its-state ∙ sym (started-fresh (empty 0 0) (j .cells) (j .places) (j .interval) (j .registers) (j .words) (start-agrees bytes accepted)) in
-        g ∙ ap (λ (o : Driven). reportOf (o .machine) (o .picks)) (f ∙ (λ i. driven (p i) (t i) (first i) order (Passes 0 budget)))
+        g ∙ ap (λ (o : Driven). reportOf (o .state) (o .picks)) (f ∙ (λ i. driven (p i) (t i) (first i) order (Passes 0 budget)))
 
 -- ---- the text
 

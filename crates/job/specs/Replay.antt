@@ -4,7 +4,7 @@ use Prim.Native.Nat.{ℕ}
 use lib.Dec.{eqb}
 use Rattle.image.specs.Layout.{cellsIn}
 use Rattle.image.specs.Questions.{ask, orElse}
-use Rattle.machine.specs.declared.Machine.{Machine}
+use Rattle.drive.specs.declared.State.{State}
 use Rattle.machine.specs.Starting.{empty}
 use Rattle.orders.specs.Demand.{Job, startOn, played}
 use Rattle.state.specs.State.{stateLength}
@@ -25,5 +25,5 @@ unfoldable pub replayNo : List ℕ → ℕ → ℕ
 replayNo bytes lent = orElse (jobNo bytes) (ask (eqb lent stateLength) 15 0)
 
 -- the state after the order, from a start that is called on a blank one
-abbrev pub replayOf : List ℕ → List ℕ → Machine
+abbrev pub replayOf : List ℕ → List ℕ → State
 replayOf bytes order = played (jobIn bytes) (startOn (jobIn bytes) (empty 0 0)) order

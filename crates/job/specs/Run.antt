@@ -7,8 +7,8 @@ use lib.ListN.{length}
 use lib.Seq.{sets}
 use Rattle.image.specs.Questions.{ask, orElse}
 use Rattle.machine.specs.Starting.{empty}
-use Rattle.machine.specs.Courses.{Run}
-use Rattle.machine.specs.Running.{runFrom}
+use Rattle.drive.specs.Courses.{Run}
+use Rattle.drive.specs.Passes.{runFrom}
 use Rattle.orders.specs.Demand.{startOn}
 use Rattle.report.specs.declared.Report.{Report}
 use Rattle.report.specs.Report.{reportOf, reportLength}
@@ -20,7 +20,7 @@ abbrev pub runIn : List ℕ → ℕ → Run ℕ
 runIn bytes budget = let j = jobIn bytes in runFrom (j .cells) (j .words) (startOn j (empty 0 0)) 0 budget
 
 abbrev pub reportIn : List ℕ → ℕ → Report
-reportIn bytes budget = reportOf (runIn bytes budget .machine) (runIn bytes budget .picks)
+reportIn bytes budget = reportOf (runIn bytes budget .state) (runIn bytes budget .picks)
 
 -- the job's questions, then: the report's buffer of the length docs/ names? (15)
 unfoldable pub runNo : List ℕ → ℕ → ℕ

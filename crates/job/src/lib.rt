@@ -1,8 +1,8 @@
 // The exports: what a program in C or another language calls. Numbers and byte slices only.
 mod input;
 
+use drive::State;
 use image::layout::PROGRAM_CELLS;
-use machine::Machine;
 use machine::start::MOST_WORDS;
 use report::REPORT_BYTES;
 use report::Report;
@@ -42,7 +42,7 @@ pub extern "C" fn tpal_image_rewrite(image: &[u8], out: &mut [u8]) -> u8
 }
 
 // The order carried out on an accepted job, whose words go to the lent slice.
-fn carry_out(job: &[u8], cells: &[u64], words: &mut [i64], order: &[u8]) -> Machine
+fn carry_out(job: &[u8], cells: &[u64], words: &mut [i64], order: &[u8]) -> State
     requires { ⌜ (jobNo (now job) ≡ 0) × (now cells ≡ cellsIn (jobImage (now job))) × (length (now words) ≡ wordCount (now job)) ⌝ }
     ensures { λ r. ⌜ r ≡ replayOf (now (job .entry)) (now (order .entry)) ⌝ }
 {
@@ -52,7 +52,7 @@ fn carry_out(job: &[u8], cells: &[u64], words: &mut [i64], order: &[u8]) -> Mach
     let places = input::places_of(job);
     let interval = input::interval_of(job);
     let answer = orders::replay(cells, places, interval, &registers, words, order);
-    answer.machine
+    answer.machine.state
 }
 
 // Starts a job, given by its bytes, and carries out one pick for each byte of the order; then writes the whole state into `state`, which
@@ -73,8 +73,8 @@ pub extern "C" fn tpal_replay(job: &[u8], order: &[u8], state: &mut [u8]) -> u8
     }
     let mut words = [0i64; MOST_WORDS];
     let count = input::word_count(job);
-    let machine = carry_out(job, &cells, &mut words[..count], order);
-    state::writer::write_state(machine, state);
+    let last = carry_out(job, &cells, &mut words[..count], order);
+    state::writer::write_state(last, state);
     0
 }
 
@@ -89,15 +89,15 @@ fn run_job(job: &[u8], cells: &[u64], words: &mut [i64], budget: u64) -> Report
     input::read_words(job, words);
     let places = input::places_of(job);
     let interval = input::interval_of(job);
-    let fresh = machine::start::fresh_machine(places, interval as u16, &registers);
-    let driven = machine::drive::drive(
+    let fresh = machine::start::fresh_state(places, interval as u16, &registers);
+    let driven = drive::picks::drive(
         cells,
         words,
         fresh,
-        &machine::drive::NO_ORDER,
-        machine::course::Course::Passes(0, budget),
+        &drive::picks::NO_ORDER,
+        turns::course::Course::Passes(0, budget),
     );
-    let last = driven.machine;
+    let last = driven.state;
     report::report_of(last, driven.picks)
 }
 

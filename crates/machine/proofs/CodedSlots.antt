@@ -18,11 +18,11 @@ use Rattle.task.specs.Formed.{every, isVacant, formed}
 use Rattle.shape.specs.Codes.{codeOf, stands, clear, tiled}
 use Rattle.shape.proofs.TiledLaws.{tiled-whole, tiled-none, tiled-lower-fails, tiled-upper-fails, tiled-halves}
 use Rattle.shape.proofs.CodeLaws.{formed-height, code-vacant, code-formed, code-ended}
-use Rattle.machine.specs.declared.Machine.{Machine}
-use Rattle.machine.specs.Slots.{at, slotsOf}
-use Rattle.machine.proofs.ShapeTests.{testsOf}
+use Rattle.drive.specs.declared.State.{State}
+use Rattle.drive.specs.Slots.{at, slotsOf}
+use Rattle.drive.proofs.ShapeTests.{testsOf}
 
-module _ (cells : List ℕ) (D : ℕ) (small : D ≤ 6) (m : Machine) (codes : List ℕ) (coded : (k : ℕ) → k < 64 → getD codes k 0 ≡ codeOf (programOf cells) D (at m k)) where
+module _ (cells : List ℕ) (D : ℕ) (small : D ≤ 6) (m : State) (codes : List ℕ) (coded : (k : ℕ) → k < 64 → getD codes k 0 ≡ codeOf (programOf cells) D (at m k)) where
   abbrev tilesOf : ℕ → ℕ → Bool
   tilesOf h b = tiles (slotsOf (programOf cells)) (testsOf (programOf cells) D) D h m b
 

@@ -11,14 +11,14 @@ use Rattle.task.specs.Frames.{zeroRegister}
 use Rattle.task.specs.Stretches.{reads}
 use Rattle.shape.specs.Codes.{GradedSlots, codeOf, CodedTasks, tree}
 use Rattle.shape.proofs.TiledLaws.{power-small}
-use Rattle.machine.specs.declared.Machine.{Machine}
-use Rattle.machine.specs.Slots.{at}
-use Rattle.machine.specs.Starting.{rank, intervalAllowed}
-use Rattle.machine.specs.Shape.{shape}
-use Rattle.machine.proofs.ShapeTests.{countsFit}
+use Rattle.drive.specs.declared.State.{State}
+use Rattle.drive.specs.Slots.{at}
+use Rattle.drive.specs.Settings.{rank, intervalAllowed}
+use Rattle.drive.specs.Shape.{shape}
+use Rattle.drive.proofs.ShapeTests.{countsFit}
 use Rattle.machine.proofs.CodedSlots.{codes-clear, codes-tiled}
 
-module _ (cells : List ℕ) (m : Machine) (D : ℕ) (ranked : D ≡ rank (m .places)) where
+module _ (cells : List ℕ) (m : State) (D : ℕ) (ranked : D ≡ rank (m .places)) where
   pub places-refused : 6 < D → false ≡ shape (programOf cells) m
   unfolding shape
   places-refused l = rw (← ranked, le-ltb D 7 (omega arith))

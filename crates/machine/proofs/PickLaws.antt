@@ -21,14 +21,16 @@ use Rattle.image.proofs.Asked.{ask-yes, or-else-both}
 use Rattle.task.specs.declared.Frame.{Frame}
 use Rattle.task.specs.Frames.{running, workLimit}
 use Rattle.task.specs.Step.{step}
-use Rattle.machine.specs.declared.Machine.{Machine}
-use Rattle.machine.specs.Slots.{at, ticked, slotsOf}
-use Rattle.machine.specs.Ending.{jobEnded}
-use Rattle.machine.specs.Shape.{shape}
-use Rattle.machine.specs.Picking.{slotNo, stateNoBy, stateNo, pickNo, issued, picked}
-use Rattle.machine.proofs.Models.{modelOf, Allowed}
-use Rattle.machine.proofs.ShapeLaws.{Fits, fits-shape, pick-fits}
-use Rattle.machine.proofs.Quiet.{ended-quiet}
+use Rattle.drive.specs.declared.State.{State}
+use Rattle.drive.specs.Slots.{at, ticked, slotsOf}
+use Rattle.drive.specs.Ending.{jobEnded}
+use Rattle.drive.specs.Shape.{shape}
+use Rattle.drive.specs.Issue.{slotNo, issued}
+use Rattle.machine.specs.Picking.{stateNoBy, stateNo, pickNo, picked}
+use Rattle.drive.proofs.Models.{modelOf, Allowed}
+use Rattle.drive.proofs.ShapeLaws.{Fits, fits-shape}
+use Rattle.drive.proofs.IssueLaws.{issued-work, issued-places, issued-interval}
+use Rattle.drive.proofs.Quiet.{ended-quiet}
 
 -- the last four questions, of which 22 is a no only where 23 would be one
 last-questions : (below ended runs room : Bool) → (below ≡ true → ended ≡ true → runs ≡ false)
@@ -45,25 +47,37 @@ pub record Lent (cells : List ℕ) (words : List ℤ) : Type 0 where
   pub whole : eqb (length cells) programCells ≡ true
 
 -- in a state of the shape 21 to 24 are left
-questions-from-21 : (cells : List ℕ) (words : List ℤ) (m : Machine) (k : ℕ) → programNo cells ≡ 0 → Lent cells words → shape (programOf cells) m ≡ true
+questions-from-21 : (cells : List ℕ) (words : List ℤ) (m : State) (k : ℕ) → programNo cells ≡ 0 → Lent cells words → shape (programOf cells) m ≡ true
     → pickNo cells words m k ≡ ask (ltb k (m .places)) 21 (ask (not (jobEnded m)) 22 (ask (running (at m k)) 23 (ask (ltb (m .work) workLimit) 24 0)))
 unfolding stateNoBy slotNo orElse
 questions-from-21 cells words m k e lent s = rw (e, lent .few-words, lent .whole, s)
 
--- what a pick that is not refused was lent
-pub pick-lent : (cells : List ℕ) (words : List ℤ) (m : Machine) (k : ℕ) → pickNo cells words m k ≡ 0 → Lent cells words
+-- a program and a call record that questions 1 to 15 let pass; and a state with them that question 20 does
+pub record Passed (cells : List ℕ) (words : List ℤ) : Type 0 where
+  pub program : programNo cells ≡ 0
+  pub lent : Lent cells words
+
+pub record StatePassed (cells : List ℕ) (words : List ℤ) (m : State) : Type 0 where
+  pub passed : Passed cells words
+  pub shaped : shape (programOf cells) m ≡ true
+
+pub state-passed : (cells : List ℕ) (words : List ℤ) (m : State) → stateNo cells words m ≡ 0 → StatePassed cells words m
 unfolding stateNoBy
-pick-lent cells words m k e =
-    let p = or-else-both (programNo cells) _ (or-else-both (stateNo cells words m) (slotNo m k) e .0) in
+state-passed cells words m e =
+    let p = or-else-both (programNo cells) _ e in
     let a = ask-yes (leb (length words) 4096) 14 _ tt (p .1) in
     let b = ask-yes (eqb (length cells) programCells) 15 _ tt (a .1) in
-    record { few-words = a .0; whole = b .0 }
+    let c = ask-yes (shape (programOf cells) m) 20 0 tt (b .1) in
+    record { passed = record { program = p .0; lent = record { few-words = a .0; whole = b .0 } }; shaped = c .0 }
+
+pub whole-length : {cells : List ℕ} {words : List ℤ} → Passed cells words → length cells ≡ programCells
+whole-length {cells} x = eqb-true (length cells) programCells (x .lent .whole)
 
 module _ {cells : List ℕ} {interval places : ℕ} {words : List ℤ} (allowed : Allowed cells interval places) (lent : Lent cells words) where
-  abbrev M : Model Frame Machine
+  abbrev M : Model Frame State
   M = modelOf cells words interval places
 
-  module _ (m : Machine) (k : ℕ) (x : Fits cells interval places m) where
+  module _ (m : State) (k : ℕ) (x : Fits cells interval places m) where
     idle : ltb k (m .places) ≡ true → jobEnded m ≡ true → running (at m k) ≡ false
     idle b e = ended-quiet allowed words m x e k (ltb-true k (m .places) b)
 
@@ -95,25 +109,17 @@ module _ {cells : List ℕ} {interval places : ℕ} {words : List ℤ} (allowed 
 -- ---- in any state
 
 -- a pick that is carried out
-pub picked-issued : (cells : List ℕ) (words : List ℤ) (m : Machine) (k : ℕ) → pickNo cells words m k ≡ 0 → picked cells words m k ≡ issued cells words m k
+pub picked-issued : (cells : List ℕ) (words : List ℤ) (m : State) (k : ℕ) → pickNo cells words m k ≡ 0 → picked cells words m k ≡ issued cells words m k
 unfolding unlessRefused
 picked-issued cells words m k e = ap (λ n. cond (eqb n 0) (issued cells words m k) m) e
 
-pub issued-work : (cells : List ℕ) (words : List ℤ) (m : Machine) (k : ℕ) → issued cells words m k .work ≡ m .work + 1
-issued-work cells words m k =
-    ap (λ n. n + 1) (carry-keeps (slotsOf (programOf cells)) (λ n. n .work) (λ n k f. refl) (step (programOf cells) words (chosen (m .interval))) m k)
-
-pub issued-places : (cells : List ℕ) (words : List ℤ) (m : Machine) (k : ℕ) → issued cells words m k .places ≡ m .places
-issued-places cells words m k =
-    carry-keeps (slotsOf (programOf cells)) (λ n. n .places) (λ n k f. refl) (step (programOf cells) words (chosen (m .interval))) m k
-
-pub picked-work : (cells : List ℕ) (words : List ℤ) (m : Machine) (k : ℕ) → pickNo cells words m k ≡ 0 → picked cells words m k .work ≡ m .work + 1
+pub picked-work : (cells : List ℕ) (words : List ℤ) (m : State) (k : ℕ) → pickNo cells words m k ≡ 0 → picked cells words m k .work ≡ m .work + 1
 picked-work cells words m k e =
     ap (λ n. n .work) (picked-issued cells words m k e) ∙ issued-work cells words m k
 
 -- P and the interval stay as start left them
-module _ (cells : List ℕ) (words : List ℤ) (m : Machine) (k : ℕ) where
-  keeps : (of : Machine → ℕ) → of (issued cells words m k) ≡ of m → of (picked cells words m k) ≡ of m
+module _ (cells : List ℕ) (words : List ℤ) (m : State) (k : ℕ) where
+  keeps : (of : State → ℕ) → of (issued cells words m k) ≡ of m → of (picked cells words m k) ≡ of m
   unfolding unlessRefused
   keeps of e = go (eqb (pickNo cells words m k) 0)
     where
@@ -125,14 +131,4 @@ module _ (cells : List ℕ) (words : List ℤ) (m : Machine) (k : ℕ) where
   picked-places = keeps (λ n. n .places) (issued-places cells words m k)
 
   pub picked-interval : picked cells words m k .interval ≡ m .interval
-  picked-interval = keeps (λ n. n .interval) (carry-keeps (slotsOf (programOf cells)) (λ n. n .interval) (λ n k f. refl) (step (programOf cells) words (chosen (m .interval))) m k)
-
--- the state after an instruction that may be issued is of the shape
-pub issued-fits : {cells : List ℕ} {interval places : ℕ} → Allowed cells interval places → (words : List ℤ) (m : Machine) (k : ℕ) → Fits cells interval places m
-    → k < places → running (at m k) ≡ true → m .work < workLimit → Fits cells interval places (issued cells words m k)
-issued-fits {cells} {interval} {places} allowed words m k x b r w =
-    let M = modelOf cells words interval places in
-    let e : pick M m k ≡ ticked (carry (slotsOf (programOf cells)) (step (programOf cells) words (chosen interval)) m k) = pick-carried M m k (parts-can M m k b r w) in
-    let i : issued cells words m k ≡ pick M m k =
-    ap (λ n. ticked (carry (slotsOf (programOf cells)) (step (programOf cells) words (chosen n)) m k)) (x .its-interval) ∙ sym e in
-    subst⁻¹ (λ n. Fits cells interval places n) i (pick-fits allowed words m k x)
+  picked-interval = keeps (λ n. n .interval) (issued-interval cells words m k)

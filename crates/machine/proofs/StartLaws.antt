@@ -22,14 +22,15 @@ use Rattle.task.proofs.Formation.{Formed}
 use Rattle.task.proofs.Start.{length-integers, start-formed}
 use Rattle.task.proofs.Counts.{Within, vacant-within, start-within}
 use Rattle.task.specs.Stretches.{reads}
-use Rattle.machine.specs.declared.Machine.{Machine}
-use Rattle.machine.specs.Slots.{at, Sized, slotsOf}
-use Rattle.machine.specs.Starting.{rank, placesAllowed, intervalAllowed, startNo, startNoBy, empty, fresh, started}
-use Rattle.machine.proofs.ShapeTests.{testsOf}
-use Rattle.machine.proofs.SlotLaws.{put-sized, put-same, put-other, put-tasks}
-use Rattle.machine.proofs.RankLaws.{rank-power}
-use Rattle.machine.proofs.Models.{modelOf, formsOf, Allowed, laws-hold}
-use Rattle.machine.proofs.ShapeLaws.{tests-hold, Fits}
+use Rattle.drive.specs.declared.State.{State}
+use Rattle.drive.specs.Slots.{at, Sized, slotsOf}
+use Rattle.drive.specs.Settings.{rank, placesAllowed, intervalAllowed}
+use Rattle.machine.specs.Starting.{startNo, startNoBy, empty, fresh, started}
+use Rattle.drive.proofs.ShapeTests.{testsOf}
+use Rattle.drive.proofs.SlotLaws.{put-sized, put-same, put-other, put-tasks}
+use Rattle.drive.proofs.RankLaws.{rank-power}
+use Rattle.drive.proofs.Models.{modelOf, formsOf, Allowed, laws-hold}
+use Rattle.drive.proofs.ShapeLaws.{tests-hold, Fits}
 use Rattle.machine.proofs.PickLaws.{Lent}
 
 -- no question was answered with no
@@ -54,7 +55,7 @@ start-accepted cells places interval registers words e =
       lent = record { few-words = d .0; whole = f .0 };
     }
 
-pub started-fresh : (m : Machine) (cells : List ℕ) (places interval : ℕ) (registers words : List ℤ) → startNo cells places interval registers words ≡ 0
+pub started-fresh : (m : State) (cells : List ℕ) (places interval : ℕ) (registers words : List ℤ) → startNo cells places interval registers words ≡ 0
     → started m cells places interval registers words ≡ fresh places interval registers
 unfolding unlessRefused
 started-fresh m cells places interval registers words e = rw e

@@ -1,33 +1,16 @@
 -- Start: its questions, and the state that it makes.
-use mathlib.Core.Bool.{Bool, cond, _&&_, _||_}
 use mathlib.Core.List.{List}
 use Prim.Native.Nat.{ℕ}
-use lib.Dec.{eqb, ltb, leb}
+use lib.Dec.{eqb, leb}
 use lib.IntN.{ℤ}
 use lib.ListN.{length, replicate}
 use Rattle.image.specs.Layout.{programCells}
 use Rattle.image.specs.Questions.{ask, orElse, programNo}
 use Rattle.image.specs.Doors.{unlessRefused}
 use Rattle.task.specs.Frames.{bankLength, zeroRegister, vacantTask, integers, startFrame}
-use Rattle.machine.specs.declared.Machine.{Machine}
-use Rattle.machine.specs.Slots.{put}
-
--- P is 1, 2, 4, 8, 16, 32 or 64: its power of two; 7 for any other number
-unfoldable pub rank : ℕ → ℕ
-rank places =
-    cond (eqb places 1) 0
-    (cond (eqb places 2) 1
-    (cond (eqb places 4) 2
-    (cond (eqb places 8) 3
-    (cond (eqb places 16) 4
-    (cond (eqb places 32) 5
-    (cond (eqb places 64) 6 7))))))
-
-abbrev pub placesAllowed : ℕ → Bool
-placesAllowed places = ltb (rank places) 7
-
-abbrev pub intervalAllowed : ℕ → Bool
-intervalAllowed interval = eqb interval 0 || (leb 8 interval && leb interval 65535)
+use Rattle.drive.specs.declared.State.{State}
+use Rattle.drive.specs.Slots.{put}
+use Rattle.drive.specs.Settings.{placesAllowed, intervalAllowed}
 
 abbrev pub mostWords : ℕ
 mostWords = 4096
@@ -51,7 +34,7 @@ abbrev pub startNo : List ℕ → ℕ → ℕ → List ℤ → List ℤ → ℕ
 startNo cells places interval registers words = startNoBy cells places interval (length registers) (length words)
 
 -- a state with no task
-abbrev pub empty : ℕ → ℕ → Machine
+abbrev pub empty : ℕ → ℕ → State
 empty places interval = record {
   places = places;
   interval = interval;
@@ -61,10 +44,10 @@ empty places interval = record {
 }
 
 -- one task starts in slot 0 with the start registers, which are integers, all P places, block 0, counter, work and span 0, no open fork
-unfoldable pub fresh : ℕ → ℕ → List ℤ → Machine
+unfoldable pub fresh : ℕ → ℕ → List ℤ → State
 fresh places interval registers = put (empty places interval) 0 (startFrame places (integers registers))
 
 -- the state handed back: a refused start hands back the one that it was called on
-abbrev pub started : Machine → List ℕ → ℕ → ℕ → List ℤ → List ℤ → Machine
+abbrev pub started : State → List ℕ → ℕ → ℕ → List ℤ → List ℤ → State
 started m cells places interval registers words =
     unlessRefused (startNo cells places interval registers words) (fresh places interval registers) m

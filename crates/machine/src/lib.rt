@@ -1,30 +1,14 @@
-// The state of a job.
-pub mod course;
-pub mod drive;
-mod moves;
+// The machine: start, pick and run, each a method that takes the state by value and hands the new one back.
 pub mod pick;
-mod records;
 mod run;
-pub mod slots;
 pub mod start;
 
-use task::Register;
-use task::Task;
+use drive::State;
 
-// Slot k has tasks[k] and the 16 registers of bank from 16·k on. Whether the job has ended, and how, is read off slot 0.
+// A job's state, with the methods. A type's methods stand in its own crate, and the loop that they call is below them: so the state is a
+// type of the loop's crate, and this one is around it.
 pub struct Machine {
-    pub places: u64,
-    pub interval: u16,
-    pub work: u32,
-    pub bank: [Register; task::BANK],
-    pub tasks: [Task; 64],
-}
-
-// How a job has ended: by halt, or by a fault with its number.
-pub enum End {
-    NotEnded,
-    Halt,
-    Fault(u8),
+    pub state: State,
 }
 
 // What start and pick hand back: the state, and 0 or the number of a refusal. The state comes first, so that it is copied aligned.
@@ -40,10 +24,4 @@ pub struct Outcome {
     pub picks: u64,
     pub no: u8,
     pub ended: bool,
-}
-
-// What the loop over the slots leaves: the state, and the picks carried out.
-pub struct Driven {
-    pub machine: Machine,
-    pub picks: u64,
 }

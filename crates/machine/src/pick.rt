@@ -1,69 +1,29 @@
 // Pick: its questions, and one instruction issued.
 use crate::Answered;
-use crate::End;
 use crate::Machine;
-use crate::course::Course;
-use crate::drive;
 use crate::start;
+use drive::State;
+use drive::ending;
+use drive::picks;
 use shape::registers;
 use shape::slots;
 use shape::tasks;
 use shape::tiling;
-use task::Status;
 use task::Task;
 use task::running::is_running;
+use turns::course::Course;
 ghost use mathlib.Core.Path.{_≡_};
 ghost use Prim.Native.Nat.{_%_};
 ghost use lib.ListN.{length, getD};
 ghost use Rattle.image.specs.Layout.{programCells, programOf};
 ghost use Rattle.image.specs.Questions.{orElse, programNo};
 ghost use Rattle.task.specs.Frames.{noTask};
-ghost use Rattle.machine.specs.Ending.{endAt, ending, isEnd};
-ghost use Rattle.machine.specs.Shape.{shape};
-ghost use Rattle.machine.specs.Picking.{slotNo, stateNoBy, pickNo, picked};
-
-fn fault_end(depth: u32, n: u8) -> End
-    ensures { λ r. ⌜ r ≡ endAt depth (Status.Faulted n) ⌝ }
-{
-    if depth == 0 {
-        return End::Fault(n);
-    }
-    End::NotEnded
-}
-
-fn end_at(depth: u32, status: Status) -> End
-    ensures { λ r. ⌜ r ≡ endAt depth status ⌝ }
-{
-    match status {
-        Status::Vacant => End::NotEnded,
-        Status::Running => End::NotEnded,
-        Status::Waiting => End::NotEnded,
-        Status::Halted => End::Halt,
-        Status::Faulted(n) => fault_end(depth, n),
-    }
-}
-
-// How the job has ended, read off slot 0.
-pub fn end_of(m: Machine) -> End
-    ensures { λ r. ⌜ r ≡ ending m ⌝ }
-{
-    let t = m.tasks[0];
-    let status = t.status;
-    end_at(t.depth, status)
-}
-
-pub fn has_ended(end: End) -> bool
-    ensures { λ r. ⌜ r ≡ isEnd end ⌝ }
-{
-    match end {
-        End::NotEnded => false,
-        End::Halt => true,
-        End::Fault(_) => true,
-    }
-}
+ghost use Rattle.drive.specs.Shape.{shape};
+ghost use Rattle.drive.specs.Issue.{slotNo};
+ghost use Rattle.machine.specs.Picking.{stateNoBy, pickNo, picked};
 
 // Questions 21 to 24; t is the task at slot % 64. A state of the shape has at most 64 places.
-fn ask_slot(m: Machine, t: Task, slot: u64) -> u8
+fn ask_slot(m: State, t: Task, slot: u64) -> u8
     requires { ⌜ t ≡ getD (m .tasks) (slot % 64) noTask ⌝ }
     ensures { λ r. ⌜ r ≡ slotNo m slot ⌝ }
 {
@@ -72,7 +32,7 @@ fn ask_slot(m: Machine, t: Task, slot: u64) -> u8
     }
     let first = m.tasks[0];
     let end = first.status;
-    if has_ended(end_at(first.depth, end)) {
+    if ending::has_ended(ending::end_at(first.depth, end)) {
         return 22;
     }
     if 64 <= slot {
@@ -89,7 +49,7 @@ fn ask_slot(m: Machine, t: Task, slot: u64) -> u8
 }
 
 // Question 20. The caller has put the program's questions, and the one on the buffer's length.
-fn meets_shape(cells: &[u64], m: Machine) -> bool
+fn meets_shape(cells: &[u64], m: State) -> bool
     requires { ⌜ (programNo (now cells) ≡ 0) × (length (now cells) ≡ programCells) ⌝ }
     ensures { λ r. ⌜ r ≡ shape (programOf (now (cells .entry))) m ⌝ }
 {
@@ -111,7 +71,7 @@ fn meets_shape(cells: &[u64], m: Machine) -> bool
 }
 
 // The questions of pick and run about program, words and state. Of the words only their number counts.
-pub fn ask_state(cells: &[u64], words: usize, m: Machine) -> u8
+pub fn ask_state(cells: &[u64], words: usize, m: State) -> u8
     ensures { λ r. ⌜ r ≡ stateNoBy (now (cells .entry)) words m ⌝ }
 {
     let no = image::questions::ask_program(cells);
@@ -132,7 +92,7 @@ pub fn ask_state(cells: &[u64], words: usize, m: Machine) -> u8
 
 // The questions of a pick. Pick alone calls it, and reads t, the task at slot % 64, out of the state where it stands: read here, it
 // would cost a copy of the state.
-pub fn ask_pick(cells: &[u64], words: usize, m: Machine, t: Task, slot: u64) -> u8
+pub fn ask_pick(cells: &[u64], words: usize, m: State, t: Task, slot: u64) -> u8
     requires { ⌜ t ≡ getD (m .tasks) (slot % 64) noTask ⌝ }
     ensures { λ r. ⌜ r ≡ orElse (stateNoBy (now (cells .entry)) words m) (slotNo m slot) ⌝ }
 {
@@ -146,21 +106,25 @@ pub fn ask_pick(cells: &[u64], words: usize, m: Machine, t: Task, slot: u64) -> 
 impl Machine {
     // One instruction of the slot's task; a refused pick hands back the old state.
     pub fn pick(self, cells: &[u64], words: &[i64], slot: u64) -> Answered
-        ensures { λ r. ⌜ (r .no ≡ pickNo (now (cells .entry)) (now (words .entry)) self slot) × (r .machine ≡ picked (now (cells .entry)) (now (words .entry)) self slot) ⌝ }
+        ensures { λ r. ⌜ (r .no ≡ pickNo (now (cells .entry)) (now (words .entry)) (self .state) slot) × (r .machine .state ≡ picked (now (cells .entry)) (now (words .entry)) (self .state) slot) ⌝ }
     {
-        let t = self.tasks[(slot % 64) as usize];
-        let no = ask_pick(cells, words.len(), self, t, slot);
+        let old = self.state;
+        let t = old.tasks[(slot % 64) as usize];
+        let no = ask_pick(cells, words.len(), old, t, slot);
         if no != 0 {
             return Answered { no, machine: self };
         }
-        let driven = drive::drive(
+        let driven = picks::drive(
             cells,
             words,
-            self,
-            &drive::NO_ORDER,
+            old,
+            &picks::NO_ORDER,
             Course::Passes(slot as usize, 1),
         );
-        let machine = driven.machine;
-        Answered { no: 0, machine }
+        let state = driven.state;
+        Answered {
+            no: 0,
+            machine: Machine { state },
+        }
     }
 }

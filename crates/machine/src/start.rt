@@ -1,14 +1,16 @@
 // Start: its questions, and the state that it makes.
 use crate::Answered;
 use crate::Machine;
-use crate::slots::unforked;
-use crate::slots::vacant_task;
+use drive::State;
+use drive::slots::unforked;
+use drive::slots::vacant_task;
 use task::Register;
 use task::Status;
 use task::Value;
 ghost use mathlib.Core.Path.{_≡_};
 ghost use lib.ListN.{length};
-ghost use Rattle.machine.specs.Starting.{rank, placesAllowed, intervalAllowed, settingsNo, startNoBy, startNo, empty, fresh, started};
+ghost use Rattle.drive.specs.Settings.{rank, placesAllowed, intervalAllowed};
+ghost use Rattle.machine.specs.Starting.{settingsNo, startNoBy, startNo, empty, fresh, started};
 
 // The most words of a call record (question 14).
 pub const MOST_WORDS: usize = 4096;
@@ -88,7 +90,7 @@ pub fn ask_start(cells: &[u64], places: u64, interval: u64, registers: usize, wo
 }
 
 // A state with no task.
-fn empty_machine(places: u64, interval: u16) -> Machine
+fn empty_state(places: u64, interval: u16) -> State
     ensures { λ r. ⌜ r ≡ empty places interval ⌝ }
 {
     let zero = Register {
@@ -97,7 +99,7 @@ fn empty_machine(places: u64, interval: u16) -> Machine
     let vacant = vacant_task();
     let bank = [zero; task::BANK];
     let tasks = [vacant; 64];
-    Machine {
+    State {
         places,
         interval,
         work: 0,
@@ -108,7 +110,7 @@ fn empty_machine(places: u64, interval: u16) -> Machine
 
 // One task in slot 0, with the start registers, all places, and block 0 to begin with. The arrays are filled before the state is made, so
 // that it is not copied. Start and `job` call it, after start's questions.
-pub fn fresh_machine(places: u64, interval: u16, registers: &[i64]) -> Machine
+pub fn fresh_state(places: u64, interval: u16, registers: &[i64]) -> State
     requires { ⌜ length (now registers) ≡ 16 ⌝ }
     ensures { λ r. ⌜ r ≡ fresh places interval (now (registers .entry)) ⌝ }
 {
@@ -126,7 +128,7 @@ pub fn fresh_machine(places: u64, interval: u16, registers: &[i64]) -> Machine
         };
         i = i + 1;
     }
-    Machine {
+    State {
         places,
         interval,
         work: 0,
@@ -138,9 +140,11 @@ pub fn fresh_machine(places: u64, interval: u16, registers: &[i64]) -> Machine
 impl Machine {
     // A state that holds no job: it fails the shape test.
     pub fn blank() -> Machine
-        ensures { λ r. ⌜ r ≡ empty 0 0 ⌝ }
+        ensures { λ r. ⌜ r .state ≡ empty 0 0 ⌝ }
     {
-        empty_machine(0, 0)
+        Machine {
+            state: empty_state(0, 0),
+        }
     }
 
     // A fresh start of a job; a refused one hands back the state it was called on.
@@ -152,13 +156,16 @@ impl Machine {
         registers: &[i64],
         words: &[i64],
     ) -> Answered
-        ensures { λ r. ⌜ (r .no ≡ startNo (now (cells .entry)) places interval (now (registers .entry)) (now (words .entry))) × (r .machine ≡ started self (now (cells .entry)) places interval (now (registers .entry)) (now (words .entry))) ⌝ }
+        ensures { λ r. ⌜ (r .no ≡ startNo (now (cells .entry)) places interval (now (registers .entry)) (now (words .entry))) × (r .machine .state ≡ started (self .state) (now (cells .entry)) places interval (now (registers .entry)) (now (words .entry))) ⌝ }
     {
         let no = ask_start(cells, places, interval, registers.len(), words.len());
         if no != 0 {
             return Answered { no, machine: self };
         }
-        let machine = fresh_machine(places, interval as u16, registers);
-        Answered { no: 0, machine }
+        let state = fresh_state(places, interval as u16, registers);
+        Answered {
+            no: 0,
+            machine: Machine { state },
+        }
     }
 }

@@ -11,13 +11,13 @@ use Rattle.agreement.specs.Picks as model
 use Rattle.agreement.proofs.CompleteLaws.{same-picks, same-work, same-slots}
 use Rattle.task.specs.declared.Frame.{Frame}
 use Rattle.task.specs.Frames.{integers, startFrame}
-use Rattle.machine.specs.declared.Machine.{Machine}
-use Rattle.machine.specs.Ending.{jobEnded}
-use Rattle.machine.specs.Starting.{rank}
+use Rattle.drive.specs.declared.State.{State}
+use Rattle.drive.specs.Ending.{jobEnded}
+use Rattle.drive.specs.Settings.{rank}
 use Rattle.machine.specs.Picking.{picked}
-use Rattle.machine.proofs.SlotLaws.{same-state}
-use Rattle.machine.proofs.Models.{formsOf, laws-hold}
-use Rattle.machine.proofs.Quiet.{fits-ended}
+use Rattle.drive.proofs.SlotLaws.{same-state}
+use Rattle.drive.proofs.Models.{formsOf, laws-hold}
+use Rattle.drive.proofs.Quiet.{fits-ended}
 use Rattle.machine.proofs.PickLaws.{picked-work}
 use Rattle.machine.proofs.StartLaws.{fresh-shows, fresh-fits}
 use Rattle.orders.specs.Demand.{Job, startOn, playedOf, played, carriedOut, Agrees}
@@ -27,13 +27,13 @@ use Rattle.orders.proofs.Demand.{demand-3}
 
 -- ---- there is a complete order
 
-played-one-more : (j : Job) (ks : List ℕ) (m : Machine) (k : ℕ)
+played-one-more : (j : Job) (ks : List ℕ) (m : State) (k : ℕ)
     → played j m (ks ++ (k ∷ [])) ≡ picked (j .cells) (j .words) (played j m ks) k
 unfolding playedOf
 played-one-more j ks m k = played-on j ks (k ∷ []) m
 
 -- a task is picked as long as work is left: r more picks
-complete-in : (j : Job) (m₀ : Machine) (e : Frame) (W : ℕ) → ((ks : List ℕ) → Agrees j (played j m₀ ks) e W)
+complete-in : (j : Job) (m₀ : State) (e : Frame) (W : ℕ) → ((ks : List ℕ) → Agrees j (played j m₀ ks) e W)
     → (r : ℕ) (ks : List ℕ) → played j m₀ ks .work + r ≡ W → (ls : List ℕ) × Complete j m₀ ls
 complete-in j m₀ e W agrees zero ks h = (ks, agrees ks .ended-when-equal (omega arith))
 complete-in j m₀ e W agrees (suc r) ks h =
@@ -52,10 +52,10 @@ some-order-completes j a e W t m =
 -- ---- any two agree
 
 module _ {j : Job} (start : JobAccepted j) where
-  abbrev M : Model Frame Machine
+  abbrev M : Model Frame State
   M = modelOfJob j
 
-  abbrev m₀ : Machine
+  abbrev m₀ : State
   m₀ = freshJob j
 
   after : (ks : List ℕ) → played j m₀ ks ≡ play M m₀ ks

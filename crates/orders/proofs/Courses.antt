@@ -8,42 +8,33 @@ use native.Mathlib.Omega.{arith}
 use lib.Dec.{ltb}
 use lib.IntN.{ℤ}
 use lib.ListN.{length}
-use borrow.Author.Tests.{eq-eqb, ltb-true, lt-ltb}
+use borrow.Author.Tests.{ltb-true}
 use Rattle.facts.proofs.Tests.{clash, by-test}
 use Rattle.agreement.specs.Picks.{once}
-use Rattle.image.specs.Layout.{programCells}
 use Rattle.image.specs.Questions.{programNo, orElse}
 use Rattle.task.specs.Frames.{running, workLimit}
-use Rattle.machine.specs.declared.Machine.{Machine}
-use Rattle.machine.specs.Slots.{at, Sized}
-use Rattle.machine.specs.Ending.{jobEnded}
-use Rattle.machine.specs.Picking.{slotNo, stateNoBy, stateNo, pickNo, picked, issued}
-use Rattle.machine.specs.Courses.{Next, over, turn, Chooser, Run, begun, pickedAt, follows}
-use Rattle.machine.specs.Running.{stops}
-use Rattle.machine.proofs.CourseLaws.{stays, picks-turn}
-use Rattle.machine.proofs.PickLaws.{Lent, picked-issued, picked-work}
-use Rattle.machine.proofs.Picked.{state-passes, slot-ready}
+use Rattle.drive.specs.declared.State.{State}
+use Rattle.drive.specs.Slots.{at, Sized}
+use Rattle.drive.specs.Ending.{jobEnded}
+use Rattle.drive.specs.Issue.{slotNo, issued}
+use Rattle.machine.specs.Picking.{stateNoBy, stateNo, pickNo, picked}
+use Rattle.drive.specs.Courses.{Next, over, turn, Chooser, Run, begun, pickedAt, follows}
+use Rattle.drive.specs.Passes.{stops}
+use Rattle.drive.proofs.CourseLaws.{stays, picks-turn}
+use Rattle.machine.proofs.PickLaws.{Passed, state-passed, picked-issued, picked-work}
+use Rattle.drive.proofs.SlotQuestions.{slot-ready, ready-passes}
 use Rattle.orders.specs.Demand.{Job, playedOf, played, carriedOutOf, carriedOut}
 use Rattle.orders.specs.Shapes.{Meets, ShapeEnsures}
 use Rattle.orders.specs.Runs.{Sound, Untouched, IsOrder, course, CourseIsOrder, SpentOrOver}
 use Rattle.orders.proofs.Shapes.{every-shape}
 
--- ---- a job's program and call record, which questions 1 to 15 let pass
+-- ---- a state that questions 1 to 20 let pass
 
-pub record Passed (cells : List ℕ) (words : List ℤ) : Type 0 where
-  pub program : programNo cells ≡ 0
-  pub lent : Lent cells words
-
-pub state-passed : (cells : List ℕ) (words : List ℤ) (m : Machine) → stateNo cells words m ≡ 0 → Passed cells words
-state-passed cells words m e =
-    let p = state-passes cells words m e in
-    record { program = p .program; lent = record { few-words = p .few-words; whole = eq-eqb (length cells) programCells (p .whole) } }
-
-pub state-meets : (cells : List ℕ) (words : List ℤ) (m : Machine) → Sized m → stateNo cells words m ≡ 0 → Meets cells m
-state-meets cells words m sized e = record { sized = sized; shaped = state-passes cells words m e .shaped }
+pub state-meets : (cells : List ℕ) (words : List ℤ) (m : State) → Sized m → stateNo cells words m ≡ 0 → Meets cells m
+state-meets cells words m sized e = record { sized = sized; shaped = state-passed cells words m e .shaped }
 
 -- with them, in a state that meets the shape test
-module _ {cells : List ℕ} {words : List ℤ} (passed : Passed cells words) (m : Machine) (x : Meets cells m) where
+module _ {cells : List ℕ} {words : List ℤ} (passed : Passed cells words) (m : State) (x : Meets cells m) where
   pub ensures : ShapeEnsures cells words m
   ensures = every-shape cells words m (passed .program) x
 
@@ -70,22 +61,20 @@ pub no-turn : {A C : Type 0} {k : ℕ} {c : C} → over ≡ turn k c → A
 no-turn z = let n : _≡_ {A = ℕ} 0 1 = cc in absurd (omega arith)
 
 -- the job has not ended, and the work is below the limit
-pub record GoesOn (m : Machine) : Type 0 where
+pub record GoesOn (m : State) : Type 0 where
   pub not-ended : jobEnded m ≡ false
   pub below-limit : m .work < workLimit
 
-pub goes-on : (m : Machine) → stops m ≡ false → GoesOn m
+pub goes-on : (m : State) → stops m ≡ false → GoesOn m
 goes-on m e = by-test (jobEnded m) (λ o. clash (rw o) e)
     (λ o. by-test (ltb (m .work) workLimit) (λ t. record { not-ended = o; below-limit = ltb-true (m .work) workLimit t }) (λ t. clash (rw (o, t)) e))
 
 -- then a running task can be picked
-pub slot-pickable : (m : Machine) → GoesOn m → (k : ℕ) → k < m .places → running (at m k) ≡ true → slotNo m k ≡ 0
-unfolding slotNo
-slot-pickable m goes k below r =
-    rw (lt-ltb k (m .places) below, goes .not-ended, r, lt-ltb (m .work) workLimit (goes .below-limit))
+pub slot-pickable : (m : State) → GoesOn m → (k : ℕ) → k < m .places → running (at m k) ≡ true → slotNo m k ≡ 0
+slot-pickable m goes k below r = ready-passes m k (goes .not-ended) (record { below = below; runs = r; below-limit = goes .below-limit })
 
 -- and in a state that meets the shape test there is one
-pub some-runs : {cells : List ℕ} → programNo cells ≡ 0 → (m : Machine) → Meets cells m → GoesOn m → (k : ℕ) × (k < m .places) × (running (at m k) ≡ true)
+pub some-runs : {cells : List ℕ} → programNo cells ≡ 0 → (m : State) → Meets cells m → GoesOn m → (k : ℕ) × (k < m .places) × (running (at m k) ≡ true)
 some-runs {cells} program m x goes = every-shape cells [] m program x .open-runs (goes .not-ended)
 
 -- ---- a course is spent or over
@@ -95,16 +84,16 @@ module _ {C : Type 0} (j : Job) (next : Chooser C) where
 
   -- from the run r a run of budget b has come to e
   abbrev Stops : ℕ → Run C → Run C → Type 0
-  Stops b r e = (e .picks ≡ r .picks + b) ⊎ (next (e .machine) (e .kept) ≡ over)
+  Stops b r e = (e .picks ≡ r .picks + b) ⊎ (next (e .state) (e .kept) ≡ over)
 
   stops-later : (b : ℕ) (r : Run C) → ((s : Run C) → Stops b s (course j next b s)) → Stops (suc b) r (course j next (suc b) r)
-  stops-later b r rest = by (next (r .machine) (r .kept)) refl
+  stops-later b r rest = by (next (r .state) (r .kept)) refl
     where
-      further : (e : Run C) → (e .picks ≡ r .picks + 1 + b) ⊎ (next (e .machine) (e .kept) ≡ over) → Stops (suc b) r e
+      further : (e : Run C) → (e .picks ≡ r .picks + 1 + b) ⊎ (next (e .state) (e .kept) ≡ over) → Stops (suc b) r e
       further e (inl h) = inl (omega arith)
       further e (inr h) = inr h
 
-      by : (n : Next C) → next (r .machine) (r .kept) ≡ n → Stops (suc b) r (course j next (suc b) r)
+      by : (n : Next C) → next (r .state) (r .kept) ≡ n → Stops (suc b) r (course j next (suc b) r)
       by over e = subst⁻¹ (Stops (suc b) r) (stays cells words next (suc b) r e) (inr e)
       by (turn k c) e =
           let s = pickedAt cells words k c r in
@@ -130,16 +119,16 @@ module _ {C : Type 0} (j : Job) (next : Chooser C) where
   -- from the run r a run of budget b has come to e
   record Ordered (b : ℕ) (r e : Run C) : Type 0 where
     order : List ℕ
-    leads-here : e .machine ≡ played j (r .machine) order
-    all-carried-out : carriedOut j once (r .machine) order ≡ length order
+    leads-here : e .state ≡ played j (r .state) order
+    all-carried-out : carriedOut j once (r .state) order ≡ length order
     picks-counted : e .picks ≡ r .picks + length order
-    rise-in-work : e .machine .work ≡ r .machine .work + length order
+    rise-in-work : e .state .work ≡ r .state .work + length order
     within-budget : length order ≤ b
-    within-limit : r .machine .work ≤ workLimit → e .machine .work ≤ workLimit
-    meets : Meets cells (e .machine)
+    within-limit : r .state .work ≤ workLimit → e .state .work ≤ workLimit
+    meets : Meets cells (e .state)
 
   -- it picks no more
-  no-more : (b : ℕ) (r : Run C) → Meets cells (r .machine) → Ordered b r r
+  no-more : (b : ℕ) (r : Run C) → Meets cells (r .state) → Ordered b r r
   unfolding playedOf carriedOutOf
   no-more b r x = record {
     order = [];
@@ -153,16 +142,16 @@ module _ {C : Type 0} (j : Job) (next : Chooser C) where
   }
 
   -- one pick, and then the others
-  picks-first : (b k : ℕ) (c : C) (r e : Run C) → r .machine .work < workLimit → pickNo cells words (r .machine) k ≡ 0
+  picks-first : (b k : ℕ) (c : C) (r e : Run C) → r .state .work < workLimit → pickNo cells words (r .state) k ≡ 0
       → Ordered b (pickedAt cells words k c r) e → Ordered (suc b) r e
   unfolding playedOf carriedOutOf
   picks-first b k c r e room accepts rest =
-      let m = r .machine in
+      let m = r .state in
       let same : picked cells words m k ≡ issued cells words m k = picked-issued cells words m k accepts in
-      let more : issued cells words m k .work ≡ m .work + 1 = ap (λ (n : Machine). n .work) (sym same) ∙ picked-work cells words m k accepts in
+      let more : issued cells words m k .work ≡ m .work + 1 = ap (λ (n : State). n .work) (sym same) ∙ picked-work cells words m k accepts in
       record {
         order = k ∷ rest .order;
-        leads-here = rest .leads-here ∙ ap (λ (n : Machine). played j n (rest .order)) (sym same);
+        leads-here = rest .leads-here ∙ ap (λ (n : State). played j n (rest .order)) (sym same);
         all-carried-out = rw (same, accepts, rest .all-carried-out) (omega arith);
         picks-counted = rest .picks-counted ∙ omega arith;
         rise-in-work = rest .rise-in-work ∙ omega arith;
@@ -172,26 +161,26 @@ module _ {C : Type 0} (j : Job) (next : Chooser C) where
       }
 
   module _ (sound : Sound cells next) (passed : Passed cells words) where
-    one-more : (b : ℕ) (r : Run C) → Meets cells (r .machine) → ((s : Run C) → Meets cells (s .machine) → Ordered b s (course j next b s))
+    one-more : (b : ℕ) (r : Run C) → Meets cells (r .state) → ((s : Run C) → Meets cells (s .state) → Ordered b s (course j next b s))
         → Ordered (suc b) r (course j next (suc b) r)
-    one-more b r x rest = by (next (r .machine) (r .kept)) refl
+    one-more b r x rest = by (next (r .state) (r .kept)) refl
       where
-        by : (n : Next C) → next (r .machine) (r .kept) ≡ n → Ordered (suc b) r (course j next (suc b) r)
+        by : (n : Next C) → next (r .state) (r .kept) ≡ n → Ordered (suc b) r (course j next (suc b) r)
         by over e = subst⁻¹ (Ordered (suc b) r) (stays cells words next (suc b) r e) (no-more (suc b) r x)
         by (turn k c) e =
-            let can = sound .turn-pickable (passed .program) (r .machine) x (r .kept) k c e in
+            let can = sound .turn-pickable (passed .program) (r .state) x (r .kept) k c e in
             let s = pickedAt cells words k c r in
             subst⁻¹ (Ordered (suc b) r) (picks-turn cells words next b r k c e)
-            (picks-first b k c r (course j next b s) (slot-ready (r .machine) k can .below-limit) (pick-accepted passed (r .machine) x k can)
-            (rest s (issued-meets passed (r .machine) x k can)))
+            (picks-first b k c r (course j next b s) (slot-ready (r .state) k can .below-limit) (pick-accepted passed (r .state) x k can)
+            (rest s (issued-meets passed (r .state) x k can)))
 
-    ordered : (b : ℕ) (r : Run C) → Meets cells (r .machine) → Ordered b r (course j next b r)
+    ordered : (b : ℕ) (r : Run C) → Meets cells (r .state) → Ordered b r (course j next b r)
     unfolding follows
     ordered zero r x = no-more zero r x
     ordered (suc b) r x = one-more b r x (ordered b)
 
     -- where the job has ended no slot can be picked
-    over-when-ended : (m : Machine) → Meets cells m → (c : C) → jobEnded m ≡ true → next m c ≡ over
+    over-when-ended : (m : State) → Meets cells m → (c : C) → jobEnded m ≡ true → next m c ≡ over
     over-when-ended m x c o = by (next m c) refl
       where
         by : (n : Next C) → next m c ≡ n → next m c ≡ over
@@ -200,7 +189,7 @@ module _ {C : Type 0} (j : Job) (next : Chooser C) where
             let ready = slot-ready m k (sound .turn-pickable (passed .program) m x c k d e) in
             clash (ready .runs) (ensures passed m x .ended-idle o k (ready .below))
 
-    is-order : (m : Machine) → Meets cells m → (c : C) (b : ℕ) → IsOrder j m b (course j next b (begun m c))
+    is-order : (m : State) → Meets cells m → (c : C) (b : ℕ) → IsOrder j m b (course j next b (begun m c))
     unfolding follows
     is-order m x c b =
         let o = ordered b (begun m c) x in
@@ -219,8 +208,8 @@ module _ {C : Type 0} (j : Job) (next : Chooser C) where
         }
       where
         untouched : {r : Run C} → r ≡ begun m c → Untouched m r
-        untouched e = record { no-picks = ap (λ (s : Run C). s .picks) e; same-state = ap (λ (s : Run C). s .machine) e }
+        untouched e = record { no-picks = ap (λ (s : Run C). s .picks) e; same-state = ap (λ (s : Run C). s .state) e }
 
 pub course-is-order : CourseIsOrder
 course-is-order C j next sound m sized e =
-    is-order j next sound (state-passed (j .cells) (j .words) m e) m (state-meets (j .cells) (j .words) m sized e)
+    is-order j next sound (state-passed (j .cells) (j .words) m e .passed) m (state-meets (j .cells) (j .words) m sized e)

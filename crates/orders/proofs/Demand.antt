@@ -13,12 +13,12 @@ use Rattle.agreement.specs.Demand as model-demand
 use Rattle.agreement.proofs.DemandLaws.{ordered}
 use Rattle.task.specs.declared.Frame.{Frame}
 use Rattle.task.specs.Frames.{vacant, integers, startFrame, workLimit}
-use Rattle.machine.specs.declared.Machine.{Machine}
-use Rattle.machine.specs.Slots.{at}
-use Rattle.machine.specs.Ending.{endOf, jobEnded}
-use Rattle.machine.specs.Starting.{rank}
-use Rattle.machine.proofs.Models.{formsOf, laws-hold}
-use Rattle.machine.proofs.Quiet.{fits-ended}
+use Rattle.drive.specs.declared.State.{State}
+use Rattle.drive.specs.Slots.{at}
+use Rattle.drive.specs.Ending.{endOf, jobEnded}
+use Rattle.drive.specs.Settings.{rank}
+use Rattle.drive.proofs.Models.{formsOf, laws-hold}
+use Rattle.drive.proofs.Quiet.{fits-ended}
 use Rattle.machine.proofs.PickLaws.{can-accepted}
 use Rattle.machine.proofs.StartLaws.{fresh-work, fresh-shows, fresh-fits}
 use Rattle.orders.specs.Demand.{Job, played, Pickable, SameResult, Agrees, Unending, WhateverTheOrder, Demand3, AnyFuel}
@@ -28,11 +28,11 @@ abbrev firstFrame : Job → Frame
 firstFrame j = startFrame (j .places) (integers (j .registers))
 
 module _ {j : Job} (start : JobAccepted j) where
-  abbrev M : Model Frame Machine
+  abbrev M : Model Frame State
   M = modelOfJob j
 
   -- a state of the job, and what the model says of it
-  module _ (m : Machine) (x : FitsJob j m) where
+  module _ (m : State) (x : FitsJob j m) where
     ended-here : jobEnded m ≡ model.jobEnded M m
     ended-here = fits-ended (start .allowed) (j .words) m x
 

@@ -8,29 +8,31 @@ use lib.Dec.{ltb}
 use borrow.Author.Tests.{ltb-false}
 use Rattle.facts.proofs.Tests.{clash, by-test}
 use Rattle.task.specs.Frames.{workLimit}
-use Rattle.machine.specs.declared.Machine.{Machine}
+use Rattle.drive.specs.declared.State.{State}
 use Rattle.machine.specs.declared.Outcome.{Outcome}
-use Rattle.machine.specs.Ending.{jobEnded}
+use Rattle.drive.specs.Ending.{jobEnded}
 use Rattle.machine.specs.Picking.{stateNo}
-use Rattle.machine.specs.Courses.{over, turn, Run}
-use Rattle.machine.specs.Running.{nextPick, stops, passes, runFrom, outcome}
-use Rattle.machine.proofs.Searching.{next-runs}
+use Rattle.drive.specs.Courses.{over, turn, Run}
+use Rattle.drive.specs.Passes.{nextPick, stops, passes, runFrom}
+use Rattle.machine.specs.Running.{outcome}
+use Rattle.drive.proofs.Searching.{next-runs}
 use Rattle.orders.specs.Demand.{Job, Accepted, startOn, played}
 use Rattle.orders.specs.Runs.{PassesSound, RunIsOrder, EveryRun}
 use Rattle.orders.proofs.Plays.{job-accepted, played-on}
 use Rattle.orders.proofs.Demand.{demand-3}
 use Rattle.orders.proofs.Shapes.{every-order-meets}
-use Rattle.orders.proofs.Courses.{Passed, meets-passes, no-turn, goes-on, slot-pickable, some-runs, course-is-order, spent-or-over}
+use Rattle.machine.proofs.PickLaws.{Passed}
+use Rattle.orders.proofs.Courses.{meets-passes, no-turn, goes-on, slot-pickable, some-runs, course-is-order, spent-or-over}
 
 -- ---- a run is an order
 
-passes-turn : (m : Machine) (slot k c : ℕ) → passes m slot ≡ turn k c → (stops m ≡ false) × (k ≡ nextPick m slot)
+passes-turn : (m : State) (slot k c : ℕ) → passes m slot ≡ turn k c → (stops m ≡ false) × (k ≡ nextPick m slot)
 unfolding passes
 passes-turn m slot k c e = by-test (stops m)
     (λ t. no-turn (rw (passes, t) at e))
     (λ t. let z : turn (nextPick m slot) (nextPick m slot + 1) ≡ turn k c = rw (passes, t) at e in (t, cc))
 
-passes-over : (m : Machine) (slot : ℕ) → passes m slot ≡ over → stops m ≡ true
+passes-over : (m : State) (slot : ℕ) → passes m slot ≡ over → stops m ≡ true
 unfolding passes
 passes-over m slot e = by-test (stops m) (λ t. t)
     (λ t. no-turn (sym (rw (passes, t) at e)))
@@ -46,7 +48,7 @@ passes-sound cells = record {
 }
 
 -- a run that is over with the job open
-at-limit : (m : Machine) → stops m ≡ true → jobEnded m ≡ false → workLimit ≤ m .work
+at-limit : (m : State) → stops m ≡ true → jobEnded m ≡ false → workLimit ≤ m .work
 at-limit m t o = by-test (ltb (m .work) workLimit) (λ l. clash t (rw (o, l))) (λ l. ltb-false (m .work) workLimit l)
 
 pub run-is-order : RunIsOrder
@@ -58,22 +60,22 @@ run-is-order j m sized e k b = record {
     r : Run ℕ
     r = runFrom (j .cells) (j .words) m k b
 
-    by : (r .picks ≡ b) ⊎ (passes (r .machine) (r .kept) ≡ over) → jobEnded (r .machine) ≡ false → (r .picks ≡ b) ⊎ (workLimit ≤ r .machine .work)
+    by : (r .picks ≡ b) ⊎ (passes (r .state) (r .kept) ≡ over) → jobEnded (r .state) ≡ false → (r .picks ≡ b) ⊎ (workLimit ≤ r .state .work)
     by (inl h) o = inl h
-    by (inr h) o = inr (at-limit (r .machine) (passes-over (r .machine) (r .kept) h) o)
+    by (inr h) o = inr (at-limit (r .state) (passes-over (r .state) (r .kept) h) o)
 
 -- ---- a run after an order
 
 -- questions 1 to 20 let every state of an order pass
-pub order-passes : (j : Job) → Accepted j → (m : Machine) (ks : List ℕ) → stateNo (j .cells) (j .words) (played j (startOn j m) ks) ≡ 0
+pub order-passes : (j : Job) → Accepted j → (m : State) (ks : List ℕ) → stateNo (j .cells) (j .words) (played j (startOn j m) ks) ≡ 0
 order-passes j a m ks =
     let start = job-accepted j a in
     let passed : Passed (j .cells) (j .words) = record { program = start .allowed .program; lent = start .lent } in
     meets-passes passed (played j (startOn j m) ks) (every-order-meets j a m ks)
 
 -- what run answers in a state that they let pass
-pub answers : (j : Job) (m : Machine) (b : ℕ) → stateNo (j .cells) (j .words) m ≡ 0
-    → outcome (j .cells) (j .words) m b ≡ (let r = runFrom (j .cells) (j .words) m 0 b in record { no = 0; ended = jobEnded (r .machine); picks = r .picks; machine = r .machine })
+pub answers : (j : Job) (m : State) (b : ℕ) → stateNo (j .cells) (j .words) m ≡ 0
+    → outcome (j .cells) (j .words) m b ≡ (let r = runFrom (j .cells) (j .words) m 0 b in record { no = 0; ended = jobEnded (r .state); picks = r .picks; machine = record { state = r .state } })
 unfolding outcome
 answers j m b e = rw e
 
@@ -86,9 +88,9 @@ every-run j a m ks b =
     record {
       not-refused = ap (λ (x : Outcome). x .no) said;
       order = o .order;
-      leads-here = ap (λ (x : Outcome). x .machine) said ∙ o .leads-here ∙ sym (played-on j ks (o .order) (startOn j m));
+      leads-here = ap (λ (x : Outcome). x .machine .state) said ∙ o .leads-here ∙ sym (played-on j ks (o .order) (startOn j m));
       all-carried-out = o .all-carried-out;
       picks-counted = ap (λ (x : Outcome). x .picks) said ∙ o .picks-counted;
-      ended-said = ap (λ (x : Outcome). x .ended) said ∙ sym (ap (λ (x : Outcome). jobEnded (x .machine)) said);
+      ended-said = ap (λ (x : Outcome). x .ended) said ∙ sym (ap (λ (x : Outcome). jobEnded (x .machine .state)) said);
       whatever-the-order = demand-3 j a m (ks ++ o .order);
     }

@@ -9,10 +9,10 @@ use native.Mathlib.Omega.{arith}
 use Rattle.facts.proofs.Tests.{clash, by-test, by-below}
 use Rattle.agreement.specs.Plain.{Ran, out, ran}
 use Rattle.task.specs.declared.Frame.{Frame}
-use Rattle.machine.specs.declared.Machine.{Machine}
-use Rattle.machine.specs.Ending.{jobEnded}
+use Rattle.drive.specs.declared.State.{State}
+use Rattle.drive.specs.Ending.{jobEnded}
 use Rattle.task.specs.Frames.{workLimit}
-use Rattle.machine.specs.Courses.{Run}
+use Rattle.drive.specs.Courses.{Run}
 use Rattle.orders.specs.Demand.{Job, Accepted, startOn, playedOf, played, carriedOutOf, evaluation, Ends, Agrees}
 use Rattle.orders.specs.Runs.{IsRun, run, EndsAlike, SameEnd}
 use Rattle.orders.proofs.Plays.{played-on}
@@ -32,9 +32,9 @@ by-ends {A} j some none = by (evaluation j workLimit) refl
         (λ over. none (λ f U h. let z : ran e W ≡ ran f U = sym t ∙ h .evaluates in let n : W ≡ U = cc in omega (arith, h .within-limit)))
         (λ within. some e W (record { evaluates = t; within-limit = within }))
 
-module _ (j : Job) (accepted : Accepted j) (m : Machine) where
+module _ (j : Job) (accepted : Accepted j) (m : State) where
   -- the state n comes of c picks from the start, or of fewer if no more can be picked
-  record Spends (c : ℕ) (n : Machine) : Type 0 where
+  record Spends (c : ℕ) (n : State) : Type 0 where
     order : List ℕ
     leads-here : n ≡ played j (startOn j m) order
     within-budget : n .work ≤ c
@@ -42,11 +42,11 @@ module _ (j : Job) (accepted : Accepted j) (m : Machine) where
     spent-when : jobEnded n ≡ false → (n .work ≡ c) ⊎ (workLimit ≤ n .work)
 
   module _ {c : ℕ} where
-    agrees : {n : Machine} → Spends c n → (e : Frame) (W : ℕ) → Ends j e W → Agrees j n e W
-    agrees x e W t = subst⁻¹ (λ (n : Machine). Agrees j n e W) (x .leads-here) (demand-3 j accepted m (x .order) .where-it-ends e W t)
+    agrees : {n : State} → Spends c n → (e : Frame) (W : ℕ) → Ends j e W → Agrees j n e W
+    agrees x e W t = subst⁻¹ (λ (n : State). Agrees j n e W) (x .leads-here) (demand-3 j accepted m (x .order) .where-it-ends e W t)
 
     -- not enough for the whole evaluation
-    too-few : {n : Machine} → Spends c n → (e : Frame) (W : ℕ) → Ends j e W → jobEnded n ≡ false → (n .work ≡ c) × (c < W)
+    too-few : {n : State} → Spends c n → (e : Frame) (W : ℕ) → Ends j e W → jobEnded n ≡ false → (n .work ≡ c) × (c < W)
     too-few {n} x e W t o = by-below (n .work) W (λ h. by h (x .spent-when o)) (λ h. clash (a .ended-when-equal (omega (arith, a .work-never-above))) o)
       where
         a : Agrees j n e W
@@ -57,14 +57,14 @@ module _ (j : Job) (accepted : Accepted j) (m : Machine) where
         by h (inr s) = absurd (omega (arith, t .within-limit))
 
     -- enough for it
-    enough : {n : Machine} → Spends c n → (e : Frame) (W : ℕ) → Ends j e W → jobEnded n ≡ true → (n .work ≡ W) × (W ≤ c)
+    enough : {n : State} → Spends c n → (e : Frame) (W : ℕ) → Ends j e W → jobEnded n ≡ true → (n .work ≡ W) × (W ≤ c)
     enough {n} x e W t o = let w = agrees x e W t .equal-when-ended o in (w, omega (arith, x .within-budget))
 
     -- none is enough where the evaluation does not end
-    never : {n : Machine} → Spends c n → ((e : Frame) (W : ℕ) → Ends j e W → ⊥) → jobEnded n ≡ false
+    never : {n : State} → Spends c n → ((e : Frame) (W : ℕ) → Ends j e W → ⊥) → jobEnded n ≡ false
     never x none = ap jobEnded (x .leads-here) ∙ demand-3 j accepted m (x .order) .where-it-does-not-end none .never-ended
 
-    module _ {n o : Machine} (x : Spends c n) (y : Spends c o) where
+    module _ {n o : State} (x : Spends c n) (y : Spends c o) where
       -- as much work, and both have ended or neither has
       same : (n .work ≡ o .work) × (jobEnded n ≡ jobEnded o)
       same = by-ends j where-it-ends where-it-does-not-end
@@ -98,7 +98,7 @@ module _ (j : Job) (accepted : Accepted j) (m : Machine) where
   unfolding playedOf carriedOutOf
   start-work = demand-3 j accepted m [] .work-counted
 
-  in-one : {c : ℕ} {r : Run ℕ} → IsRun j (startOn j m) c r → Spends c (r .machine)
+  in-one : {c : ℕ} {r : Run ℕ} → IsRun j (startOn j m) c r → Spends c (r .state)
   in-one {c} {r} x =
       let o = x .is-order in
       record {
@@ -109,32 +109,32 @@ module _ (j : Job) (accepted : Accepted j) (m : Machine) where
         spent-when = λ open-still. by (x .spent-when open-still);
       }
     where
-      by : (r .picks ≡ c) ⊎ (workLimit ≤ r .machine .work) → (r .machine .work ≡ c) ⊎ (workLimit ≤ r .machine .work)
+      by : (r .picks ≡ c) ⊎ (workLimit ≤ r .state .work) → (r .state .work ≡ c) ⊎ (workLimit ≤ r .state .work)
       by (inl p) = inl (omega (arith, start-work, x .is-order .rise-in-work))
       by (inr p) = inr p
 
-  in-two : {a b : ℕ} {r s : Run ℕ} → IsRun j (startOn j m) a r → IsRun j (r .machine) b s → Spends (a + b) (s .machine)
+  in-two : {a b : ℕ} {r s : Run ℕ} → IsRun j (startOn j m) a r → IsRun j (r .state) b s → Spends (a + b) (s .state)
   in-two {a} {b} {r} {s} x y =
       let o = x .is-order in
       let p = y .is-order in
       record {
         order = o .order ++ p .order;
-        leads-here = p .leads-here ∙ ap (λ (n : Machine). played j n (p .order)) (o .leads-here) ∙ sym (played-on j (o .order) (p .order) (startOn j m));
+        leads-here = p .leads-here ∙ ap (λ (n : State). played j n (p .order)) (o .leads-here) ∙ sym (played-on j (o .order) (p .order) (startOn j m));
         within-budget = omega (arith, start-work, o .rise-in-work, o .within-budget, p .rise-in-work, p .within-budget);
         within-limit = p .within-limit (o .within-limit (omega (arith, start-work)));
         spent-when = λ open-still. by (x .spent-when (open-before open-still)) (y .spent-when open-still);
       }
     where
-      open-before : jobEnded (s .machine) ≡ false → jobEnded (r .machine) ≡ false
-      open-before o = by-test (jobEnded (r .machine)) (λ e. clash (ap jobEnded (y .is-order .ended-before e .same-state) ∙ e) o) (λ e. e)
+      open-before : jobEnded (s .state) ≡ false → jobEnded (r .state) ≡ false
+      open-before o = by-test (jobEnded (r .state)) (λ e. clash (ap jobEnded (y .is-order .ended-before e .same-state) ∙ e) o) (λ e. e)
 
-      by : (r .picks ≡ a) ⊎ (workLimit ≤ r .machine .work) → (s .picks ≡ b) ⊎ (workLimit ≤ s .machine .work)
-          → (s .machine .work ≡ a + b) ⊎ (workLimit ≤ s .machine .work)
+      by : (r .picks ≡ a) ⊎ (workLimit ≤ r .state .work) → (s .picks ≡ b) ⊎ (workLimit ≤ s .state .work)
+          → (s .state .work ≡ a + b) ⊎ (workLimit ≤ s .state .work)
       by (inl p) (inl q) = inl (omega (arith, start-work, x .is-order .rise-in-work, y .is-order .rise-in-work))
       by (inl p) (inr q) = inr q
       by (inr p) q = inr (omega (arith, y .is-order .rise-in-work))
 
-  alike : {a b : ℕ} {first second whole : Run ℕ} → IsRun j (startOn j m) a first → IsRun j (first .machine) b second
+  alike : {a b : ℕ} {first second whole : Run ℕ} → IsRun j (startOn j m) a first → IsRun j (first .state) b second
       → IsRun j (startOn j m) (a + b) whole → EndsAlike first second whole
   alike x y w =
       let two = in-two x y in
@@ -157,5 +157,5 @@ pub same-end : SameEnd
 same-end j accepted m a b =
     let first = from-start j accepted m a in
     alike j accepted m first
-    (subst⁻¹ (λ (n : Machine). IsRun j n b (run j n b)) (first .is-order .leads-here) (after-order j accepted m (first .is-order .order) b))
+    (subst⁻¹ (λ (n : State). IsRun j n b (run j n b)) (first .is-order .leads-here) (after-order j accepted m (first .is-order .order) b))
     (from-start j accepted m (a + b))

@@ -14,19 +14,21 @@ use Rattle.agreement.specs.Picks.{play}
 use Rattle.agreement.proofs.PlacesLaws.{places-add-up}
 use Rattle.agreement.proofs.HoldsLaws.{open-runs, ended-idle}
 use Rattle.image.specs.Doors.{unlessRefused}
+use Rattle.image.proofs.Asked.{or-else-both}
 use Rattle.task.specs.declared.Status.{Status}
 use Rattle.task.specs.declared.Status.the-variants.{Vacant, Running, Waiting, Halted, Faulted}
 use Rattle.task.specs.declared.Frame.{Frame}
 use Rattle.task.specs.Formed.{statusFits}
 use Rattle.task.proofs.Formation.{Formed}
-use Rattle.machine.specs.declared.Machine.{Machine}
-use Rattle.machine.specs.Ending.{jobEnded}
-use Rattle.machine.specs.Starting.{rank}
-use Rattle.machine.specs.Picking.{pickNo, issued, picked}
-use Rattle.machine.proofs.EndingLaws.{ended-is}
-use Rattle.machine.proofs.Models.{modelOf, formsOf, Allowed, laws-hold}
-use Rattle.machine.proofs.ShapeLaws.{Fits, shape-allowed, shape-fits, fits-shape, fits-shows, pick-fits}
-use Rattle.machine.proofs.PickLaws.{pick-lent, picked-is, running-accepted, picked-places, picked-interval}
+use Rattle.drive.specs.declared.State.{State}
+use Rattle.drive.specs.Ending.{jobEnded}
+use Rattle.drive.specs.Settings.{rank}
+use Rattle.machine.specs.Picking.{stateNo, pickNo, picked}
+use Rattle.drive.specs.Issue.{slotNo, issued}
+use Rattle.drive.proofs.EndingLaws.{ended-is}
+use Rattle.drive.proofs.Models.{modelOf, formsOf, Allowed, laws-hold}
+use Rattle.drive.proofs.ShapeLaws.{Fits, shape-allowed, shape-fits, fits-shape, fits-shows, pick-fits}
+use Rattle.machine.proofs.PickLaws.{state-passed, picked-is, running-accepted, picked-places, picked-interval}
 use Rattle.machine.proofs.StartLaws.{fresh-fits}
 use Rattle.orders.specs.Demand.{Job, played}
 use Rattle.orders.specs.Shapes.{heldAs, Meets, EveryShape, EveryOrderMeets}
@@ -49,16 +51,16 @@ held-formed cells D h f x = live-held f (f .task .status) (f .task .places) (x .
 
 -- ---- a state of the shape
 
-fits-meets : {cells : List ℕ} {interval places : ℕ} → Allowed cells interval places → (m : Machine) → Fits cells interval places m → Meets cells m
+fits-meets : {cells : List ℕ} {interval places : ℕ} → Allowed cells interval places → (m : State) → Fits cells interval places m → Meets cells m
 fits-meets allowed m x = record { sized = x .sized; shaped = fits-shape allowed m x }
 
 -- whether a pick is carried out or refused, its state is of the same job
-picked-fits : {cells : List ℕ} {interval places : ℕ} → Allowed cells interval places → (words : List ℤ) (m : Machine) → Fits cells interval places m
+picked-fits : {cells : List ℕ} {interval places : ℕ} → Allowed cells interval places → (words : List ℤ) (m : State) → Fits cells interval places m
     → (k : ℕ) → Fits cells interval places (picked cells words m k)
 unfolding unlessRefused
 picked-fits {cells} {interval} {places} allowed words m x k =
     by-test (eqb (pickNo cells words m k) 0)
-    (λ t. let lent = pick-lent cells words m k (eqb-true (pickNo cells words m k) 0 t) in
+    (λ t. let lent = state-passed cells words m (or-else-both (stateNo cells words m) (slotNo m k) (eqb-true (pickNo cells words m k) 0 t) .0) .passed .lent in
     subst⁻¹ (Fits cells interval places) (picked-is allowed lent m k x) (pick-fits allowed words m k x))
     (λ t. subst⁻¹ (λ b. Fits cells interval places (cond b (issued cells words m k) m)) t x)
 

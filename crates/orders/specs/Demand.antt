@@ -17,9 +17,9 @@ use Rattle.task.specs.declared.Frame.{Frame}
 use Rattle.task.specs.Frames.{running, integers, startFrame, workLimit}
 use Rattle.task.specs.Choices.{Choices, chosen}
 use Rattle.task.specs.Step.{step, join}
-use Rattle.machine.specs.declared.Machine.{Machine}
-use Rattle.machine.specs.Slots.{at}
-use Rattle.machine.specs.Ending.{endOf, ending, jobEnded}
+use Rattle.drive.specs.declared.State.{State}
+use Rattle.drive.specs.Slots.{at}
+use Rattle.drive.specs.Ending.{endOf, ending, jobEnded}
 use Rattle.machine.specs.Starting.{startNo, started}
 use Rattle.machine.specs.Picking.{pickNo, picked}
 
@@ -35,10 +35,10 @@ pub record Job : Type 0 where
 pub record Engine : Type 0 where
   -- given a program, P, the interval, start registers and a call record; called on a state
   pub startNo : List ℕ → ℕ → ℕ → List ℤ → List ℤ → ℕ
-  pub started : Machine → List ℕ → ℕ → ℕ → List ℤ → List ℤ → Machine
+  pub started : State → List ℕ → ℕ → ℕ → List ℤ → List ℤ → State
   -- given a program and a call record; called on a state, with a slot
-  pub pickNo : List ℕ → List ℤ → Machine → ℕ → ℕ
-  pub picked : List ℕ → List ℤ → Machine → ℕ → Machine
+  pub pickNo : List ℕ → List ℤ → State → ℕ → ℕ
+  pub picked : List ℕ → List ℤ → State → ℕ → State
 
 module _ (engine : Engine) (j : Job) where
   open Job j using (cells, places, interval, registers, words)
@@ -48,23 +48,23 @@ module _ (engine : Engine) (j : Job) where
   AcceptedOf = engine .startNo cells places interval registers words ≡ 0
 
   -- the state that start hands back, called on the state m
-  abbrev pub startOf : Machine → Machine
+  abbrev pub startOf : State → State
   startOf m = engine .started m cells places interval registers words
 
   -- ---- Orders. All picks get start's program and call record
 
   -- a list of picks of any slots, refused ones included: each gets the state that the one before handed back
-  unfoldable pub playedOf : Machine → List ℕ → Machine
+  unfoldable pub playedOf : State → List ℕ → State
   playedOf m [] = m
   playedOf m (k ∷ ks) = playedOf (engine .picked cells words m k) ks
 
   -- the picks of an order that are carried out, that is, not refused, each counted as much as `count` says of its slot
-  unfoldable pub carriedOutOf : (ℕ → ℕ) → Machine → List ℕ → ℕ
+  unfoldable pub carriedOutOf : (ℕ → ℕ) → State → List ℕ → ℕ
   carriedOutOf count m [] = 0
   carriedOutOf count m (k ∷ ks) = ifPicked (eqb (engine .pickNo cells words m k) 0) (count k) + carriedOutOf count (engine .picked cells words m k) ks
 
   -- a task can be picked
-  abbrev pub PickableOf : Machine → Type 0
+  abbrev pub PickableOf : State → Type 0
   PickableOf m = (k : ℕ) × (engine .pickNo cells words m k ≡ 0)
 
 -- ---- The plain evaluation. It is fed the program and the job's start, and knows no picks, slots or buffers
@@ -95,7 +95,7 @@ module _ (j : Job) where
 -- ---- What the state m after an order is like
 
 -- where the evaluation ends with e and W, and the job has ended
-pub record SameResult (m : Machine) (e : Frame) (W : ℕ) : Type 0 where
+pub record SameResult (m : State) (e : Frame) (W : ℕ) : Type 0 where
   -- halt or fault, and the fault's number
   pub same-end : ending m ≡ endOf e
   pub same-registers : at m 0 .registers ≡ e .registers
@@ -105,7 +105,7 @@ pub record SameResult (m : Machine) (e : Frame) (W : ℕ) : Type 0 where
   pub same-task : at m 0 ≡ e
 
 -- where the evaluation ends with e and W
-pub record AgreesOf (engine : Engine) (j : Job) (m : Machine) (e : Frame) (W : ℕ) : Type 0 where
+pub record AgreesOf (engine : Engine) (j : Job) (m : State) (e : Frame) (W : ℕ) : Type 0 where
   pub work-never-above : m .work ≤ W
   pub ended-when-equal : m .work ≡ W → jobEnded m ≡ true
   pub equal-when-ended : jobEnded m ≡ true → m .work ≡ W
@@ -113,21 +113,21 @@ pub record AgreesOf (engine : Engine) (j : Job) (m : Machine) (e : Frame) (W : �
   pub before-that-pickable : m .work < W → PickableOf engine j m
 
 -- where it doesn't end within the limit
-pub record UnendingOf (engine : Engine) (j : Job) (m : Machine) : Type 0 where
+pub record UnendingOf (engine : Engine) (j : Job) (m : State) : Type 0 where
   pub never-ended : jobEnded m ≡ false
   pub below-limit-pickable : m .work < workLimit → PickableOf engine j m
 
 -- ---- The demand
 
 -- of the order ks from the state m₀ that start handed back
-pub record WhateverTheOrderOf (engine : Engine) (j : Job) (m₀ : Machine) (ks : List ℕ) : Type 0 where
+pub record WhateverTheOrderOf (engine : Engine) (j : Job) (m₀ : State) (ks : List ℕ) : Type 0 where
   pub work-counted : playedOf engine j m₀ ks .work ≡ carriedOutOf engine j once m₀ ks
   pub where-it-ends : (e : Frame) (W : ℕ) → Ends j e W → AgreesOf engine j (playedOf engine j m₀ ks) e W
   pub where-it-does-not-end : ((e : Frame) (W : ℕ) → Ends j e W → ⊥) → UnendingOf engine j (playedOf engine j m₀ ks)
 
 -- for every job that start does not refuse, whatever state it was called on, and for every list of numbers as slots
 abbrev pub Demand3Of : Engine → Type 0
-Demand3Of engine = (j : Job) → AcceptedOf engine j → (m : Machine) (ks : List ℕ) → WhateverTheOrderOf engine j (startOf engine j m) ks
+Demand3Of engine = (j : Job) → AcceptedOf engine j → (m : State) (ks : List ℕ) → WhateverTheOrderOf engine j (startOf engine j m) ks
 
 -- ---- Of our start and pick
 
@@ -137,25 +137,25 @@ ours = record { startNo = startNo; started = started; pickNo = pickNo; picked = 
 abbrev pub Accepted : Job → Type 0
 Accepted j = AcceptedOf ours j
 
-abbrev pub startOn : Job → Machine → Machine
+abbrev pub startOn : Job → State → State
 startOn j m = startOf ours j m
 
-abbrev pub played : Job → Machine → List ℕ → Machine
+abbrev pub played : Job → State → List ℕ → State
 played j m ks = playedOf ours j m ks
 
-abbrev pub carriedOut : Job → (ℕ → ℕ) → Machine → List ℕ → ℕ
+abbrev pub carriedOut : Job → (ℕ → ℕ) → State → List ℕ → ℕ
 carriedOut j count m ks = carriedOutOf ours j count m ks
 
-abbrev pub Pickable : Job → Machine → Type 0
+abbrev pub Pickable : Job → State → Type 0
 Pickable j m = PickableOf ours j m
 
-abbrev pub Agrees : Job → Machine → Frame → ℕ → Type 0
+abbrev pub Agrees : Job → State → Frame → ℕ → Type 0
 Agrees j m e W = AgreesOf ours j m e W
 
-abbrev pub Unending : Job → Machine → Type 0
+abbrev pub Unending : Job → State → Type 0
 Unending j m = UnendingOf ours j m
 
-abbrev pub WhateverTheOrder : Job → Machine → List ℕ → Type 0
+abbrev pub WhateverTheOrder : Job → State → List ℕ → Type 0
 WhateverTheOrder j m₀ ks = WhateverTheOrderOf ours j m₀ ks
 
 abbrev pub Demand3 : Type 0

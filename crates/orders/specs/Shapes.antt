@@ -12,11 +12,11 @@ use Rattle.image.specs.Questions.{programNo}
 use Rattle.task.specs.declared.Status.{Status}
 use Rattle.task.specs.declared.Status.the-variants.{Vacant, Running, Waiting, Halted, Faulted}
 use Rattle.task.specs.Frames.{running, workLimit}
-use Rattle.machine.specs.declared.Machine.{Machine}
-use Rattle.machine.specs.Slots.{at, Sized}
-use Rattle.machine.specs.Ending.{jobEnded}
+use Rattle.drive.specs.declared.State.{State}
+use Rattle.drive.specs.Slots.{at, Sized}
+use Rattle.drive.specs.Ending.{jobEnded}
 use Rattle.machine.specs.Starting.{mostWords}
-use Rattle.machine.specs.Shape.{shape}
+use Rattle.drive.specs.Shape.{shape}
 use Rattle.machine.specs.Picking.{pickNo, picked}
 use Rattle.orders.specs.Demand.{Job, Accepted, startOn, played}
 
@@ -29,16 +29,16 @@ heldAs Halted places = places
 heldAs (Faulted n) places = places
 
 -- the places of all running and waiting tasks, a task that ended the job included
-abbrev pub placesHeld : Machine → ℕ
+abbrev pub placesHeld : State → ℕ
 placesHeld m = heldFrom at (λ f. heldAs (f .task .status) (f .task .places)) 64 m 0
 
 -- meets the shape test for a program
-pub record Meets (cells : List ℕ) (m : Machine) : Type 0 where
+pub record Meets (cells : List ℕ) (m : State) : Type 0 where
   pub sized : Sized m
   pub shaped : shape (programOf cells) m ≡ true
 
 -- of a state m, for every pick
-pub record ShapeEnsures (cells : List ℕ) (words : List ℤ) (m : Machine) : Type 0 where
+pub record ShapeEnsures (cells : List ℕ) (words : List ℤ) (m : State) : Type 0 where
   pub pick-meets : (k : ℕ) → Meets cells (picked cells words m k)
   pub keeps-places : (k : ℕ) → picked cells words m k .places ≡ m .places
   pub keeps-interval : (k : ℕ) → picked cells words m k .interval ≡ m .interval
@@ -51,8 +51,8 @@ pub record ShapeEnsures (cells : List ℕ) (words : List ℤ) (m : Machine) : Ty
       → (k : ℕ) → k < m .places → running (at m k) ≡ true → m .work < workLimit → pickNo cells words m k ≡ 0
 
 abbrev pub EveryShape : Type 0
-EveryShape = (cells : List ℕ) (words : List ℤ) (m : Machine) → programNo cells ≡ 0 → Meets cells m → ShapeEnsures cells words m
+EveryShape = (cells : List ℕ) (words : List ℤ) (m : State) → programNo cells ≡ 0 → Meets cells m → ShapeEnsures cells words m
 
 -- each state left by start or a carried-out pick meets it for that call's program: so after every order
 abbrev pub EveryOrderMeets : Type 0
-EveryOrderMeets = (j : Job) → Accepted j → (m : Machine) (ks : List ℕ) → Meets (j .cells) (played j (startOn j m) ks)
+EveryOrderMeets = (j : Job) → Accepted j → (m : State) (ks : List ℕ) → Meets (j .cells) (played j (startOn j m) ks)

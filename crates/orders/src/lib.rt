@@ -1,8 +1,8 @@
 // Whatever the order of picks: the statements stand in specs/, the theorems in proofs/. `replay` carries an order out.
+use drive::picks::drive;
 use machine::Answered;
 use machine::Machine;
-use machine::course::Course;
-use machine::drive::drive;
+use turns::course::Course;
 ghost use mathlib.Core.Path.{_≡_};
 ghost use lib.ListN.{length};
 ghost use Rattle.machine.specs.Starting.{startNo, empty};
@@ -20,20 +20,18 @@ pub fn replay(
     order: &[u8],
 ) -> Answered
     ensures { λ r. ⌜ r .no ≡ startNo (now (cells .entry)) places interval (now (registers .entry)) (now (words .entry)) ⌝ }
-    ensures { λ r. ⌜ r .machine ≡ replayed (r .no) (jobOf (now (cells .entry)) places interval (now (registers .entry)) (now (words .entry))) (now (order .entry)) ⌝ }
+    ensures { λ r. ⌜ r .machine .state ≡ replayed (r .no) (jobOf (now (cells .entry)) places interval (now (registers .entry)) (now (words .entry))) (now (order .entry)) ⌝ }
     ensures { λ r. ⌜ (r .no ≡ 0 → WhateverTheOrder (jobOf (now (cells .entry)) places interval (now (registers .entry)) (now (words .entry)))
         (startOn (jobOf (now (cells .entry)) places interval (now (registers .entry)) (now (words .entry))) (empty 0 0)) (now (order .entry))) ⌝ }
 {
     let answer = Machine::blank().start(cells, places, interval, registers, words);
-    let no = answer.no;
-    let fresh = answer.machine;
-    if no != 0 {
-        return Answered { no, machine: fresh };
+    if answer.no != 0 {
+        return answer;
     }
-    let driven = drive(cells, words, fresh, order, Course::Listed);
-    let state = driven.machine;
+    let driven = drive(cells, words, answer.machine.state, order, Course::Listed);
+    let state = driven.state;
     Answered {
         no: 0,
-        machine: state,
+        machine: Machine { state },
     }
 }

@@ -16,7 +16,7 @@ use Rattle.task.specs.declared.Value.{Value}
 use Rattle.task.specs.declared.Value.the-variants.{Int}
 use Rattle.task.specs.declared.Register.{Register}
 use Rattle.task.specs.Frames.{zeroRegister}
-use Rattle.machine.specs.Ending.{isEnd}
+use Rattle.drive.specs.Ending.{isEnd}
 use Rattle.report.specs.declared.Report.{Report}
 use Rattle.report.specs.Words.{Written, signed}
 use Rattle.report.specs.Text.{endLine, workLine, spanLine, valueText, registerLine, registerLines, resultLines, textOf}

@@ -9,15 +9,15 @@ use lib.Seq.{sets}
 use Rattle.image.specs.Layout.{rows}
 use Rattle.image.proofs.Rows.{length-rows}
 use Rattle.task.specs.Frames.{zeroRegister, zeros}
-use Rattle.machine.specs.declared.Machine.{Machine}
-use Rattle.machine.specs.declared.End.{End}
-use Rattle.machine.specs.Ending.{ending, isEnd}
+use Rattle.drive.specs.declared.State.{State}
+use Rattle.drive.specs.declared.End.{End}
+use Rattle.drive.specs.Ending.{ending, isEnd}
 use Rattle.report.specs.declared.Report.{Report}
 use Rattle.state.specs.Numbers.{valueNumbers, inBytes}
 use Rattle.report.specs.Report.{reportBy, reportOf, endNumber, endFault, reportNumbers, reportLength, reportBytes}
 use Rattle.state.proofs.Laying.{length-value, length-inBytes, inBytes-rows, numbers-placed, sets-whole}
 
-module _ (m : Machine) (picks : ℕ) (end : End) (e : end ≡ ending m) where
+module _ (m : State) (picks : ℕ) (end : End) (e : end ≡ ending m) where
   by-end : (b : Bool) → isEnd end ≡ b → reportBy b m picks ≡ reportOf m picks
   by-end b k = ap (λ (t : Bool). reportBy t m picks) (sym k ∙ ap isEnd e)
 

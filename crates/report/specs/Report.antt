@@ -5,16 +5,16 @@ use Prim.Native.Nat.{ℕ}
 use lib.ListN.{getD}
 use Rattle.image.specs.Layout.{rows}
 use Rattle.task.specs.Frames.{zeroRegister, zeros}
-use Rattle.machine.specs.declared.Machine.{Machine}
-use Rattle.machine.specs.declared.End.{End}
-use Rattle.machine.specs.declared.End.the-variants.{NotEnded, Halt, Fault}
-use Rattle.machine.specs.Slots.{at}
-use Rattle.machine.specs.Ending.{ending, jobEnded}
+use Rattle.drive.specs.declared.State.{State}
+use Rattle.drive.specs.declared.End.{End}
+use Rattle.drive.specs.declared.End.the-variants.{NotEnded, Halt, Fault}
+use Rattle.drive.specs.Slots.{at}
+use Rattle.drive.specs.Ending.{ending, jobEnded}
 use Rattle.report.specs.declared.Report.{Report}
 use Rattle.state.specs.Numbers.{valueNumbers, inBytes}
 
 -- a job that has ended reports the span and the registers of slot 0; one that has not is spent, and reports the work alone
-abbrev pub reportBy : Bool → Machine → ℕ → Report
+abbrev pub reportBy : Bool → State → ℕ → Report
 reportBy true m picks = record {
   end = ending m;
   picks = picks;
@@ -25,7 +25,7 @@ reportBy true m picks = record {
 reportBy false m picks = record { end = ending m; picks = picks; work = m .work; span = 0; registers = zeros }
 
 -- of the state after a run, and the picks that the run carried out
-abbrev pub reportOf : Machine → ℕ → Report
+abbrev pub reportOf : State → ℕ → Report
 reportOf m picks = reportBy (jobEnded m) m picks
 
 -- ---- Its bytes

@@ -8,9 +8,9 @@ use Rattle.task.specs.declared.Value.{Value}
 use Rattle.task.specs.declared.Value.the-variants.{Int, Label, Record}
 use Rattle.task.specs.declared.Register.{Register}
 use Rattle.task.specs.Frames.{zeroRegister}
-use Rattle.machine.specs.declared.End.{End}
-use Rattle.machine.specs.declared.End.the-variants.{NotEnded, Halt, Fault}
-use Rattle.machine.specs.Ending.{isEnd}
+use Rattle.drive.specs.declared.End.{End}
+use Rattle.drive.specs.declared.End.the-variants.{NotEnded, Halt, Fault}
+use Rattle.drive.specs.Ending.{isEnd}
 use Rattle.report.specs.declared.Report.{Report}
 use Rattle.report.specs.Words.{decimal, signed, line}
 

@@ -1,6 +1,6 @@
 // The report's bytes.
 use crate::Report;
-use machine::End;
+use drive::End;
 use state::numbers::write_register;
 use state::numbers::write_three;
 use state::numbers::write_two;

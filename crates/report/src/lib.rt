@@ -3,10 +3,10 @@ pub mod bytes;
 pub mod text;
 mod words;
 
-use machine::End;
-use machine::Machine;
-use machine::pick::end_of;
-use machine::slots::frame_at;
+use drive::End;
+use drive::State;
+use drive::ending::end_of;
+use drive::slots::frame_at;
 use task::Register;
 use task::Value;
 ghost use mathlib.Core.Path.{_≡_};
@@ -27,7 +27,7 @@ pub struct Report {
     pub registers: [Register; 16],
 }
 
-fn ended_report(m: Machine, picks: u64) -> Report
+fn ended_report(m: State, picks: u64) -> Report
     ensures { λ r. ⌜ r ≡ reportBy true m picks ⌝ }
 {
     let end = end_of(m);
@@ -44,7 +44,7 @@ fn ended_report(m: Machine, picks: u64) -> Report
 }
 
 // The report of the state after a run that carried out so many picks.
-pub fn report_of(m: Machine, picks: u64) -> Report
+pub fn report_of(m: State, picks: u64) -> Report
     ensures { λ r. ⌜ r ≡ reportOf m picks ⌝ }
 {
     let end = end_of(m);

@@ -4,7 +4,7 @@ use crate::words::write_decimal;
 use crate::words::write_line;
 use crate::words::write_signed;
 use crate::words::write_word;
-use machine::End;
+use drive::End;
 use task::Register;
 use task::Value;
 ghost use mathlib.Core.Path.{_≡_};

@@ -9,7 +9,7 @@ use Rattle.image.specs.Layout.{rows}
 use Rattle.image.proofs.Rows.{length-rows}
 use Rattle.task.specs.declared.Task.{Task}
 use Rattle.task.specs.Frames.{zeroFork, zeroRegister, noTask}
-use Rattle.machine.specs.declared.Machine.{Machine}
+use Rattle.drive.specs.declared.State.{State}
 use Rattle.state.specs.Numbers.{valueNumbers, inBytes}
 use Rattle.state.specs.State.{statusNumber, faultNumber, forkNumbers, taskNumbers, slotNumbers, stateNumbers, stateLength, stateBytes}
 use Rattle.state.proofs.Laying.{length-value, length-inBytes, inBytes-rows, numbers-placed, sets-whole}
@@ -22,18 +22,18 @@ length-forks t = length-rows (λ i. forkNumbers (getD (t .forks) i zeroFork)) 2 
 pub length-task : (t : Task) → length (taskNumbers t) ≡ 19
 length-task t = omega (arith, length-forks t)
 
-pub length-slot : (m : Machine) (k : ℕ) → length (slotNumbers m k) ≡ 67
+pub length-slot : (m : State) (k : ℕ) → length (slotNumbers m k) ≡ 67
 unfolding slotNumbers
 length-slot m k =
     let registers : ℕ → List ℕ = λ i. valueNumbers (getD (m .bank) (16 * k + i) zeroRegister .value) in
     length-append (taskNumbers (getD (m .tasks) k noTask)) (rows registers 16)
     ∙ omega (arith, length-task (getD (m .tasks) k noTask), length-rows registers 3 (λ i. length-value (getD (m .bank) (16 * k + i) zeroRegister .value)) 16)
 
-pub slot-width : (m : Machine) (k : ℕ) → length (inBytes (slotNumbers m k)) ≡ 536
+pub slot-width : (m : State) (k : ℕ) → length (inBytes (slotNumbers m k)) ≡ 536
 slot-width m k = length-inBytes (slotNumbers m k) ∙ ap (λ (n : ℕ). 8 * n) (length-slot m k)
 
 -- the state has 34,328 bytes
-pub state-length : (m : Machine) → length (stateBytes m) ≡ stateLength
+pub state-length : (m : State) → length (stateBytes m) ≡ stateLength
 unfolding stateNumbers
 state-length m = length-inBytes (stateNumbers m) ∙ omega (arith, length-rows (slotNumbers m) 67 (length-slot m) 64)
 
@@ -55,7 +55,7 @@ task-placed t l l₁ l₂ l₃ l₄ at s f hs hf p q r u =
     (u ∙ ap (sets l₃ (at + 56)) (sym (inBytes-rows forks 6)))
     refl
 
-pub slot-placed : (m : Machine) (k : ℕ) (l l₁ l₂ : List ℕ) (at : ℕ) → l₁ ≡ sets l at (inBytes (taskNumbers (getD (m .tasks) k noTask)))
+pub slot-placed : (m : State) (k : ℕ) (l l₁ l₂ : List ℕ) (at : ℕ) → l₁ ≡ sets l at (inBytes (taskNumbers (getD (m .tasks) k noTask)))
     → l₂ ≡ sets l₁ (at + 152) (rows (λ i. inBytes (valueNumbers (getD (m .bank) (16 * k + i) zeroRegister .value))) 16)
     → l₂ ≡ sets l at (inBytes (slotNumbers m k))
 unfolding slotNumbers
@@ -66,7 +66,7 @@ slot-placed m k l l₁ l₂ at p q =
     (q ∙ ap (sets l₁ (at + 152)) (sym (inBytes-rows registers 16)))
     (ap (λ (n : ℕ). at + 8 * n) (sym (length-task t)))
 
-pub state-placed : (m : Machine) (l l₁ l₂ : List ℕ) → length l ≡ stateLength
+pub state-placed : (m : State) (l l₁ l₂ : List ℕ) → length l ≡ stateLength
     → l₁ ≡ sets l 0 (inBytes (m .places ∷ m .interval ∷ m .work ∷ []))
     → l₂ ≡ sets l₁ 24 (rows (λ k. inBytes (slotNumbers m k)) 64)
     → l₂ ≡ stateBytes m

@@ -17,7 +17,7 @@ use Rattle.task.specs.declared.Task.{Task}
 use Rattle.task.specs.Formed.{every}
 use Rattle.task.specs.Frames.{zeroRegister, noTask}
 use Rattle.task.proofs.EveryLaws.{every-at, every-from}
-use Rattle.machine.specs.declared.Machine.{Machine}
+use Rattle.drive.specs.declared.State.{State}
 use Rattle.state.specs.Numbers.{valueNumbers}
 use Rattle.state.specs.State.{taskNumbers, slotNumbers, stateNumbers, stateLength, stateBytes}
 use Rattle.state.specs.Reading.{table, numberAt, standsValue, registerIn, standsTask, taskIn, slotPlace, registerPlace, standsState, stateIn}
@@ -32,19 +32,19 @@ use Rattle.state.proofs.Alternatives.{value-cells}
 use Rattle.state.proofs.TaskTrip.{has-room, task-cells, register-again, register-back, task-stands, task-again, task-in-fields, task-back}
 
 -- the value of the bank's register i, and the numbers of those of slot k
-abbrev value : Machine → ℕ → Value
+abbrev value : State → ℕ → Value
 value m i = getD (m .bank) i zeroRegister .value
 
-abbrev registers : Machine → ℕ → ℕ → List ℕ
+abbrev registers : State → ℕ → ℕ → List ℕ
 registers m k i = valueNumbers (value m (16 * k + i))
 
 -- the numbers before the slots
-abbrev three : Machine → List ℕ
+abbrev three : State → List ℕ
 three m = m .places ∷ m .interval ∷ m .work ∷ []
 
 -- ---- a state's bytes stand for it
 
-module _ (m : Machine) (f : InFields m) where
+module _ (m : State) (f : InFields m) where
   -- each number has 64 bits, so that each stands in the bytes at its place
   slot-cells : (k : ℕ) → k < 64 → Cells (slotNumbers m k)
   unfolding slotNumbers

@@ -9,8 +9,8 @@ use Rattle.task.specs.declared.Value.the-variants.{Int, Label, Record}
 use Rattle.task.specs.declared.Fork.{Fork}
 use Rattle.task.specs.declared.Task.{Task}
 use Rattle.task.specs.Frames.{zeroFork, zeroRegister, noTask}
-use Rattle.machine.specs.declared.Machine.{Machine}
-use Rattle.machine.specs.Slots.{Sized}
+use Rattle.drive.specs.declared.State.{State}
+use Rattle.drive.specs.Slots.{Sized}
 use Rattle.state.specs.State.{faultNumber}
 
 -- an integer of 64 bits; a block number and a depth of 32
@@ -32,7 +32,7 @@ pub record TaskInFields (t : Task) : Type 0 where
   pub six-forks : length (t .forks) ≡ 6
   pub forks : (i : ℕ) → ForkInField (getD (t .forks) i zeroFork)
 
-pub record InFields (m : Machine) : Type 0 where
+pub record InFields (m : State) : Type 0 where
   pub places : m .places < 2 ^ 64
   pub interval : m .interval < 2 ^ 16
   pub work : m .work < 2 ^ 32

@@ -16,7 +16,7 @@ use Rattle.task.specs.declared.Status.the-variants.{Vacant, Running, Waiting, H
 use Rattle.task.specs.declared.Fork.{Fork}
 use Rattle.task.specs.declared.Task.{Task}
 use Rattle.task.specs.Formed.{every}
-use Rattle.machine.specs.declared.Machine.{Machine}
+use Rattle.drive.specs.declared.State.{State}
 use Rattle.state.specs.State.{stateLength}
 
 -- f 0, f 1, .. (n of them)
@@ -109,7 +109,7 @@ standsState bytes =
     && (every (λ k. standsTask bytes (slotPlace k)) 64 0 && every (λ i. standsValue bytes (registerPlace i)) bankLength 0)))
 
 -- then this is it
-unfoldable pub stateIn : List ℕ → Machine
+unfoldable pub stateIn : List ℕ → State
 stateIn bytes = record {
   places = numberAt bytes 0;
   interval = numberAt bytes 8;

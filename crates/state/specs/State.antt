@@ -8,7 +8,7 @@ use Rattle.task.specs.declared.Status.the-variants.{Vacant, Running, Waiting, H
 use Rattle.task.specs.declared.Fork.{Fork}
 use Rattle.task.specs.declared.Task.{Task}
 use Rattle.task.specs.Frames.{zeroFork, zeroRegister, noTask}
-use Rattle.machine.specs.declared.Machine.{Machine}
+use Rattle.drive.specs.declared.State.{State}
 use Rattle.state.specs.Numbers.{valueNumbers, inBytes}
 
 abbrev pub statusNumber : Status → ℕ
@@ -36,17 +36,17 @@ taskNumbers t =
     ∷ rows (λ i. forkNumbers (getD (t .forks) i zeroFork)) 6
 
 -- a slot's 67 numbers: the task record, then its 16 registers
-unfoldable pub slotNumbers : Machine → ℕ → List ℕ
+unfoldable pub slotNumbers : State → ℕ → List ℕ
 slotNumbers m k =
     taskNumbers (getD (m .tasks) k noTask)
     ++ rows (λ i. valueNumbers (getD (m .bank) (16 * k + i) zeroRegister .value)) 16
 
 -- P, interval, work, then the 64 slots
-unfoldable pub stateNumbers : Machine → List ℕ
+unfoldable pub stateNumbers : State → List ℕ
 stateNumbers m = m .places ∷ m .interval ∷ m .work ∷ rows (slotNumbers m) 64
 
 abbrev pub stateLength : ℕ
 stateLength = 34328
 
-abbrev pub stateBytes : Machine → List ℕ
+abbrev pub stateBytes : State → List ℕ
 stateBytes m = inBytes (stateNumbers m)

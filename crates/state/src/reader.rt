@@ -1,5 +1,5 @@
 // The state's bytes read again: whether they stand for a state, and then the state. Each number is compared whole with its field's room.
-use machine::Machine;
+use drive::State;
 use task::Fork;
 use task::Register;
 use task::Status;
@@ -287,7 +287,7 @@ fn read_tasks(bytes: &[u8]) -> [Task; 64]
     requires { ⌜ (length (now bytes) ≡ stateLength) × (every (λ k. standsTask (now bytes) (slotPlace k)) 64 0 ≡ true) ⌝ }
     ensures { λ r. ⌜ r ≡ table (λ k. taskIn (now (bytes .entry)) (slotPlace k)) 64 ⌝ }
 {
-    let mut tasks = [machine::slots::vacant_task(); 64];
+    let mut tasks = [drive::slots::vacant_task(); 64];
     let mut k = 0;
     while k < 64 {
         tasks[k] = read_task(bytes, 24 + 536 * k);
@@ -312,7 +312,7 @@ fn read_bank(bytes: &[u8]) -> [Register; task::BANK]
 }
 
 // `steps` calls it, after `stands_state` has answered with yes.
-pub fn read_state(bytes: &[u8]) -> Machine
+pub fn read_state(bytes: &[u8]) -> State
     requires { ⌜ standsState (now bytes) ≡ true ⌝ }
     ensures { λ r. ⌜ r ≡ stateIn (now (bytes .entry)) ⌝ }
 {
@@ -321,7 +321,7 @@ pub fn read_state(bytes: &[u8]) -> Machine
     let work = int64::read_u64(bytes, 16);
     let bank = read_bank(bytes);
     let tasks = read_tasks(bytes);
-    Machine {
+    State {
         places,
         interval: interval as u16,
         work: work as u32,

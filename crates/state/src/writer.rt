@@ -2,7 +2,7 @@
 use crate::numbers::write_register;
 use crate::numbers::write_three;
 use crate::numbers::write_two;
-use machine::Machine;
+use drive::State;
 use task::Fork;
 use task::Status;
 use task::Task;
@@ -64,7 +64,7 @@ fn write_task(out: &mut [u8], at: usize, t: Task)
 }
 
 // Both loops are here, and the state is not handed on, so that it is not copied for every slot.
-fn write_slots(m: Machine, out: &mut [u8])
+fn write_slots(m: State, out: &mut [u8])
     requires { ⌜ length (now out) ≡ stateLength ⌝ }
     ensures { λ _. ⌜ now (out .exit) ≡ sets (now (out .entry)) 24 (rows (λ k. inBytes (slotNumbers m k)) 64) ⌝ }
 {
@@ -84,7 +84,7 @@ fn write_slots(m: Machine, out: &mut [u8])
 }
 
 // The whole state. `job` and `steps` call it with a buffer of its length, after question 15.
-pub fn write_state(m: Machine, out: &mut [u8])
+pub fn write_state(m: State, out: &mut [u8])
     requires { ⌜ length (now out) ≡ stateLength ⌝ }
     ensures { λ _. ⌜ now (out .exit) ≡ stateBytes m ⌝ }
 {

@@ -11,10 +11,12 @@ use borrow.Author.Tests.{leb-true, eqb-true, ne-eqb}
 use Rattle.facts.proofs.Tests.{both-true, clash}
 use Rattle.image.specs.Questions.{ask, orElse, programNo}
 use Rattle.image.proofs.Asked.{or-else-no, or-else-both, or-else-none}
-use Rattle.machine.specs.declared.Machine.{Machine}
+use Rattle.drive.specs.declared.State.{State}
 use Rattle.machine.specs.declared.Outcome.{Outcome}
-use Rattle.machine.specs.Picking.{slotNo, stateNoBy, stateNo, pickNo, picked}
-use Rattle.machine.specs.Running.{outcome, outcomeBy, runFrom}
+use Rattle.drive.specs.Issue.{slotNo}
+use Rattle.machine.specs.Picking.{stateNoBy, stateNo, pickNo, picked}
+use Rattle.machine.specs.Running.{outcome, outcomeBy}
+use Rattle.drive.specs.Passes.{runFrom}
 use Rattle.report.specs.Report.{reportLength}
 use Rattle.state.specs.State.{stateLength}
 use Rattle.state.specs.Reading.{standsState, stateIn}
@@ -101,7 +103,7 @@ module _ (program words state : List ℕ) (slot : ℕ) where
       ap (λ (a : ℕ). orElse a (pickNo (cellsOf program) (integersOf words) (stateIn state) slot)) (r .left)
       ∙ asked-before (programNo (cellsOf program)) _ (slotNo (stateIn state) slot)
 
-outcome-number : (cells : List ℕ) (words : List ℤ) (m : Machine) (budget : ℕ) → outcome cells words m budget .no ≡ stateNo cells words m
+outcome-number : (cells : List ℕ) (words : List ℤ) (m : State) (budget : ℕ) → outcome cells words m budget .no ≡ stateNo cells words m
 unfolding outcome
 outcome-number cells words m budget = go (stateNo cells words m)
   where
@@ -131,8 +133,8 @@ module _ (program words state : List ℕ) (report : ℕ) where
     ran-accepted z = run-ready r ∙ sym (outcome-number (cellsOf program) (integersOf words) (stateIn state) budget) ∙ sym e ∙ z
 
 -- the answers to what was read
-module _ (program words state : List ℕ) (m : Machine) (cells : List ℕ) (held : List ℤ) (a : m ≡ stateIn state) (b : cells ≡ cellsOf program) (c : held ≡ integersOf words) where
-  pub pick-answered : (slot answer : ℕ) (after : Machine) → (answer ≡ pickNo cells held m slot) × (after ≡ picked cells held m slot)
+module _ (program words state : List ℕ) (m : State) (cells : List ℕ) (held : List ℤ) (a : m ≡ stateIn state) (b : cells ≡ cellsOf program) (c : held ≡ integersOf words) where
+  pub pick-answered : (slot answer : ℕ) (after : State) → (answer ≡ pickNo cells held m slot) × (after ≡ picked cells held m slot)
       → (answer ≡ pickNo (cellsOf program) (integersOf words) (stateIn state) slot) × (after ≡ picked (cellsOf program) (integersOf words) (stateIn state) slot)
   pick-answered slot answer after h = (h .0 ∙ (λ i. pickNo (b i) (c i) (a i) slot), h .1 ∙ (λ i. picked (b i) (c i) (a i) slot))
 

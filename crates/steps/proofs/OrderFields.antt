@@ -6,8 +6,8 @@ use native.Mathlib.Omega.{arith}
 use lib.IntN.{ℤ}
 use lib.ListN.{length}
 use Rattle.int64.specs.Little.{little}
-use Rattle.machine.specs.declared.Machine.{Machine}
-use Rattle.machine.specs.Slots.{at}
+use Rattle.drive.specs.declared.State.{State}
+use Rattle.drive.specs.Slots.{at}
 use Rattle.machine.specs.Starting.{startNo, fresh, started}
 use Rattle.machine.specs.Picking.{picked}
 use Rattle.machine.proofs.StartLaws.{start-accepted, started-fresh, fresh-work, fresh-first, fresh-others, fresh-fits}
@@ -34,7 +34,7 @@ fresh-narrow : (places interval : ℕ) (registers : List ℤ) → length registe
 fresh-narrow places interval registers n fit zero b = subst⁻¹ Narrow (fresh-first places interval registers n) (start-narrow places registers fit)
 fresh-narrow places interval registers n fit (suc i) b = subst⁻¹ Narrow (fresh-others places interval registers (suc i) (omega arith) b) vacant-narrow
 
-pub fresh-in-fields : (m : Machine) (cells : List ℕ) (places interval : ℕ) (registers words : List ℤ) → startNo cells places interval registers words ≡ 0
+pub fresh-in-fields : (m : State) (cells : List ℕ) (places interval : ℕ) (registers words : List ℤ) → startNo cells places interval registers words ≡ 0
     → IntegersInField registers → InFields (started m cells places interval registers words)
 fresh-in-fields m cells places interval registers words e fit =
     let start = start-accepted cells places interval registers words e in
@@ -45,13 +45,13 @@ fresh-in-fields m cells places interval registers words e fit =
 -- ---- orders
 
 -- from any state
-pub played-in-fields : (j : Job) → IntegersInField (j .words) → (ks : List ℕ) (m : Machine) → InFields m → InFields (played j m ks)
+pub played-in-fields : (j : Job) → IntegersInField (j .words) → (ks : List ℕ) (m : State) → InFields m → InFields (played j m ks)
 unfolding playedOf
 played-in-fields j fit [] m x = x
 played-in-fields j fit (k ∷ ks) m x =
     played-in-fields j fit ks (picked (j .cells) (j .words) m k) (picked-in-fields (j .cells) (j .words) m k fit x)
 
-pub order-in-fields : (j : Job) → Accepted j → IntegersInField (j .registers) → IntegersInField (j .words) → (m : Machine) (ks : List ℕ)
+pub order-in-fields : (j : Job) → Accepted j → IntegersInField (j .registers) → IntegersInField (j .words) → (m : State) (ks : List ℕ)
     → InFields (played j (startOn j m) ks)
 order-in-fields j a registers words m ks =
     played-in-fields j words ks (startOn j m) (fresh-in-fields m (j .cells) (j .places) (j .interval) (j .registers) (j .words) a registers)

@@ -9,7 +9,7 @@ use lib.ListN.{length}
 use borrow.Author.Tests.{eq-eqb, le-leb}
 use Rattle.facts.proofs.Tests.{by-test, true-both}
 use Rattle.image.specs.Doors.{unlessRefused}
-use Rattle.machine.specs.declared.Machine.{Machine}
+use Rattle.drive.specs.declared.State.{State}
 use Rattle.machine.specs.Starting.{empty}
 use Rattle.machine.specs.Picking.{pickNo, picked}
 use Rattle.orders.specs.Demand.{startOn, playedOf, played}
@@ -32,7 +32,7 @@ use Rattle.steps.proofs.RunFields.{outcome-in-fields}
 -- ---- One call of pick, on a buffer that holds a state's bytes
 
 module _ (program words : List ℕ) (whole : length program ≡ programBytes) (even : length words ≡ 8 * wholes words) (few : wholes words ≤ 4096) where
-  module _ (m : Machine) (fields : InFields m) where
+  module _ (m : State) (fields : InFields m) where
     ready : Ready program words (stateBytes m) (eqb (length (stateBytes m)) stateLength)
     ready =
         let none : length words % 8 ≡ 0 = omega arith in
@@ -43,7 +43,7 @@ module _ (program words : List ℕ) (whole : length program ≡ programBytes) (e
     pub same-answer : (k : ℕ) → pickedNo program words k (stateBytes m) ≡ pickNo (cellsOf program) (integersOf words) m k
     same-answer k =
         pick-ready program words (stateBytes m) k ready
-        ∙ ap (λ (n : Machine). pickNo (cellsOf program) (integersOf words) n k) (round-trip .read-again m fields .1)
+        ∙ ap (λ (n : State). pickNo (cellsOf program) (integersOf words) n k) (round-trip .read-again m fields .1)
 
     pub same-bytes : (k : ℕ) → stateAfterPick program words k (stateBytes m) ≡ stateBytes (picked (cellsOf program) (integersOf words) m k)
     unfolding unlessRefused
@@ -54,7 +54,7 @@ module _ (program words : List ℕ) (whole : length program ≡ programBytes) (e
 -- ---- Calls one after the other
 
 module _ (l : Lent) (whole : length (l .program) ≡ programBytes) (even : length (l .words) ≡ 8 * wholes (l .words)) (few : wholes (l .words) ≤ 4096) where
-  pub picks-bytes : (ks : List ℕ) (m : Machine) → InFields m → afterPicks l (stateBytes m) ks ≡ stateBytes (played (jobLent l) m ks)
+  pub picks-bytes : (ks : List ℕ) (m : State) → InFields m → afterPicks l (stateBytes m) ks ≡ stateBytes (played (jobLent l) m ks)
   unfolding afterPicks playedOf
   picks-bytes [] m fields = refl
   picks-bytes (k ∷ ks) m fields =
@@ -98,7 +98,7 @@ every-buffer-goes-on program words state small stands =
           λ budget report accepted. after (ranNo program words state report) _ accepted (outcome-in-fields (cellsOf program) (integersOf words) (stateIn state) budget held fields);
     }
   where
-    after : (answer : ℕ) (m : Machine) → answer ≡ 0 → InFields m
+    after : (answer : ℕ) (m : State) → answer ≡ 0 → InFields m
         → (standsState (unlessRefused answer (stateBytes m) state) ≡ true) × (stateIn (unlessRefused answer (stateBytes m) state) ≡ m)
     after answer m accepted fields =
         let e = left-accepted answer (stateBytes m) state _ accepted refl in

@@ -14,13 +14,14 @@ use Rattle.agreement.proofs.SlotLaws.{carry-keeps, carry-all}
 use Rattle.image.specs.Doors.{unlessRefused}
 use Rattle.task.specs.Frames.{running, workLimit}
 use Rattle.task.specs.Step.{step}
-use Rattle.machine.specs.declared.Machine.{Machine}
-use Rattle.machine.specs.Slots.{at, slotsOf}
-use Rattle.machine.specs.Picking.{pickNo, issued, picked}
-use Rattle.machine.proofs.Owning.{places-most}
-use Rattle.machine.proofs.Models.{Allowed}
-use Rattle.machine.proofs.ShapeLaws.{Fits, shape-allowed, shape-fits}
-use Rattle.machine.proofs.PickLaws.{issued-fits}
+use Rattle.drive.specs.declared.State.{State}
+use Rattle.drive.specs.Slots.{at, slotsOf}
+use Rattle.machine.specs.Picking.{pickNo, picked}
+use Rattle.drive.specs.Issue.{issued}
+use Rattle.drive.proofs.Owning.{places-most}
+use Rattle.drive.proofs.Models.{Allowed}
+use Rattle.drive.proofs.ShapeLaws.{Fits, shape-allowed, shape-fits}
+use Rattle.drive.proofs.IssueLaws.{issued-fits}
 use Rattle.machine.proofs.Picked.{pick-accepts}
 use Rattle.state.specs.Fields.{InFields}
 use Rattle.steps.specs.Fields.{IntegersInField}
@@ -28,7 +29,7 @@ use Rattle.steps.proofs.StepFields.{AllNarrow, Narrow, vacant-narrow, s
 use Rattle.steps.proofs.SlotFields.{put-narrow, fields-narrow}
 use Rattle.steps.proofs.ShapeFields.{fits-in-fields}
 
-module _ (cells : List ℕ) (words : List ℤ) (m : Machine) (k : ℕ) (fit : IntegersInField words) (x : InFields m) where
+module _ (cells : List ℕ) (words : List ℤ) (m : State) (k : ℕ) (fit : IntegersInField words) (x : InFields m) where
   issued-narrow : k < 64 → (i : ℕ) → Narrow (at (issued cells words m k) i)
   issued-narrow below =
       let leaves = step-narrow (programOf cells) words (m .interval) (at m k) fit (x .tasks k below .depth) (fields-narrow m x k) in
@@ -50,9 +51,9 @@ module _ (cells : List ℕ) (words : List ℤ) (m : Machine) (k : ℕ) (fit : In
   picked-in-fields =
       by-test (eqb (pickNo cells words m k) 0)
       (λ t. let a = pick-accepts cells words m k (eqb-true (pickNo cells words m k) 0 t) in
-      let p = a .passes in
+      let p = a .state in
       let r = a .ready in
       subst⁻¹ (λ b. InFields (cond b (issued cells words m k) m)) t
-      (issued-in-fields (shape-allowed cells m (p .program) (p .shaped)) (shape-fits cells m (x .sized) (p .shaped)) (r .below) (r .runs)
+      (issued-in-fields (shape-allowed cells m (p .passed .program) (p .shaped)) (shape-fits cells m (x .sized) (p .shaped)) (r .below) (r .runs)
       (r .below-limit)))
       (λ t. subst⁻¹ (λ b. InFields (cond b (issued cells words m k) m)) t x)

@@ -26,15 +26,15 @@ use Rattle.task.proofs.Facts.{constant-at}
 use Rattle.task.proofs.Formation.{Formed, target-below}
 use Rattle.task.proofs.Counts.{Within}
 use Rattle.task.proofs.StretchLaws.{getD-reads}
-use Rattle.machine.specs.declared.Machine.{Machine}
-use Rattle.machine.specs.Slots.{at}
-use Rattle.machine.specs.Starting.{rank}
-use Rattle.machine.proofs.RankLaws.{rank-small}
-use Rattle.machine.proofs.Intervals.{interval-fits}
-use Rattle.machine.proofs.Owning.{places-most}
-use Rattle.machine.proofs.Models.{Allowed}
-use Rattle.machine.proofs.ShapeLaws.{Fits}
-use Rattle.machine.proofs.ShapeSlots.{fits-framed}
+use Rattle.drive.specs.declared.State.{State}
+use Rattle.drive.specs.Slots.{at}
+use Rattle.drive.specs.Settings.{rank}
+use Rattle.drive.proofs.RankLaws.{rank-small}
+use Rattle.drive.proofs.Intervals.{interval-fits}
+use Rattle.drive.proofs.Owning.{places-most}
+use Rattle.drive.proofs.Models.{Allowed}
+use Rattle.drive.proofs.ShapeLaws.{Fits}
+use Rattle.drive.proofs.ShapeSlots.{fits-framed}
 use Rattle.state.specs.State.{faultNumber}
 use Rattle.state.specs.Fields.{ValueInField, ForkInField, TaskInFields, InFields}
 use Rattle.steps.proofs.StepFields.{NarrowValue, NarrowFork, Narrow, zero-narrow}
@@ -111,7 +111,7 @@ module _ (cells : List ℕ) (ok : Accepted cells) where
 
 -- ---- the whole state
 
-pub fits-in-fields : {cells : List ℕ} {interval places : ℕ} → Allowed cells interval places → (m : Machine) → Fits cells interval places m
+pub fits-in-fields : {cells : List ℕ} {interval places : ℕ} → Allowed cells interval places → (m : State) → Fits cells interval places m
     → m .work ≤ workLimit → ((i : ℕ) → i < 64 → Narrow (at m i)) → InFields m
 fits-in-fields {cells} {interval} {places} allowed m x limited n = record {
   places = omega (arith, x .its-places, places-most places (allowed .places-allowed));

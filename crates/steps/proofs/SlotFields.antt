@@ -14,9 +14,9 @@ use Rattle.task.specs.Frames.{zeroRegister, zeroFork, noTask}
 use Rattle.task.proofs.Facts.{set-keeps}
 use Rattle.task.specs.Stretches.{reads}
 use Rattle.task.proofs.StretchLaws.{length-reads, getD-reads}
-use Rattle.machine.specs.declared.Machine.{Machine}
-use Rattle.machine.specs.Slots.{at, put}
-use Rattle.machine.proofs.SlotLaws.{put-tasks}
+use Rattle.drive.specs.declared.State.{State}
+use Rattle.drive.specs.Slots.{at, put}
+use Rattle.drive.proofs.SlotLaws.{put-tasks}
 use Rattle.state.specs.Fields.{ValueInField, InFields}
 use Rattle.steps.proofs.StepFields.{NarrowValue, NarrowRegister, NarrowFork, Narrow, zero-narrow}
 
@@ -34,7 +34,7 @@ module _ {A : Type 0} (P : A → Type 0) (d : A) where
 
 -- ---- a put
 
-pub put-narrow : (m : Machine) (k : ℕ) (f : Frame) (i : ℕ) → Narrow f → Narrow (at m i) → Narrow (at (put m k f) i)
+pub put-narrow : (m : State) (k : ℕ) (f : Frame) (i : ℕ) → Narrow f → Narrow (at m i) → Narrow (at (put m k f) i)
 put-narrow m k f i x y = record {
   values =
       reads-each NarrowRegister zeroRegister (put m k f .bank) zero-narrow (16 * i) 16
@@ -51,7 +51,7 @@ value-narrow (Int z) x = x
 value-narrow (Label b) x = tt
 value-narrow (Record c d) x = x .1
 
-pub fields-narrow : (m : Machine) → InFields m → (i : ℕ) → Narrow (at m i)
+pub fields-narrow : (m : State) → InFields m → (i : ℕ) → Narrow (at m i)
 fields-narrow m x i = record {
   values =
       reads-each NarrowRegister zeroRegister (m .bank) zero-narrow (16 * i) 16

@@ -12,8 +12,9 @@ use Rattle.facts.proofs.Tests.{both-true, true-both, clash}
 use Rattle.image.specs.Layout.{programCells}
 use Rattle.image.specs.Questions.{ask, orElse, programNo}
 use Rattle.image.proofs.Asked.{ask-yes, or-else-no, or-else-yes, or-else-both, or-else-none}
-use Rattle.machine.specs.declared.Machine.{Machine}
-use Rattle.machine.specs.Starting.{placesAllowed, intervalAllowed, startNoBy, startNo, started, empty}
+use Rattle.drive.specs.declared.State.{State}
+use Rattle.drive.specs.Settings.{placesAllowed, intervalAllowed}
+use Rattle.machine.specs.Starting.{startNoBy, startNo, started, empty}
 use Rattle.state.specs.State.{stateLength}
 use Rattle.state.proofs.Integers.{length-integers}
 use Rattle.steps.specs.Buffers.{wholes, isWhole, cellsOf, integersOf, programBytes}
@@ -126,7 +127,7 @@ module _ (program : List ℕ) (places interval : ℕ) (registers words : List �
       ∙ or-else-none first
 
 -- start's answer, to what was read
-pub start-answered : (program : List ℕ) (places interval : ℕ) (registers words : List ℕ) (answer : ℕ) (m blank : Machine) (cells : List ℕ) (first held : List ℤ)
+pub start-answered : (program : List ℕ) (places interval : ℕ) (registers words : List ℕ) (answer : ℕ) (m blank : State) (cells : List ℕ) (first held : List ℤ)
     → blank ≡ empty 0 0 → cells ≡ cellsOf program → first ≡ integersOf registers → held ≡ integersOf words
     → answer ≡ startNo cells places interval first held → m ≡ started blank cells places interval first held
     → (answer ≡ startNo (cellsOf program) places interval (integersOf registers) (integersOf words)) × (m ≡ startState program places interval registers words)

@@ -7,7 +7,7 @@ use lib.ListN.{length}
 use Rattle.image.specs.Layout.{cellsIn, imageOf}
 use Rattle.image.specs.Questions.{ask, orElse, programNo}
 use Rattle.image.specs.Doors.{imageNo, writeNo, unlessRefused}
-use Rattle.machine.specs.declared.Machine.{Machine}
+use Rattle.drive.specs.declared.State.{State}
 use Rattle.machine.specs.declared.Outcome.{Outcome}
 use Rattle.machine.specs.Starting.{mostWords, empty, startNo, started}
 use Rattle.machine.specs.Picking.{stateNo, pickNo, picked}
@@ -42,7 +42,7 @@ startedNo program places interval registers words lent =
     (ask (isWhole program && (isWhole registers && (isWhole words && eqb lent stateLength))) 15 0)
 
 -- the state that it makes, called on a blank one
-abbrev pub startState : List ℕ → ℕ → ℕ → List ℕ → List ℕ → Machine
+abbrev pub startState : List ℕ → ℕ → ℕ → List ℕ → List ℕ → State
 startState program places interval registers words =
     started (empty 0 0) (cellsOf program) places interval (integersOf registers) (integersOf words)
 
@@ -83,10 +83,10 @@ runOutcome program words budget state = outcome (cellsOf program) (integersOf wo
 
 abbrev pub stateAfterRun : List ℕ → List ℕ → ℕ → List ℕ → ℕ → List ℕ
 stateAfterRun program words budget state report =
-    unlessRefused (ranNo program words state report) (stateBytes (runOutcome program words budget state .machine)) state
+    unlessRefused (ranNo program words state report) (stateBytes (runOutcome program words budget state .machine .state)) state
 
 -- the picks are this call's
 abbrev pub reportAfterRun : List ℕ → List ℕ → ℕ → List ℕ → List ℕ → List ℕ
 reportAfterRun program words budget state report =
     let o = runOutcome program words budget state in
-    unlessRefused (ranNo program words state (length report)) (reportBytes (reportOf (o .machine) (o .picks))) report
+    unlessRefused (ranNo program words state (length report)) (reportBytes (reportOf (o .machine .state) (o .picks))) report

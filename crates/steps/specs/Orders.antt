@@ -5,7 +5,7 @@ use mathlib.Core.List.{List, [], _∷_}
 use Prim.Native.Nat.{ℕ}
 use lib.ListN.{length}
 use Rattle.image.specs.RoundTrip.{Bytes}
-use Rattle.machine.specs.declared.Machine.{Machine}
+use Rattle.drive.specs.declared.State.{State}
 use Rattle.machine.specs.Starting.{empty}
 use Rattle.machine.specs.Picking.{pickNo, picked}
 use Rattle.orders.specs.Demand.{Job, WhateverTheOrder, startOn, played}
@@ -48,7 +48,7 @@ module _ (l : Lent) where
   afterPicks state (k ∷ ks) = afterPicks (stateAfterPick program words k state) ks
 
   -- the state that the same picks lead to, from the same start
-  abbrev pub inOrder : List ℕ → Machine
+  abbrev pub inOrder : List ℕ → State
   inOrder ks = played jobLent (startOn jobLent (empty 0 0)) ks
 
 -- of a start on the state's buffer and the calls of pick after it
@@ -75,7 +75,7 @@ pub record GoesOn (program words state : List ℕ) : Type 0 where
       × (stateIn (stateAfterPick program words k state) ≡ picked (cellsOf program) (integersOf words) (stateIn state) k)
   pub after-run : (budget report : ℕ) → ranNo program words state report ≡ 0
       → (standsState (stateAfterRun program words budget state report) ≡ true)
-      × (stateIn (stateAfterRun program words budget state report) ≡ runOutcome program words budget state .machine)
+      × (stateIn (stateAfterRun program words budget state report) ≡ runOutcome program words budget state .machine .state)
 
 abbrev pub EveryBufferGoesOn : Type 0
 EveryBufferGoesOn = (program words state : List ℕ) → Bytes state → standsState state ≡ true → GoesOn program words state

@@ -3,6 +3,7 @@ use crate::buffers;
 use crate::buffers::PROGRAM_BYTES;
 use image::layout::PROGRAM_CELLS;
 use machine::Answered;
+use machine::Machine;
 use machine::Outcome;
 use machine::start::MOST_WORDS;
 use report::REPORT_BYTES;
@@ -79,12 +80,14 @@ fn refuse(program: &[u8], words: usize, fit: bool) -> u8
 fn pick_on(program: &[u8], words: &[u8], held: &mut [i64], slot: u64, lent: &[u8]) -> Answered
     requires { ⌜ (length (now program) ≡ programBytes) × (length (now words) ≡ 8 * length (now held)) × (standsState (now lent) ≡ true) ⌝ }
     ensures { λ r. ⌜ (r .no ≡ pickNo (cellsOf (now (program .entry))) (integersOf (now (words .entry))) (stateIn (now (lent .entry))) slot)
-        × (r .machine ≡ picked (cellsOf (now (program .entry))) (integersOf (now (words .entry))) (stateIn (now (lent .entry))) slot) ⌝ }
+        × (r .machine .state ≡ picked (cellsOf (now (program .entry))) (integersOf (now (words .entry))) (stateIn (now (lent .entry))) slot) ⌝ }
 {
     let mut cells = [0u64; PROGRAM_CELLS];
     buffers::read_cells(program, &mut cells);
     state::numbers::read_integers(words, 0, held);
-    let machine = state::reader::read_state(lent);
+    let machine = Machine {
+        state: state::reader::read_state(lent),
+    };
     machine.pick(&cells, held, slot)
 }
 
@@ -106,7 +109,7 @@ pub fn pick(program: &[u8], words: &[u8], slot: u64, lent: &mut [u8]) -> u8
         return refusal;
     }
     let machine = answer.machine;
-    state::writer::write_state(machine, lent);
+    state::writer::write_state(machine.state, lent);
     0
 }
 
@@ -118,7 +121,9 @@ fn run_on(program: &[u8], words: &[u8], held: &mut [i64], budget: u64, lent: &[u
     let mut cells = [0u64; PROGRAM_CELLS];
     buffers::read_cells(program, &mut cells);
     state::numbers::read_integers(words, 0, held);
-    let machine = state::reader::read_state(lent);
+    let machine = Machine {
+        state: state::reader::read_state(lent),
+    };
     machine.run(&cells, held, budget)
 }
 
@@ -141,8 +146,8 @@ pub fn run(program: &[u8], words: &[u8], budget: u64, lent: &mut [u8], out: &mut
         return no;
     }
     let machine = outcome.machine;
-    state::writer::write_state(machine, lent);
-    let r = report::report_of(machine, outcome.picks);
+    state::writer::write_state(machine.state, lent);
+    let r = report::report_of(machine.state, outcome.picks);
     report::bytes::write_report(r, out);
     0
 }

@@ -58,7 +58,7 @@ fn start_on(
 ) -> Answered
     requires { ⌜ (length (now program) ≡ programBytes) × (length (now registers) ≡ 128) × (length (now words) ≡ 8 * length (now held)) ⌝ }
     ensures { λ r. ⌜ r .no ≡ startNo (cellsOf (now (program .entry))) places interval (integersOf (now (registers .entry))) (integersOf (now (words .entry))) ⌝ }
-    ensures { λ r. ⌜ r .machine ≡ started (empty 0 0) (cellsOf (now (program .entry))) places interval (integersOf (now (registers .entry))) (integersOf (now (words .entry))) ⌝ }
+    ensures { λ r. ⌜ r .machine .state ≡ started (empty 0 0) (cellsOf (now (program .entry))) places interval (integersOf (now (registers .entry))) (integersOf (now (words .entry))) ⌝ }
 {
     let mut cells = [0u64; PROGRAM_CELLS];
     buffers::read_cells(program, &mut cells);
@@ -108,6 +108,6 @@ pub fn start(
         return no;
     }
     let machine = answer.machine;
-    state::writer::write_state(machine, lent);
+    state::writer::write_state(machine.state, lent);
     0
 }

@@ -3,10 +3,10 @@ use Prim.Native.Nat.{ℕ}
 use mathlib.Core.Path.{_≡_, refl}
 use mathlib.Core.List.{List·Memᴰ·head, List·Memᴰ·tail}
 use Rattle.task.specs.declared.Frame.{Frame}
-use Rattle.machine.specs.declared.Machine.{Machine}
-use Rattle.machine.specs.declared.End.{End}
-use Rattle.machine.specs.declared.End.the-variants.{Halt, Fault}
-use Rattle.machine.specs.Ending.{endOf}
+use Rattle.drive.specs.declared.State.{State}
+use Rattle.drive.specs.declared.End.{End}
+use Rattle.drive.specs.declared.End.the-variants.{Halt, Fault}
+use Rattle.drive.specs.Ending.{endOf}
 use Rattle.machine.specs.Starting.{empty}
 use Rattle.image.specs.Doors.{imageNo}
 use Rattle.orders.specs.Demand.{Job, Accepted, Ends}
@@ -33,7 +33,7 @@ known x r = record {
 }
 
 -- the state that start is called on
-abbrev pub blank : Machine
+abbrev pub blank : State
 blank = empty 0 0
 
 abbrev pub F : Job

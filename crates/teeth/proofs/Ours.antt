@@ -12,10 +12,12 @@ use Rattle.image.specs.Questions.{programNo}
 use Rattle.image.specs.Doors.{unlessRefused, imageNo}
 use Rattle.image.proofs.Asked.{or-else-yes}
 use Rattle.image.proofs.RoundTrip.{round-trip}
-use Rattle.machine.specs.declared.Machine.{Machine}
-use Rattle.machine.specs.Starting.{rank, placesAllowed, intervalAllowed, startNoBy}
+use Rattle.drive.specs.declared.State.{State}
+use Rattle.drive.specs.Settings.{rank, placesAllowed, intervalAllowed}
+use Rattle.machine.specs.Starting.{startNoBy}
 use Rattle.machine.specs.Picking.{pickNo}
-use Rattle.machine.specs.Running.{runFrom, outcome}
+use Rattle.drive.specs.Passes.{runFrom}
+use Rattle.machine.specs.Running.{outcome}
 use Rattle.machine.proofs.PickLaws.{picked-issued}
 use Rattle.orders.specs.Demand.{Job, Accepted, startOn, played, ours}
 use Rattle.orders.specs.Runs.{IsRun}
@@ -70,7 +72,7 @@ each-pick-issues cells words m k = record {
 -- ---- Runs
 
 -- a run after an order
-pub run-of : (j : Job) → Accepted j → (m : Machine) (ks : List ℕ) (b : ℕ)
+pub run-of : (j : Job) → Accepted j → (m : State) (ks : List ℕ) (b : ℕ)
     → IsRun j (played j (startOn j m) ks) b (runFrom (j .cells) (j .words) (played j (startOn j m) ks) 0 b)
 run-of j a m ks b = run-is-order j (played j (startOn j m) ks) (every-order-meets j a m ks .sized) (order-passes j a m ks) 0 b
 

@@ -14,12 +14,13 @@ use Rattle.task.specs.declared.Status.the-variants.{Vacant, Running, Waiting, H
 use Rattle.task.specs.declared.Task.{Task}
 use Rattle.task.specs.declared.Frame.{Frame}
 use Rattle.task.specs.Frames.{noTask}
-use Rattle.machine.specs.declared.Machine.{Machine}
-use Rattle.machine.specs.declared.End.{End}
-use Rattle.machine.specs.declared.End.the-variants.{NotEnded, Halt, Fault}
-use Rattle.machine.specs.Slots.{at, ticked}
-use Rattle.machine.specs.Ending.{endAt, endOf, isEnd, jobEnded}
-use Rattle.machine.specs.Picking.{pickNo, issued}
+use Rattle.drive.specs.declared.State.{State}
+use Rattle.drive.specs.declared.End.{End}
+use Rattle.drive.specs.declared.End.the-variants.{NotEnded, Halt, Fault}
+use Rattle.drive.specs.Slots.{at, ticked}
+use Rattle.drive.specs.Ending.{endAt, endOf, isEnd, jobEnded}
+use Rattle.machine.specs.Picking.{pickNo}
+use Rattle.drive.specs.Issue.{issued}
 use Rattle.machine.proofs.PickLaws.{picked-issued, picked-work}
 use Rattle.orders.specs.Demand.{Job, Engine, AcceptedOf, startOf, AgreesOf, SameResult, Demand3Of, ours, startOn}
 use Rattle.orders.proofs.Demand.{demand-3}
@@ -43,12 +44,12 @@ module _ (engine : Engine) (demand : Demand3Of engine) (accepted : AcceptedOf en
       → Reached engine F1 (startOf engine F1 blank) (engine .picked (F1 .cells) (F1 .words) (x .state) (x .slot)) (w + 1)
   after x = goes-on engine demand F1 accepted blank (x .reached) (x .slot) (x .carried-out)
 
-  agree : {n : Machine} {w : ℕ} → Reached engine F1 (startOf engine F1 blank) n w → AgreesOf engine F1 n (f1-known .frame) 2
+  agree : {n : State} {w : ℕ} → Reached engine F1 (startOf engine F1 blank) n w → AgreesOf engine F1 n (f1-known .frame) 2
   agree r = agrees engine demand F1 accepted blank (f1-known .frame) 2 (f1-known .ends) r
 
 -- our pick, carried out, adds 1 to the work
-issued-work : (cells : List ℕ) (words : List ℤ) (m : Machine) (k : ℕ) → pickNo cells words m k ≡ 0 → issued cells words m k .work ≡ m .work + 1
-issued-work cells words m k e = ap (λ (n : Machine). n .work) (sym (picked-issued cells words m k e)) ∙ picked-work cells words m k e
+issued-work : (cells : List ℕ) (words : List ℤ) (m : State) (k : ℕ) → pickNo cells words m k ≡ 0 → issued cells words m k .work ≡ m .work + 1
+issued-work cells words m k e = ap (λ (n : State). n .work) (sym (picked-issued cells words m k e)) ∙ picked-work cells words m k e
 
 -- ---- A pick that always says n
 
@@ -66,10 +67,10 @@ pub nothing-issued : EachPickIssues altersNothing → ⊥
 nothing-issued each =
     let x = first ours demand-3 (f1-known .accepted) in
     let same = each (F1 .cells) (F1 .words) (x .state) (x .slot) .one-instruction (x .carried-out) in
-    omega (arith, ap (λ (n : Machine). n .work) same, issued-work (F1 .cells) (F1 .words) (x .state) (x .slot) (x .carried-out))
+    omega (arith, ap (λ (n : State). n .work) same, issued-work (F1 .cells) (F1 .words) (x .state) (x .slot) (x .carried-out))
 
 -- or the work alone: the job never ends
-work-alone-ends : (cells : List ℕ) (words : List ℤ) (m : Machine) (k : ℕ) → jobEnded (altersWorkAlone .picked cells words m k) ≡ jobEnded m
+work-alone-ends : (cells : List ℕ) (words : List ℤ) (m : State) (k : ℕ) → jobEnded (altersWorkAlone .picked cells words m k) ≡ jobEnded m
 unfolding unlessRefused
 work-alone-ends cells words m k = by-test (eqb (pickNo cells words m k) 0) (λ e. rw e) (λ e. rw e)
 
@@ -84,21 +85,21 @@ alters-work-alone demand =
 
 -- ---- Our pick, but for a change to its state
 
-changed : (change : Machine → Machine) (cells : List ℕ) (words : List ℤ) (m : Machine) (k : ℕ) → pickNo cells words m k ≡ 0
+changed : (change : State → State) (cells : List ℕ) (words : List ℤ) (m : State) (k : ℕ) → pickNo cells words m k ≡ 0
     → changing change .picked cells words m k ≡ change (issued cells words m k)
 unfolding unlessRefused
 changed change cells words m k e = rw e
 
-module _ (change : Machine → Machine) (demand : Demand3Of (changing change)) where
+module _ (change : State → State) (demand : Demand3Of (changing change)) where
   -- the work that a carried-out pick shows, the first of F's and the second
   shown : {w : ℕ} (x : Next (changing change) F1 (startOn F1 blank) w) → change (issued (F1 .cells) (F1 .words) (x .state) (x .slot)) .work ≡ w + 1
   shown x =
-      ap (λ (n : Machine). n .work) (sym (changed change (F1 .cells) (F1 .words) (x .state) (x .slot) (x .carried-out)))
+      ap (λ (n : State). n .work) (sym (changed change (F1 .cells) (F1 .words) (x .state) (x .slot) (x .carried-out)))
       ∙ after (changing change) demand (f1-known .accepted) x .its-work
 
   -- the state that ends a job
   record Last (e : Frame) (W : ℕ) : Type 0 where
-    state : Machine
+    state : State
     ended : jobEnded (change state) ≡ true
     same : SameResult (change state) e W
 
@@ -116,7 +117,7 @@ module _ (change : Machine → Machine) (demand : Demand3Of (changing change)) w
       record {
         state = issued cells words n k;
         ended = ap jobEnded (sym is) ∙ ended;
-        same = subst (λ (m : Machine). SameResult m (x .frame) W) is (agrees-there .then-same-result ended);
+        same = subst (λ (m : State). SameResult m (x .frame) W) is (agrees-there .then-same-result ended);
       }
 
 -- a work made up
@@ -150,7 +151,7 @@ first-status : (s : Status) (ts : List Task) → isEnd (endAt (getD (firstStatus
 first-status s [] ended = clash ended refl
 first-status s (t ∷ ts) ended = (t .depth, refl)
 
-ends-with : (s : Status) (m : Machine) → jobEnded (withEnding s m) ≡ true → (depth : ℕ) × (endOf (at (withEnding s m) 0) ≡ endAt depth s)
+ends-with : (s : Status) (m : State) → jobEnded (withEnding s m) ≡ true → (depth : ℕ) × (endOf (at (withEnding s m) 0) ≡ endAt depth s)
 ends-with s m ended = go (jobEnded m) refl ended
   where
     go : (t : Bool) → jobEnded m ≡ t → jobEnded (cond t (withStatus s m) m) ≡ true → (depth : ℕ) × (endOf (at (cond t (withStatus s m) m) 0) ≡ endAt depth s)

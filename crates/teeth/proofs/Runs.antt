@@ -6,12 +6,13 @@ use mathlib.Core.Bool.{true}
 use mathlib.Core.List.{[]}
 use native.Mathlib.Omega.{arith}
 use Rattle.facts.proofs.Tests.{clash, by-test}
-use Rattle.machine.specs.declared.Machine.{Machine}
-use Rattle.machine.specs.declared.End.{End}
+use Rattle.drive.specs.declared.State.{State}
+use Rattle.drive.specs.declared.End.{End}
 use Rattle.machine.specs.declared.Outcome.{Outcome}
-use Rattle.machine.specs.Ending.{jobEnded}
+use Rattle.drive.specs.Ending.{jobEnded}
 use Rattle.task.specs.Frames.{workLimit}
-use Rattle.machine.specs.Running.{runFrom, outcome}
+use Rattle.drive.specs.Passes.{runFrom}
+use Rattle.machine.specs.Running.{outcome}
 use Rattle.orders.specs.Demand.{Job, startOn, playedOf, carriedOutOf, Agrees}
 use Rattle.orders.specs.Runs.{IsRun}
 use Rattle.orders.proofs.Demand.{demand-3}
@@ -23,7 +24,7 @@ use Rattle.teeth.proofs.Ours.{run-of}
 
 -- ---- Our run from a start, and what run hands back
 
-module _ {j : Job} {end : End} {W span : ℕ} (x : Known j end W span) (m : Machine) where
+module _ {j : Job} {end : End} {W span : ℕ} (x : Known j end W span) (m : State) where
   pub start-work : startOn j m .work ≡ 0
   unfolding playedOf carriedOutOf
   start-work = demand-3 j (x .accepted) m [] .work-counted
@@ -34,21 +35,21 @@ module _ {j : Job} {end : End} {W span : ℕ} (x : Known j end W span) (m : Mach
 
   pub said : (b : ℕ)
       → outcome (j .cells) (j .words) (startOn j m) b
-      ≡ (let r = runFrom (j .cells) (j .words) (startOn j m) 0 b in record { no = 0; ended = jobEnded (r .machine); picks = r .picks; machine = r .machine })
+      ≡ (let r = runFrom (j .cells) (j .words) (startOn j m) 0 b in record { no = 0; ended = jobEnded (r .state); picks = r .picks; machine = record { state = r .state } })
   unfolding playedOf
   said b = answers j (startOn j m) b (order-passes j (x .accepted) m [])
 
-  run-agrees : (b : ℕ) → Agrees j (runFrom (j .cells) (j .words) (startOn j m) 0 b .machine) (x .frame) W
+  run-agrees : (b : ℕ) → Agrees j (runFrom (j .cells) (j .words) (startOn j m) 0 b .state) (x .frame) W
   run-agrees b =
       let o = from-start b .is-order in
       rw (o .leads-here) (demand-3 j (x .accepted) m (o .order) .where-it-ends (x .frame) W (x .ends))
 
   -- a budget of the whole work is enough
-  pub enough-ends : (b : ℕ) → W ≤ b → jobEnded (runFrom (j .cells) (j .words) (startOn j m) 0 b .machine) ≡ true
+  pub enough-ends : (b : ℕ) → W ≤ b → jobEnded (runFrom (j .cells) (j .words) (startOn j m) 0 b .state) ≡ true
   enough-ends b h = by-test (jobEnded r) (λ e. e) (λ e. by (from-start b .spent-when e))
     where
-      r : Machine
-      r = runFrom (j .cells) (j .words) (startOn j m) 0 b .machine
+      r : State
+      r = runFrom (j .cells) (j .words) (startOn j m) 0 b .state
 
       by : (runFrom (j .cells) (j .words) (startOn j m) 0 b .picks ≡ b) ⊎ (workLimit ≤ r .work) → jobEnded r ≡ true
       by (inl p) =
@@ -72,7 +73,7 @@ unfolding playedOf
 spent-unworked due =
     let a = due F1 (f1-known .accepted) blank [] 1 .an-order in
     omega
-    (arith, start-work f1-known blank, ap (λ (n : Machine). n .work) (a .leads-here), a .whatever-the-order .work-counted, a .all-carried-out, a .picks-counted)
+    (arith, start-work f1-known blank, ap (λ (n : State). n .work) (a .leads-here), a .whatever-the-order .work-counted, a .all-carried-out, a .picks-counted)
 
 pub spent-one-short : SpentWhenDue spentOneShort → ⊥
 unfolding playedOf
@@ -82,7 +83,7 @@ spent-one-short due =
     let none = from-start f1-known blank 0 .is-order .no-budget refl in
     let rise = from-start f1-known blank 0 .is-order .rise-in-work in
     let start = start-work f1-known blank in
-    by-test (jobEnded (r .machine))
+    by-test (jobEnded (r .state))
     (λ e. omega (arith, run-agrees f1-known blank 0 .equal-when-ended e, none .no-picks, rise, start))
     (λ e. not-due (omega (arith, none .no-picks)) (omega (arith, none .no-picks, rise, start)) (a .spent-when e))
 
@@ -90,5 +91,5 @@ pub spent-when-ended : SpentWhenDue spentWhenEnded → ⊥
 unfolding playedOf
 spent-when-ended due =
     let o = due F1 (f1-known .accepted) blank [] 2 .an-order in
-    let same = ap (λ (n : Outcome). jobEnded (n .machine)) (said f1-known blank 2) in
+    let same = ap (λ (n : Outcome). jobEnded (n .machine .state)) (said f1-known blank 2) in
     clash (same ∙ enough-ends f1-known blank 2 (omega arith)) (sym (o .ended-said))

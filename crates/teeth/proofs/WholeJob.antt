@@ -7,12 +7,12 @@ use native.Mathlib.Omega.{arith}
 use lib.Dec.{eqb}
 use lib.IntN.{ℤ}
 use Rattle.image.specs.Doors.{unlessRefused}
-use Rattle.machine.specs.declared.Machine.{Machine}
-use Rattle.machine.specs.Slots.{ticked}
-use Rattle.machine.specs.Ending.{jobEnded}
+use Rattle.drive.specs.declared.State.{State}
+use Rattle.drive.specs.Slots.{ticked}
+use Rattle.drive.specs.Ending.{jobEnded}
 use Rattle.task.specs.Frames.{workLimit}
 use Rattle.machine.specs.Picking.{pickNo}
-use Rattle.machine.specs.Running.{runFrom}
+use Rattle.drive.specs.Passes.{runFrom}
 use Rattle.machine.proofs.PickLaws.{picked-issued}
 use Rattle.orders.specs.Demand.{startOn, ours, Demand3Of}
 use Rattle.orders.proofs.Demand.{demand-3}
@@ -22,20 +22,20 @@ use Rattle.teeth.proofs.Reaching.{starts, goes-on, agrees}
 use Rattle.teeth.proofs.Known.{blank, F1, f1-known}
 use Rattle.teeth.proofs.Runs.{start-work, enough-ends}
 
-module _ (cells : List ℕ) (words : List ℤ) (m : Machine) (k : ℕ) (none : m .work ≡ 0) where
+module _ (cells : List ℕ) (words : List ℤ) (m : State) (k : ℕ) (none : m .work ≡ 0) where
   -- the first pick is refused where ours is
   asks : wholeJobFirst .pickNo cells words m k ≡ pickNo cells words m k
   asks = ap (λ (w : ℕ). cond (eqb w 0) (pickNo cells words m k) 0) none
 
   -- carried out, it hands back the end of the job
-  runs-all : pickNo cells words m k ≡ 0 → wholeJobFirst .picked cells words m k ≡ withWork 1 (runFrom cells words m 0 workLimit .machine)
+  runs-all : pickNo cells words m k ≡ 0 → wholeJobFirst .picked cells words m k ≡ withWork 1 (runFrom cells words m 0 workLimit .state)
   unfolding unlessRefused
   runs-all e =
-      let new = withWork 1 (runFrom cells words m 0 workLimit .machine) in
+      let new = withWork 1 (runFrom cells words m 0 workLimit .state) in
       ap (λ (w : ℕ). cond (eqb w 0) (unlessRefused (pickNo cells words m k) new m) (ticked m)) none
       ∙ ap (λ (a : ℕ). cond (eqb a 0) new m) e
 
-abbrev m₀ : Machine
+abbrev m₀ : State
 m₀ = startOn F1 blank
 
 -- the first pick of F ends it

@@ -10,10 +10,10 @@ use lib.ListN.{length}
 use Rattle.image.specs.Layout.{imageOf}
 use Rattle.image.specs.Questions.{programNo}
 use Rattle.image.specs.RoundTrip.{Cells, Writes}
-use Rattle.machine.specs.declared.Machine.{Machine}
+use Rattle.drive.specs.declared.State.{State}
 use Rattle.machine.specs.declared.Outcome.{Outcome}
 use Rattle.task.specs.Frames.{workLimit}
-use Rattle.machine.specs.Picking.{issued}
+use Rattle.drive.specs.Issue.{issued}
 use Rattle.orders.specs.Demand.{Job, Engine, AcceptedOf, Accepted, startOn, played}
 use Rattle.orders.specs.Runs.{RunAfter}
 
@@ -43,7 +43,7 @@ NoGoodJobRefused engine = (j : Job) → GoodJob j → AcceptedOf engine j
 
 -- ---- The state after each pick
 
-pub record PickIssues (engine : Engine) (cells : List ℕ) (words : List ℤ) (m : Machine) (k : ℕ) : Type 0 where
+pub record PickIssues (engine : Engine) (cells : List ℕ) (words : List ℤ) (m : State) (k : ℕ) : Type 0 where
   -- a carried-out pick issues one instruction of that slot's task, makes the joins that are due, and adds 1 to the work
   pub one-instruction : engine .pickNo cells words m k ≡ 0 → engine .picked cells words m k ≡ issued cells words m k
   -- a refused pick hands back the old
@@ -51,24 +51,24 @@ pub record PickIssues (engine : Engine) (cells : List ℕ) (words : List ℤ) (m
 
 -- in every state, reached or not
 abbrev pub EachPickIssues : Engine → Type 0
-EachPickIssues engine = (cells : List ℕ) (words : List ℤ) (m : Machine) (k : ℕ) → PickIssues engine cells words m k
+EachPickIssues engine = (cells : List ℕ) (words : List ℤ) (m : State) (k : ℕ) → PickIssues engine cells words m k
 
 -- ---- The budgeted run
 
 -- what a run hands back, given a program, a call record, a state and a budget
 abbrev pub Runner : Type 0
-Runner = List ℕ → List ℤ → Machine → ℕ → Outcome
+Runner = List ℕ → List ℤ → State → ℕ → Outcome
 
 -- what a run of budget b answers after the order ks from the state m₀ that start handed back
-pub record RunAnswers (j : Job) (m₀ : Machine) (ks : List ℕ) (b : ℕ) (o : Outcome) : Type 0 where
+pub record RunAnswers (j : Job) (m₀ : State) (ks : List ℕ) (b : ℕ) (o : Outcome) : Type 0 where
   -- its picks are an order that goes on where ks stopped; it reports as many, and says ended exactly where the job has ended
   pub an-order : RunAfter j m₀ ks o
   pub within-budget : o .picks ≤ b
   -- spent once it has carried out exactly the budget's picks or the work stands at the limit
-  pub spent-when : o .ended ≡ false → (o .picks ≡ b) ⊎ (workLimit ≤ o .machine .work)
+  pub spent-when : o .ended ≡ false → (o .picks ≡ b) ⊎ (workLimit ≤ o .machine .state .work)
 
 -- for every job that start does not refuse, whatever was picked before, and every budget
 abbrev pub SpentWhenDue : Runner → Type 0
 SpentWhenDue runner =
-    (j : Job) → Accepted j → (m : Machine) (ks : List ℕ) (b : ℕ)
+    (j : Job) → Accepted j → (m : State) (ks : List ℕ) (b : ℕ)
     → RunAnswers j (startOn j m) ks b (runner (j .cells) (j .words) (played j (startOn j m) ks) b)

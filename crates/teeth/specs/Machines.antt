@@ -7,14 +7,16 @@ use lib.IntN.{ℤ}
 use Rattle.image.specs.Doors.{unlessRefused}
 use Rattle.task.specs.declared.Status.{Status}
 use Rattle.task.specs.declared.Task.{Task}
-use Rattle.machine.specs.declared.Machine.{Machine}
+use Rattle.drive.specs.declared.State.{State}
 use Rattle.machine.specs.declared.Outcome.{Outcome}
-use Rattle.machine.specs.Slots.{ticked}
-use Rattle.machine.specs.Ending.{jobEnded}
+use Rattle.drive.specs.Slots.{ticked}
+use Rattle.drive.specs.Ending.{jobEnded}
 use Rattle.machine.specs.Starting.{startNo, started}
 use Rattle.task.specs.Frames.{workLimit}
-use Rattle.machine.specs.Picking.{pickNo, picked, issued}
-use Rattle.machine.specs.Running.{runFrom, outcome}
+use Rattle.machine.specs.Picking.{pickNo, picked}
+use Rattle.drive.specs.Issue.{issued}
+use Rattle.drive.specs.Passes.{runFrom}
+use Rattle.machine.specs.Running.{outcome}
 use Rattle.orders.specs.Demand.{Engine}
 use Rattle.teeth.specs.Demands.{Runner}
 
@@ -30,7 +32,7 @@ startRefusing n = record { startNo = λ cells places interval registers words. n
 
 -- ---- Picks. Start is ours
 
-abbrev pub picking : (List ℕ → List ℤ → Machine → ℕ → ℕ) → (List ℕ → List ℤ → Machine → ℕ → Machine) → Engine
+abbrev pub picking : (List ℕ → List ℤ → State → ℕ → ℕ) → (List ℕ → List ℤ → State → ℕ → State) → Engine
 picking answer state = record { startNo = startNo; started = started; pickNo = answer; picked = state }
 
 -- a pick that always says n, as 23
@@ -46,17 +48,17 @@ abbrev pub altersWorkAlone : Engine
 altersWorkAlone = picking pickNo (λ cells words m k. unlessRefused (pickNo cells words m k) (ticked m) m)
 
 -- a pick that runs the whole job first, shown as one pick's work, and idles later: each later pick only adds 1 to the work
-abbrev pub withWork : ℕ → Machine → Machine
+abbrev pub withWork : ℕ → State → State
 withWork w m = record { places = m .places; interval = m .interval; work = w; bank = m .bank; tasks = m .tasks }
 
 abbrev pub wholeJobFirst : Engine
 wholeJobFirst =
     picking (λ cells words m k. cond (eqb (m .work) 0) (pickNo cells words m k) 0)
     (λ cells words m k.
-    cond (eqb (m .work) 0) (unlessRefused (pickNo cells words m k) (withWork 1 (runFrom cells words m 0 workLimit .machine)) m) (ticked m))
+    cond (eqb (m .work) 0) (unlessRefused (pickNo cells words m k) (withWork 1 (runFrom cells words m 0 workLimit .state)) m) (ticked m))
 
 -- our pick, but for a change to the state that a carried-out one hands back
-abbrev pub changing : (Machine → Machine) → Engine
+abbrev pub changing : (State → State) → Engine
 changing change = picking pickNo (λ cells words m k. unlessRefused (pickNo cells words m k) (change (issued cells words m k)) m)
 
 -- a work made up: 2 for each pick; or always w
@@ -72,7 +74,7 @@ firstSpan s [] = []
 firstSpan s (t ∷ ts) =
     record { status = t .status; places = t .places; pc = t .pc; counter = t .counter; span = s; depth = t .depth; forks = t .forks } ∷ ts
 
-abbrev pub withSpan : ℕ → Machine → Machine
+abbrev pub withSpan : ℕ → State → State
 withSpan s m = record { places = m .places; interval = m .interval; work = m .work; bank = m .bank; tasks = firstSpan s (m .tasks) }
 
 abbrev pub spanShown : ℕ → Engine
@@ -84,10 +86,10 @@ firstStatus s [] = []
 firstStatus s (t ∷ ts) =
     record { status = s; places = t .places; pc = t .pc; counter = t .counter; span = t .span; depth = t .depth; forks = t .forks } ∷ ts
 
-abbrev pub withStatus : Status → Machine → Machine
+abbrev pub withStatus : Status → State → State
 withStatus s m = record { places = m .places; interval = m .interval; work = m .work; bank = m .bank; tasks = firstStatus s (m .tasks) }
 
-abbrev pub withEnding : Status → Machine → Machine
+abbrev pub withEnding : Status → State → State
 withEnding s m = cond (jobEnded m) (withStatus s m) m
 
 abbrev pub oneEnding : Status → Engine
@@ -96,8 +98,8 @@ oneEnding s = changing (withEnding s)
 -- ---- Runs that say spent early
 
 -- the run says spent, with these picks and this state
-abbrev pub saysSpent : ℕ → Machine → Outcome
-saysSpent picks m = record { no = 0; ended = false; picks = picks; machine = m }
+abbrev pub saysSpent : ℕ → State → Outcome
+saysSpent picks m = record { no = 0; ended = false; picks = picks; machine = record { state = m } }
 
 -- at once, with no picks; or with the budget for its picks, and none carried out
 abbrev pub spentAtOnce : Runner
@@ -112,4 +114,4 @@ spentOneShort cells words m budget = outcome cells words m (budget - 1)
 
 -- where the job has ended
 abbrev pub spentWhenEnded : Runner
-spentWhenEnded cells words m budget = let o = outcome cells words m budget in saysSpent (o .picks) (o .machine)
+spentWhenEnded cells words m budget = let o = outcome cells words m budget in saysSpent (o .picks) (o .machine .state)

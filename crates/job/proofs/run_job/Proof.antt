@@ -23,16 +23,16 @@ places-of-requires c κs = (accepted-ends (c .before .before .before .before .be
 interval-of-requires : tie.Need-interval-of-requires
 interval-of-requires c κs = (accepted-ends (c .before .before .before .before .before .before .before .before .before .args .job .now) (c .before .before .before .before .before .before .before .before .before .pre .0))
 
-cast-fresh-machine : tie.Need-cast-fresh-machine
-cast-fresh-machine c =
+cast-fresh-state : tie.Need-cast-fresh-state
+cast-fresh-state c =
     let c10 = c .before .before .before .before .before .before .before .before .before .before in
     record { fits = omega (arith, c .interval-of .ensures, interval-small (c10 .args .job .now) (c10 .pre .0)) }
 
-slice-aggregate-fresh-machine : tie.Need-slice-aggregate-fresh-machine
-slice-aggregate-fresh-machine c = search needs
+slice-aggregate-fresh-state : tie.Need-slice-aggregate-fresh-state
+slice-aggregate-fresh-state c = search needs
 
-fresh-machine-requires : tie.Need-fresh-machine-requires
-fresh-machine-requires c κs = search needs
+fresh-state-requires : tie.Need-fresh-state-requires
+fresh-state-requires c κs = search needs
 
 slice-aggregate-drive : tie.Need-slice-aggregate-drive
 slice-aggregate-drive c = search needs
@@ -44,7 +44,7 @@ drive-requires c κs =
     let r = i .before .before .before .before .before .before in
     let start = r .before .before .before .before in
     fresh-ready (start .args .job .now) (start .pre .0) (start .pre .1) (i .before .places-of .ensures) (i .interval-of .ensures) (r .read-registers .ensures)
-    (f .fresh-machine .ensures) (start .args .budget)
+    (f .fresh-state .ensures) (start .args .budget)
 
 report-of-requires : tie.Need-report-of-requires
 report-of-requires c κs = search needs
@@ -61,7 +61,7 @@ returns c =
     let r = w .before .before .before in
     let start = r .before .before .before .before in
     run-agrees (start .args .job .now) (start .pre .0) (start .pre .1) (i .before .places-of .ensures) (i .interval-of .ensures) (r .read-registers .ensures)
-    (f .fresh-machine .ensures) (w .read-words .ensures) (0 ∷ []) (start .args .budget) (d .drive .ensures) (c .report-of .ensures)
+    (f .fresh-state .ensures) (w .read-words .ensures) (0 ∷ []) (start .args .budget) (d .drive .ensures) (c .report-of .ensures)
 
 pub run-job-spec : {M : Type 1} → statement M
 run-job-spec =
@@ -72,9 +72,9 @@ run-job-spec =
     read-words-requires
     places-of-requires
     interval-of-requires
-    cast-fresh-machine
-    slice-aggregate-fresh-machine
-    fresh-machine-requires
+    cast-fresh-state
+    slice-aggregate-fresh-state
+    fresh-state-requires
     slice-aggregate-drive
     drive-requires
     report-of-requires

@@ -1,9 +1,10 @@
 -- `replay` meets its contract: a fresh start meets the shape test, so the loop may follow the order.
 use mathlib.Core.Path.{_≡_, refl, sym, ap, _∙_}
-use Rattle.machine.specs.declared.Machine.{Machine}
-use Rattle.machine.specs.declared.Driven.{Driven}
-use Rattle.machine.specs.Slots.{Sized}
+use Rattle.drive.specs.declared.State.{State}
+use Rattle.drive.specs.declared.Driven.{Driven}
+use Rattle.drive.specs.Slots.{Sized}
 use Rattle.machine.specs.Starting.{empty}
+use Rattle.machine.proofs.PickLaws.{whole-length}
 use Rattle.task.proofs.Sizes.{length-by}
 use Rattle.orders.specs.Demand.{Job, Accepted, startOn}
 use Rattle.orders.specs.Replay.{jobOf}
@@ -21,11 +22,11 @@ job-of c = jobOf (c .args .cells .now) (c .args .places) (c .args .interval) (c 
 abbrev start-of : tie.After-start → tie.Start
 start-of c = c .before .before .before .before
 
-sized-at : (c : tie.After-start) → Sized (c .start .result .machine)
+sized-at : (c : tie.After-start) → Sized (c .start .result .machine .state)
 sized-at c = record { of-bank = search (needs, length-by); of-tasks = search (needs, length-by) }
 
-fresh-at : (c : tie.After-start) → c .start .result .machine ≡ startOn (job-of (start-of c)) (empty 0 0)
-fresh-at c = c .start .ensures .1 ∙ ap (λ (b : Machine). startOn (job-of (start-of c)) b) (c .before .blank .ensures)
+fresh-at : (c : tie.After-start) → c .start .result .machine .state ≡ startOn (job-of (start-of c)) (empty 0 0)
+fresh-at c = c .start .ensures .1 ∙ ap (λ (b : State). startOn (job-of (start-of c)) b) (c .before .blank .ensures)
 
 blank-requires : tie.Need-blank-requires
 blank-requires c κs = search needs
@@ -39,7 +40,7 @@ returns c =
     let a = start-of s .args in (
       s .start .ensures .0,
       (
-        refused-blank (job-of (start-of s)) (s .before .blank .result) (s .start .result .machine) (a .order .now) (s .start .result .no) (s .before .blank .ensures)
+        refused-blank (job-of (start-of s)) (s .before .blank .result .state) (s .start .result .machine .state) (a .order .now) (s .start .result .no) (s .before .blank .ensures)
             (s .start .ensures .0) (s .start .ensures .1) (c .if1 .taken),
         λ e. absurd (c .if1 .taken e),
       ),
@@ -52,7 +53,7 @@ drive-requires : tie.Need-drive-requires
 drive-requires c κs =
     let s = c .before .before in
     let x = fresh-passes (job-of (start-of s)) (accepted-at c) (fresh-at s) in
-    (x .program, x .whole, x .shaped, refl)
+    (x .passed .program, whole-length (x .passed), x .shaped, refl)
 
 returns-2 : tie.Need-returns-2
 returns-2 c =
@@ -62,7 +63,7 @@ returns-2 c =
     let order = start-of s .args .order .now in (
       sym (accepted-at e),
       (
-        ap (λ (d : Driven). d .machine) (c .before .drive .ensures) ∙ replay-plays j (accepted-at e) (fresh-at s) (sized-at s) order,
+        ap (λ (d : Driven). d .state) (c .before .drive .ensures) ∙ replay-plays j (accepted-at e) (fresh-at s) (sized-at s) order,
         λ z. demand-3 j (accepted-at e) (empty 0 0) order,
       ),
     )

@@ -1,6 +1,6 @@
 -- `report_of` meets its contract.
 use mathlib.Core.Path.{ap}
-use Rattle.machine.specs.Ending.{isEnd}
+use Rattle.drive.specs.Ending.{isEnd}
 use Rattle.report.proofs.ReportLaws.{spent-report, ended-report}
 use borrow.Author.Needs.{needs}
 use Rattle.report.proofs.report_of.Statement.{statement}

@@ -1,10 +1,11 @@
 -- `run` meets its contract.
 use mathlib.Core.Path.{sym, ap, _∙_}
 use mathlib.Core.List.{[], _∷_}
-use Rattle.machine.specs.Ending.{isEnd}
-use Rattle.machine.proofs.ShapeLaws.{shape-allowed}
-use Rattle.machine.proofs.Owning.{places-some}
-use Rattle.machine.proofs.Picked.{state-passes, run-refused, run-answered, starts-in}
+use Rattle.drive.specs.Ending.{isEnd}
+use Rattle.drive.proofs.ShapeLaws.{shape-allowed}
+use Rattle.drive.proofs.Owning.{places-some}
+use Rattle.machine.proofs.PickLaws.{state-passed, whole-length}
+use Rattle.machine.proofs.Picked.{run-refused, run-answered, starts-in}
 use borrow.Author.Needs.{needs}
 use Rattle.machine.proofs.Machine.run.Statement.{statement}
 use Rattle.machine.proofs.Machine.run.Tie as tie
@@ -15,7 +16,7 @@ ask-state-requires c κs = search needs
 returns : tie.Need-returns
 returns c =
     let a = c .before .before .before .args in
-    run-refused (a .cells .now) (a .words .now) (a .self) (a .budget) _ (c .before .ask-state .ensures) (c .if1 .taken)
+    run-refused (a .cells .now) (a .words .now) (a .self .state) (a .budget) _ (c .before .ask-state .ensures) (c .if1 .taken)
 
 slice-aggregate-drive : tie.Need-slice-aggregate-drive
 slice-aggregate-drive c = search needs
@@ -23,9 +24,9 @@ slice-aggregate-drive c = search needs
 drive-requires : tie.Need-drive-requires
 drive-requires c κs =
     let a = c .before .before .before .before .args in
-    let x = state-passes (a .cells .now) (a .words .now) (a .self) (sym (c .before .before .ask-state .ensures) ∙ c .before .if1 .left) in
-    let some = places-some (a .self .places) (shape-allowed (a .cells .now) (a .self) (x .program) (x .shaped) .places-allowed) in
-    (x .program, x .whole, x .shaped, starts-in (a .self) 0 (a .budget) some)
+    let x = state-passed (a .cells .now) (a .words .now) (a .self .state) (sym (c .before .before .ask-state .ensures) ∙ c .before .if1 .left) in
+    let some = places-some (a .self .state .places) (shape-allowed (a .cells .now) (a .self .state) (x .passed .program) (x .shaped) .places-allowed) in
+    (x .passed .program, whole-length (x .passed), x .shaped, starts-in (a .self .state) 0 (a .budget) some)
 
 end-of-requires : tie.Need-end-of-requires
 end-of-requires c κs = search needs
@@ -38,7 +39,7 @@ returns-2 c =
     let d = c .before .before .before in
     let a = d .before .before .before .before .before .args in
     let passes = sym (d .before .before .before .ask-state .ensures) ∙ d .before .before .if1 .left in
-    run-answered (a .cells .now) (a .words .now) (a .self) (a .budget) passes (0 ∷ []) (d .drive .result) (c .has-ended .result) (d .drive .ensures)
+    run-answered (a .cells .now) (a .words .now) (a .self .state) (a .budget) passes (0 ∷ []) (d .drive .result) (c .has-ended .result) (d .drive .ensures)
     (c .has-ended .ensures ∙ ap isEnd (c .before .end-of .ensures))
 
 pub run-spec : {M : Type 1} → statement M

@@ -2,10 +2,10 @@
 use mathlib.Core.Path.{_≡_, sym, ap, _∙_}
 use lib.ListN.{length}
 use borrow.Author.Tests.{lt-ltb, le-ltb, not-true, not-false}
-use Rattle.machine.specs.Ending.{isEnd}
-use Rattle.machine.specs.Picking.{slotNo}
+use Rattle.drive.specs.Ending.{isEnd}
+use Rattle.drive.specs.Issue.{slotNo}
 use Rattle.task.proofs.Sizes.{length-by}
-use Rattle.machine.proofs.SlotLaws.{task-there, no-task-beyond}
+use Rattle.drive.proofs.SlotLaws.{task-there, no-task-beyond}
 use borrow.Author.Needs.{needs}
 use Rattle.machine.proofs.pick.ask_slot.Statement.{statement}
 use Rattle.machine.proofs.pick.ask_slot.Tie as tie

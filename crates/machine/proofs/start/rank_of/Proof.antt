@@ -1,6 +1,6 @@
 -- `rank_of` meets its contract.
 use borrow.Author.Tests.{eq-eqb, ne-eqb}
-use Rattle.machine.specs.Starting.{rank}
+use Rattle.drive.specs.Settings.{rank}
 use Rattle.machine.proofs.start.rank_of.Statement.{statement}
 use Rattle.machine.proofs.start.rank_of.Tie as tie
 

@@ -1,6 +1,6 @@
 -- `write_text` meets its contract.
 use mathlib.Core.Path.{ap}
-use Rattle.machine.specs.Ending.{isEnd}
+use Rattle.drive.specs.Ending.{isEnd}
 use Rattle.report.specs.Text.{textOf}
 use Rattle.report.proofs.Writing.{written-then}
 use Rattle.report.proofs.Lines.{spent-text, ended-text, from-front}

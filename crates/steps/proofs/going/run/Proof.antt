@@ -137,8 +137,8 @@ returns-3 c =
     (y .before .is-ready .ensures) (not-false _ (y .if1 .left)) in
     let ran = c .before .before .before .before .before .before .before .before .before .before .before .before .run-on .ensures in
     let answer = ran-accepted (a .program .now) (a .words .now) (a .lent .now) _ (a .budget) r _ (ap (λ (o : Outcome). o .no) ran) (c .before .before .before .before .before .before .before .before .before .before .if2 .left) in
-    let state = c .before .before .before .before .before .before .before .write-state .ensures ∙ ap (λ (o : Outcome). stateBytes (o .machine)) ran in
-    let made = c .before .before .before .before .report-of .ensures ∙ ap (λ (o : Outcome). reportOf (o .machine) (o .picks)) ran in
+    let state = c .before .before .before .before .before .before .before .write-state .ensures ∙ ap (λ (o : Outcome). stateBytes (o .machine .state)) ran in
+    let made = c .before .before .before .before .report-of .ensures ∙ ap (λ (o : Outcome). reportOf (o .machine .state) (o .picks)) ran in
     let report = c .before .before .write-report .ensures ∙ ap reportBytes made in
     (sym answer, (call-accepted _ _ _ _ answer state .1, call-accepted _ _ _ _ answer report .1))
 

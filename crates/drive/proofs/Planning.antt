@@ -1,0 +1,215 @@
+-- What a turn of the loop has written and planned: with its moves made, the next turn holds. One statement for each kind of turn.
+use mathlib.Core.Path.{_≡_, refl, sym, ap, ap₂, _∙_, subst⁻¹}
+use mathlib.Core.Bool.{Bool, true, false, cond}
+use mathlib.Core.List.{List, [], _∷_}
+use Prim.Native.Nat.{ℕ, _+_, _-_, _*_, _/_, _%_, _<_, _≤_}
+use native.Mathlib.Omega.{arith}
+use lib.Dec.{ltb}
+use lib.ListN.{length, getD, set}
+use lib.Seq.{getD-set-same, getD-set-other}
+use types.Run.{OneOf}
+use denote.Enum.Declared.{tagOf}
+use Rattle.facts.proofs.Tests.{clash, by-test}
+use Rattle.image.specs.Layout.{programOf}
+use Rattle.agreement.specs.Slots.{due}
+use Rattle.task.specs.declared.Status.{Status}
+use Rattle.task.specs.declared.Fork.{Fork}
+use Rattle.task.specs.declared.Task.{Task}
+use Rattle.task.specs.declared.Joint.{Joint}
+use Rattle.task.specs.declared.Executed.{Executed}
+use Rattle.task.specs.declared.Kind.the-variants.{Forks}
+use Rattle.task.specs.Frames.{noTask, vacantTask, isRunning, workLimit}
+use Rattle.task.specs.Values.{recordOf}
+use Rattle.task.specs.Step.{counted, ended}
+use Rattle.task.specs.Execute.{jointOf}
+use Rattle.task.proofs.Kind.{the-type}
+use Rattle.drive.specs.declared.State.{State}
+use Rattle.turns.specs.declared.moves.Moves.{Moves}
+use Rattle.turns.specs.declared.course.Stretch.{Stretch}
+use Rattle.drive.specs.Slots.{at, ticked, slotsOf}
+use Rattle.turns.specs.Moving.{forkMoves, endMoves, joinMoves}
+use Rattle.turns.specs.Kinds.{statusOf}
+use Rattle.drive.proofs.Models.{Allowed}
+use Rattle.drive.proofs.ShapeLaws.{Fits}
+use Rattle.drive.proofs.Owning.{own-allowed, own-fits, places-most}
+use Rattle.drive.proofs.SettleSafety.{fits-safe}
+use Rattle.drive.proofs.InPlace.{withTaskAt}
+use Rattle.drive.proofs.PlanLaws.{moved, pairedAt, clearedAt, PlanFits, tasksJoined, join-moved, join-fits, end-fits, fork-fits}
+use Rattle.drive.proofs.Issuing.{ends-steps, end-put, endFrame, forkedAt, forks-issued, forks-room}
+use Rattle.drive.proofs.Positions.{Position, firstOf, to, pickedBehind, goes, Comes, comes-none, comes-one}
+use Rattle.drive.proofs.Walking.{Given, GivenAllowed, result, mostStretches, At, tile, rise-is}
+use Rattle.drive.proofs.Turning.{Turns, none-due, joins, ends, forks, Stopped}
+
+-- what is ahead of the loop, as a number that every turn makes smaller: stretches, picks and looks of this one, and looks at joins
+abbrev pub ahead : Given → State → Position → ℕ → ℕ
+ahead g m p o =
+    281474976710656 * (mostStretches (g .course) (g .order) - p .begun) + 200 * (65 * (p .until - m .work) + (p .reach - p .gone)) + 2 * o
+
+moved-work : (plan : Moves) (m : State) → moved plan m .work ≡ m .work
+moved-work plan m =
+    by-test (ltb 0 (plan .whole)) (λ a. rw a (cleared-work (pairedAt plan m))) (λ a. rw a (cleared-work (pairedAt plan m)))
+  where
+    cleared-work : (n : State) → clearedAt plan n .work ≡ n .work
+    cleared-work n = by-test (ltb 0 (plan .clears)) (λ b. rw b) (λ b. rw b)
+
+moved-tasks : (plan : Moves) (m : State) → moved plan m .tasks ≡ m .tasks
+moved-tasks plan m =
+    by-test (ltb 0 (plan .whole)) (λ a. rw a (cleared-tasks (pairedAt plan m))) (λ a. rw a (cleared-tasks (pairedAt plan m)))
+  where
+    cleared-tasks : (n : State) → clearedAt plan n .tasks ≡ n .tasks
+    cleared-tasks n = by-test (ltb 0 (plan .clears)) (λ b. rw b) (λ b. rw b)
+
+pub record Planned (g : Given) (before : ℕ) (m : State) (plan : Moves) (p : Position) (o side : ℕ) : Type 0 where
+  pub plan-fits : PlanFits plan
+  pub then-turns : {m′ : State} → m′ ≡ moved plan m → Turns g m′ p o side
+  pub less : ahead g m p o < before
+  pub grows : (g .state .work ≤ m .work) × (m .work ≤ workLimit)
+
+pub then-less : {g : Given} {before : ℕ} {m : State} {plan : Moves} {p : Position} {o side : ℕ} → Planned g before m plan p o side
+    → {m′ : State} → m′ ≡ moved plan m → ahead g m′ p o < before
+then-less {g} {before} {m} {plan} {p} {o} x {m′} is =
+    let same : m′ .work ≡ m .work = ap (λ (n : State). n .work) is ∙ moved-work plan m in
+    omega (arith, x .less)
+
+pub then-grows : {g : Given} {before : ℕ} {m : State} {plan : Moves} {p : Position} {o side : ℕ} → Planned g before m plan p o side
+    → {m′ : State} → m′ ≡ moved plan m → (g .state .work ≤ m′ .work) × (m′ .work ≤ workLimit)
+then-grows {g} {before} {m} {plan} x {m′} is =
+    let same : m′ .work ≡ m .work = ap (λ (n : State). n .work) is ∙ moved-work plan m in
+    (omega (arith, x .grows .0), omega (arith, x .grows .1))
+
+pub less-with : {a b : ℕ} (n : ℕ) → a < b → a + n < b + n
+less-with n h = omega arith
+
+-- against a larger number
+pub planned-below : {g : Given} {before after : ℕ} {m : State} {plan : Moves} {p : Position} {o side : ℕ} → before ≤ after
+    → Planned g before m plan p o side → Planned g after m plan p o side
+planned-below le x = record { plan-fits = x .plan-fits; then-turns = λ {m′} is. x .then-turns is; less = omega (arith, x .less); grows = x .grows }
+
+-- with other names for its numbers
+pub planned-as : {g : Given} {before : ℕ} {m : State} {plan : Moves} (p : Position) {slot slot′ gone gone′ o o′ side side′ : ℕ}
+    → slot′ ≡ slot → gone′ ≡ gone → o′ ≡ o → side′ ≡ side
+    → Planned g before m plan (to slot gone p) o side → Planned g before m plan (to slot′ gone′ p) o′ side′
+planned-as {g} {before} {m} {plan} p {slot′ = slot′} {gone = gone} {gone′ = gone′} {o = o} {o′ = o′} {side = side} a b c d x =
+    subst⁻¹ (λ n. Planned g before m plan (to slot′ gone′ p) o′ n) d
+    (subst⁻¹ (λ n. Planned g before m plan (to slot′ gone′ p) n side) c
+    (subst⁻¹ (λ n. Planned g before m plan (to slot′ n p) o side) b
+    (subst⁻¹ (λ n. Planned g before m plan (to n gone p) o side) a x)))
+
+module _ (g : Given) (allowed : GivenAllowed g) where
+  -- ---- a join: the two records are written
+
+  module _ {m : State} {p : Position} {o side : ℕ} (t : Turns g m p o side) (q w : ℕ) (some : 0 < o) (width : at m side .task .places ≡ w)
+      (first : q ≡ side - side % (2 * w)) (is-due : due (slotsOf (programOf (g .cells))) m q w o ≡ true) (wide : 0 < w) (room : q + w < 64)
+      {j : Joint} (e : j ≡ jointOf (programOf (g .cells)) (at m q .task) (at m (q + w) .task)) where
+    pub join-planned : (g .state .work ≤ m .work) × (m .work ≤ workLimit) → {n : State} {plan : Moves}
+        → n ≡ tasksJoined m q (q + w) (j .task) → plan ≡ joinMoves q (q + w) (j .pairs) (j .packed) (j .faulted)
+        → Planned g (ahead g m p o) n plan p (o - 1) q
+    join-planned grown {n} {plan} written planned = record {
+      plan-fits = rw planned (join-fits (g .cells) m (t .sized) q w wide room e);
+      then-turns = λ {m′} is. joins g allowed t q w some width first is-due (is ∙ ap₂ moved planned written ∙ join-moved (g .cells) m (t .sized) q w wide room e);
+      less = let same : n .work ≡ m .work = ap (λ (o : State). o .work) written in omega (arith, t .few);
+      grows = let same : n .work ≡ m .work = ap (λ (o : State). o .work) written in (omega (arith, grown .0), omega (arith, grown .1));
+    }
+
+  -- ---- an instruction that ends its side, or forks
+
+  module _ {m : State} {p : Position} (a : At g m p) {e : Executed} (s : Stopped (g .cells) (g .words) m p e) where
+    abbrev k : ℕ
+    k = p .slot
+
+    pub places-few : m .places ≤ 64
+    places-few = omega (arith, a .fits .its-places, places-most (g .state .places) (allowed .places-allowed))
+
+    pub here : k < 64
+    here = omega (arith, a .slot-below, places-few)
+
+    pub allowed-there : Allowed (g .cells) (m .interval) (m .places)
+    allowed-there = own-allowed (a .fits) allowed
+
+    pub fits-there : Fits (g .cells) (m .interval) (m .places) m
+    fits-there = own-fits (a .fits)
+
+    -- one pick less to do
+    less-on : (n : State) (slot o : ℕ) → n .work ≡ m .work + 1 → o ≤ 6 → ahead g n (to slot 0 p) o < ahead g m p 0
+    less-on n slot o more few = let x = goes {m = m} {p = p} (s .walks) in omega (arith, x .picks-left, x .places-left, a .reach-most)
+
+    pub end-planned : OneOf (0 ∷ 1 ∷ 2 ∷ 3 ∷ 4 ∷ []) (tagOf the-type (e .kind)) → {t : Task} → t ≡ ended (statusOf (e .kind)) (counted (at m k .task))
+        → {n : State} → n ≡ ticked (withTaskAt m k t) → {plan : Moves} → plan ≡ endMoves k (e .kind)
+        → Planned g (ahead g m p 0) n plan (pickedBehind m (at m k .task .places) p) (at m k .task .depth) k
+    end-planned no-fork {t} is-ended {n} written {plan} planned =
+        let step-is = ends-steps allowed-there fits-there (a .slot-below) (s .runs-there) (s .fetched) (s .stops-it) no-fork in
+        let put-is = end-put allowed-there fits-there (a .slot-below) (s .runs-there) (s .fetched) is-ended in
+        let deep = fits-safe allowed m (a .fits) k .depth-fits in
+        record {
+          plan-fits = rw planned (end-fits k (e .kind) here);
+          then-turns = λ {m′} is. ends g allowed a (s .walks) (s .runs-there) _ step-is (is ∙ ap₂ moved planned written ∙ put-is) here (at m k .task .depth) refl deep;
+          less = less-on n 0 (at m k .task .depth) (ap (λ (o : State). o .work) written) deep;
+          grows = let more : n .work ≡ m .work + 1 = ap (λ (o : State). o .work) written in
+              (omega (arith, a .all-picks), omega (arith, goes {m = m} {p = p} (s .walks) .picks-left, a .until-most));
+        }
+
+    module _ (pc : ℕ) (kind-is : e .kind ≡ Forks pc) where
+      abbrev half : ℕ
+      half = at m k .task .places / 2
+
+      -- the child's slot is in the state
+      pub fork-room : (0 < half) × (k + half < m .places) × (at m k .task .depth < 6)
+      fork-room =
+          let r = forks-room allowed-there fits-there (a .slot-below) (s .runs-there) (s .fetched) pc kind-is in
+          let t = tile g allowed a (s .runs-there) in
+          (omega (arith, r .1), omega (arith, r .1, t .inside), r .0)
+
+      pub fork-planned : {under : Fork} → under ≡ recordOf (e .value)
+          → {n : State} → n ≡ forkedAt allowed-there fits-there (a .slot-below) (s .runs-there) (s .fetched) under pc
+          → {plan : Moves} → plan ≡ forkMoves k (k + half) → (side : ℕ) → side < 64
+          → Planned g (ahead g m p 0) n plan (to (k + half) 0 p) 0 side
+      fork-planned {under} is-under {n} written {plan} planned side below =
+          let r = fork-room in
+          record {
+            plan-fits = rw planned (fork-fits k (k + half) (omega (arith, r .0)) (omega (arith, r .1, places-few)));
+            then-turns = λ {m′} is. none-due g allowed 0 side refl below (on m′ is);
+            less = less-on n 0 0 (ap (λ (o : State). o .work) written) (omega arith);
+            grows = let more : n .work ≡ m .work + 1 = ap (λ (o : State). o .work) written in
+                (omega (arith, a .all-picks), omega (arith, goes {m = m} {p = p} (s .walks) .picks-left, a .until-most));
+          }
+        where
+          on : (m′ : State) → m′ ≡ moved plan n → At g m′ (to (k + half) 0 p)
+          on m′ is =
+              let issued-is = is ∙ ap₂ moved planned written
+              ∙ forks-issued allowed-there fits-there (a .slot-below) (s .runs-there) (s .fetched) pc kind-is is-under in
+              let r = fork-room in
+              let l = m .tasks in
+              let f = forkedAt allowed-there fits-there (a .slot-below) (s .runs-there) (s .fetched) under pc in
+              let kept : m′ .tasks ≡ f .tasks = ap (λ (o : State). o .tasks) is ∙ moved-tasks plan n ∙ ap (λ (o : State). o .tasks) written in
+              let mine : getD (m′ .tasks) k noTask ≡ _ = ap (λ (l : List Task). getD l k noTask) kept
+              ∙ getD-set-other (set l k _) (k + half) k _ noTask (λ z. absurd (omega (arith, r .0)))
+              ∙ getD-set-same l k _ noTask (omega (arith, here, a .fits .sized .of-tasks)) in
+              forks g allowed a (s .walks) (s .runs-there) issued-is (ap (λ (o : Task). isRunning (o .status)) mine) half (ap (λ (o : Task). o .places) mine) (r .1)
+
+-- ---- the next stretch, or the end
+
+module _ (g : Given) {m : State} {p : Position} (a : At g m p) {s : Stretch}
+    (c : Comes (result g) m (a .picks) (p .begun) (mostStretches (g .course) (g .order)) (λ q. At g m q) s) where
+  pub next-at : s .over ≡ false → At g m (firstOf s)
+  next-at o = go c
+    where
+      go : Comes (result g) m (a .picks) (p .begun) (mostStretches (g .course) (g .order)) (λ q. At g m q) s → At g m (firstOf s)
+      go (comes-none over b u r e) = clash over o
+      go (comes-one over f x) = x
+
+  pub next-ends : s .over ≡ true → result g ≡ record { state = m; picks = m .work - g .state .work }
+  next-ends o = go c
+    where
+      go : Comes (result g) m (a .picks) (p .begun) (mostStretches (g .course) (g .order)) (λ q. At g m q) s
+          → result g ≡ record { state = m; picks = m .work - g .state .work }
+      go (comes-none over b u r e) = e ∙ ap (λ (n : ℕ). record { state = m; picks = n }) (sym (rise-is g a))
+      go (comes-one over f x) = clash o over
+
+  pub next-less : ahead g m (firstOf s) 0 + cond (s .over) 0 1 < ahead g m p 0 + 1
+  next-less = go c
+    where
+      go : Comes (result g) m (a .picks) (p .begun) (mostStretches (g .course) (g .order)) (λ q. At g m q) s
+          → ahead g m (firstOf s) 0 + cond (s .over) 0 1 < ahead g m p 0 + 1
+      go (comes-none over b u r e) = let z : _≡_ {A = ℕ} (cond (s .over) 0 1) 0 = rw over in omega arith
+      go (comes-one over f x) =
+          let z : _≡_ {A = ℕ} (cond (s .over) 0 1) 1 = rw over in omega (arith, f .begun-more, f .begun-most, f .reach-most, f .until-most)

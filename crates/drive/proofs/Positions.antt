@@ -1,0 +1,78 @@
+-- Where the loop stands in its course: the stretch, the slot that is looked at next, and the places gone by.
+use Prim.Native.Nat.{ℕ, _+_, _-_, _<_, _≤_}
+use native.Mathlib.Omega.{arith}
+use mathlib.Core.Path.{_≡_}
+use mathlib.Core.Bool.{true, false, _&&_}
+use lib.Dec.{ltb}
+use borrow.Author.Tests.{ltb-true, lt-ltb, le-ltb}
+use Rattle.facts.proofs.Tests.{both-true, clash, by-below}
+use Rattle.drive.specs.declared.State.{State}
+use Rattle.task.specs.Frames.{workLimit}
+use Rattle.drive.specs.declared.Driven.{Driven}
+use Rattle.turns.specs.declared.course.Stretch.{Stretch}
+use Rattle.turns.specs.Walk.{walksOn, behind, stopAt}
+
+pub record Position : Type 0 where
+  pub slot : ℕ
+  pub gone : ℕ
+  pub until : ℕ
+  pub reach : ℕ
+  pub begun : ℕ
+
+-- the first slot of a stretch
+abbrev pub firstOf : Stretch → Position
+firstOf s = record { slot = s .slot; gone = 0; until = s .until; reach = s .reach; begun = s .begun }
+
+-- another slot of it
+abbrev pub to : ℕ → ℕ → Position → Position
+to slot gone p = record { slot = slot; gone = gone; until = p .until; reach = p .reach; begun = p .begun }
+
+-- w places gone by; and a pick carried out, after which the walk goes on behind w places
+abbrev pub goneBy : State → ℕ → Position → Position
+goneBy m w p = to (behind (m .places) (p .slot) w) (p .gone + w) p
+
+abbrev pub pickedBehind : State → ℕ → Position → Position
+pickedBehind m w p = to (behind (m .places) (p .slot) w) 0 p
+
+-- the walk goes on from here
+abbrev pub Walks : State → Position → Type 0
+Walks m p = walksOn false (m .work) (p .until) (p .gone) (p .reach) ≡ true
+
+pub record Goes (m : State) (p : Position) : Type 0 where
+  pub picks-left : m .work < p .until
+  pub places-left : p .gone < p .reach
+
+pub goes : {m : State} {p : Position} → Walks m p → Goes m p
+goes {m} {p} h =
+    let b = both-true (ltb (m .work) (p .until)) (ltb (p .gone) (p .reach)) h in
+    record { picks-left = ltb-true (m .work) (p .until) (b .0); places-left = ltb-true (p .gone) (p .reach) (b .1) }
+
+-- it does not: there is no pick left, or no place
+pub rests : {A : Type 0} (m : State) (p : Position) → walksOn false (m .work) (p .until) (p .gone) (p .reach) ≡ false
+    → (p .until ≤ m .work → A) → (m .work < p .until → p .reach ≤ p .gone → A) → A
+rests m p h spent idle = by-below (m .work) (p .until)
+    (λ a. by-below (p .gone) (p .reach) (λ b. clash (rw (lt-ltb (m .work) (p .until) a) (lt-ltb (p .gone) (p .reach) b)) h) (λ b. idle a b))
+    (λ a. spent a)
+
+pub no-picks-left : (m : State) (p : Position) → p .until ≤ m .work → walksOn false (m .work) (p .until) (p .gone) (p .reach) ≡ false
+no-picks-left m p h = rw (le-ltb (m .work) (p .until) h)
+
+-- ---- the stretch that comes next
+
+-- what is asked of one that begins, where b were begun before and there are at most `most`
+pub record Fresh (m : State) (b most : ℕ) (s : Stretch) : Type 0 where
+  pub begun-more : b < s .begun
+  pub begun-most : s .begun ≤ most
+  pub slot-below : s .slot < m .places
+  pub reach-most : s .reach ≤ 64
+  pub until-most : s .until ≤ workLimit
+
+-- either there is none, and the loop leaves the state as it stands; or one begins, where the course stands as it should
+pub data Comes (whole : Driven) (m : State) (picks b most : ℕ) (Standing : Position → Type 0) (s : Stretch) : Type 0 where
+  comes-none : s .over ≡ true → b ≤ s .begun → s .until ≡ 0 → s .reach ≡ 0 → whole ≡ record { state = m; picks = picks } → Comes whole m picks b most Standing s
+  comes-one : s .over ≡ false → Fresh m b most s → Standing (firstOf s) → Comes whole m picks b most Standing s
+
+-- the work at which a stretch stops
+pub stop-most : (work picks : ℕ) → stopAt work picks ≤ workLimit
+stop-most work picks = by-below picks (workLimit - work)
+    (λ h. rw (lt-ltb picks (workLimit - work) h) (omega arith)) (λ h. rw (le-ltb picks (workLimit - work) h) (omega arith))

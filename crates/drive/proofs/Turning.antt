@@ -1,0 +1,165 @@
+-- A turn of the loop with the joins that fall due: a look at one, or a walk and the pick that stops it.
+use mathlib.Core.Path.{_≡_, refl, sym, ap, _∙_, subst, subst⁻¹}
+use mathlib.Core.Bool.{true, false}
+use mathlib.Core.List.{List}
+use Prim.Native.Nat.{ℕ, _+_, _-_, _*_, _/_, _%_, _^_, _<_, _≤_}
+use native.Mathlib.Omega.{arith}
+use lib.Pow.{pow-pos}
+use lib.IntN.{ℤ}
+use Rattle.task.specs.Choices.{chosen}
+use Rattle.image.specs.declared.Instruction.{Instruction}
+use Rattle.image.specs.Layout.{programOf}
+use Rattle.agreement.specs.Plain.{one}
+use Rattle.agreement.specs.Slots.{due, merged, settle}
+use Rattle.agreement.proofs.SlotLaws.{carry-one}
+use Rattle.task.specs.declared.Value.{Value}
+use Rattle.task.specs.declared.Frame.{Frame}
+use Rattle.task.specs.declared.Executed.{Executed}
+use Rattle.task.specs.Frames.{vacant, running}
+use Rattle.task.specs.Step.{join, step}
+use Rattle.drive.specs.declared.State.{State}
+use Rattle.turns.specs.declared.course.Course.{Course}
+use Rattle.drive.specs.Slots.{at, put, ticked, Sized, slotsOf}
+use Rattle.drive.specs.Settings.{rank}
+use Rattle.drive.specs.Issue.{issued}
+use Rattle.turns.specs.Walk.{behind, slotAfter, goneAfter, width}
+use Rattle.turns.specs.Kinds.{runsOn}
+use Rattle.drive.proofs.RankLaws.{rank-power}
+use Rattle.drive.proofs.ShapeLaws.{Fits}
+use Rattle.drive.proofs.SlotLaws.{put-sized, put-other, ticked-sized}
+use Rattle.drive.proofs.Carrying.{stand}
+use Rattle.drive.proofs.Moving.{settle-tick, settle-quiet}
+use Rattle.drive.proofs.Issuing.{Fetched}
+use Rattle.drive.proofs.IssueLaws.{issued-fits, issued-work}
+use Rattle.drive.proofs.SettleLaws.{settle-ends, settle-stops}
+use Rattle.drive.proofs.SettleSafety.{SettleSafe, turn, fits-safe, put-back-safe}
+use Rattle.drive.proofs.Positions.{Position, to, pickedBehind, Walks, goes}
+use Rattle.drive.proofs.Seeking.{Quiet, behind-inside}
+use Rattle.drive.proofs.Walking.{Given, given, GivenAllowed, At, tile, picked-behind, picked-on, gone-by}
+
+module _ (g : Given) where
+  -- the state that counts is the one with the joins made that are due from depth `open` on
+  pub record Turns (m : State) (p : Position) (open′ side : ℕ) : Type 0 where
+    pub head : At g (settle (slotsOf (programOf (g .cells))) open′ m side) p
+    pub safe : SettleSafe (g .cells) m
+    pub sized : Sized m
+    pub side-below : side < 64
+    pub few : open′ ≤ 6
+
+  module _ (allowed : GivenAllowed g) where
+    -- no join is looked at
+    pub none-due : {m : State} {p : Position} (o side : ℕ) → o ≡ 0 → side < 64 → At g m p → Turns m p o side
+    none-due {m} {p} o side none below a = record {
+      head = subst⁻¹ (λ n. At g n p) (settle-ends (g .cells) m side o none) a;
+      safe = fits-safe allowed m (a .fits);
+      sized = a .fits .sized;
+      side-below = below;
+      few = omega arith;
+    }
+
+    module _ {m : State} {p : Position} {o side : ℕ} (t : Turns m p o side) where
+      -- where none is, the state is a run's
+      pub at-head : o ≡ 0 → At g m p
+      at-head z = subst (λ n. At g n p) (settle-ends (g .cells) m side o z) (t .head)
+
+      -- a join that is not due: settling stops
+      pub stops : (q w : ℕ) → 0 < o → at m side .task .places ≡ w → q ≡ side - side % (2 * w) → due (slotsOf (programOf (g .cells))) m q w o ≡ false
+          → Turns m p 0 side
+      stops q w some hw hq e =
+          none-due 0 side refl (t .side-below) (subst (λ n. At g n p) (settle-stops (g .cells) m side o q w some hw hq e) (t .head))
+
+      -- one that is
+      pub joins : {m′ : State} (q w : ℕ) → 0 < o → at m side .task .places ≡ w → q ≡ side - side % (2 * w)
+          → due (slotsOf (programOf (g .cells))) m q w o ≡ true → m′ ≡ merged (slotsOf (programOf (g .cells))) m q w → Turns m′ p (o - 1) q
+      joins {m′} q w some hw hq e is =
+          let x = turn (g .cells) m side o q w (t .safe) some hw hq e in
+          record {
+            head = subst (λ n. At g n p) (x .goes-on ∙ ap (λ n. settle (slotsOf (programOf (g .cells))) (o - 1) n q) (sym is)) (t .head);
+            safe = subst⁻¹ (SettleSafe (g .cells)) is (x .stays-safe);
+            sized = subst⁻¹ Sized is
+                (put-sized (put m (q + w) vacant) q (join (programOf (g .cells)) (at m q) (at m (q + w))) (put-sized m (q + w) vacant (t .sized)));
+            side-below = omega (arith, x .has-room);
+            few = omega (arith, t .few);
+          }
+
+    module _ {m : State} {p : Position} (a : At g m p) (walks : Walks m p) (runs-there : running (at m (p .slot)) ≡ true) where
+      abbrev k : ℕ
+      k = p .slot
+
+      -- an instruction has ended the side of slot k's task: the joins are looked at from there on, and the walk goes on behind its places
+      pub ends : {m′ : State} (f : Frame) → step (programOf (g .cells)) (g .words) (chosen (m .interval)) (at m k) ≡ one f → m′ ≡ ticked (put m k f) → k < 64
+          → (o : ℕ) → o ≡ f .task .depth → o ≤ 6 → Turns m′ (pickedBehind m (at m k .task .places) p) o k
+      ends {m′} f e is below o deep shallow =
+          let S = slotsOf (programOf (g .cells)) in
+          let settled : settle S o m′ k ≡ issued (g .cells) (g .words) m k =
+          ap (λ d. settle S d m′ k) deep ∙ ap (λ n. settle S (f .task .depth) n k) is ∙ settle-tick (g .cells) (f .task .depth) (put m k f) k
+          ∙ ap ticked (sym (carry-one S (step (programOf (g .cells)) (g .words) (chosen (m .interval))) m k f e)) in
+          let t = tile g allowed a runs-there in
+          let same : (i : ℕ) → k < i → running (at m′ i) ≡ running (at m i) =
+          λ i h. ap (λ (o : State). running (at o i)) is ∙ ap running (put-other m k f i (λ z. absurd (omega arith))) in
+          let quiet : Quiet (settle S o m′ k) (k + 1) (k + at m k .task .places) =
+          λ i h b. settle-quiet (g .cells) o m′ k i (omega arith) (same i (omega arith) ∙ t .quiet i h b) in
+          record {
+            head = picked-behind g allowed a walks runs-there settled _ (t .some) (t .inside) quiet;
+            safe = subst⁻¹ (SettleSafe (g .cells)) is
+                (put-back-safe allowed m (a .fits) (g .words) k f below runs-there
+                (ap (λ n. step (programOf (g .cells)) (g .words) (chosen n) (at m k)) (sym (a .fits .its-interval)) ∙ e));
+            sized = subst⁻¹ Sized is (ticked-sized (put m k f) (put-sized m k f (a .fits .sized)));
+            side-below = below;
+            few = shallow;
+          }
+
+      -- it has forked: the walk goes on at the child's slot, behind the parent's half of the places
+      pub forks : {m′ : State} → m′ ≡ issued (g .cells) (g .words) m k → running (at m′ k) ≡ true → (half : ℕ) → at m′ k .task .places ≡ half → k + half < m .places
+          → At g m′ (to (k + half) 0 p)
+      forks {m′} is on half width inside =
+          let below : k < g .state .places = omega (arith, a .slot-below, a .fits .its-places) in
+          let fits : Fits (g .cells) (g .state .interval) (g .state .places) m′ =
+          rw is (issued-fits allowed (g .words) m k (a .fits) below runs-there (omega (arith, goes {m = m} {p = p} walks .picks-left, a .until-most))) in
+          let s = stand allowed (g .words) m′ k fits below on in
+          let power : half ≡ 2 ^ s .height = sym width ∙ s .formed .has-places in
+          subst (λ n. At g m′ (to n 0 p)) (behind-inside (m .places) k half inside)
+          (picked-behind g allowed a walks runs-there is half (omega (arith, power, pow-pos (s .height))) (omega arith)
+          (λ i h b. s .alone i (omega arith) (omega (arith, power))))
+
+-- ---- the walk, until an instruction forks or ends its side
+
+-- from the first state and place of the walk the course comes to these
+pub record Leads (cells : List ℕ) (words : List ℤ) (order : List ℕ) (course : Course) (m₀ : State) (p₀ : Position) (m : State) (p : Position) : Type 0 where
+  pub leads : (state : State) → GivenAllowed (given cells words state order course) → At (given cells words state order course) m₀ p₀
+      → At (given cells words state order course) m p
+  pub shorter : 65 * (p .until - m .work) + (p .reach - p .gone) ≤ 65 * (p₀ .until - m₀ .work) + (p₀ .reach - p₀ .gone)
+
+module _ {cells : List ℕ} {words : List ℤ} {order : List ℕ} {course : Course} {m₀ : State} {p₀ : Position} {m : State} {p : Position}
+    (l : Leads cells words order course m₀ p₀ m p) (walks : Walks m p) where
+  -- the places of a slot where nothing runs are gone by
+  pub leads-by : running (at m (p .slot)) ≡ false → {w slot : ℕ} → w ≡ width (at m (p .slot) .task .places) → slot ≡ behind (m .places) (p .slot) w
+      → Leads cells words order course m₀ p₀ m (to slot (p .gone + w) p)
+  leads-by idle {w} {slot} wide next = record {
+    leads = λ state allowed a₀. rw (next, wide) (gone-by (given cells words state order course) allowed (l .leads state allowed a₀) walks idle);
+    shorter = omega (arith, l .shorter);
+  }
+
+  -- the slot's task is picked, and runs on
+  pub leads-on : p .reach ≤ 64 → running (at m (p .slot)) ≡ true → {m′ : State} → m′ ≡ issued cells words m (p .slot)
+      → ((i : ℕ) → (i ≡ p .slot → ⊥) → running (at m′ i) ≡ running (at m i))
+      → {slot gone : ℕ} → slot ≡ slotAfter (m .places) (p .reach) (p .gone) (p .slot) (at m (p .slot) .task .places)
+      → gone ≡ goneAfter (p .reach) (p .gone) (at m (p .slot) .task .places)
+      → Leads cells words order course m₀ p₀ m′ (to slot gone p)
+  leads-on reach on {m′} is others {slot} {gone} next still = record {
+    leads = λ state allowed a₀. rw (next, still) (picked-on (given cells words state order course) allowed (l .leads state allowed a₀) walks on is others);
+    shorter =
+        let more : m′ .work ≡ m .work + 1 = ap (λ (n : State). n .work) is ∙ issued-work cells words m (p .slot) in
+        let x = goes {m = m} {p = p} walks in
+        omega (arith, l .shorter, x .picks-left);
+  }
+
+-- an instruction was carried out on small values, and the state does not have it yet
+pub record Stopped (cells : List ℕ) (words : List ℤ) (m : State) (p : Position) (e : Executed) : Type 0 where
+  pub walks : Walks m p
+  pub runs-there : running (at m (p .slot)) ≡ true
+  pub x : Instruction
+  pub s : Value
+  pub v : Value
+  pub fetched : Fetched cells words m (p .slot) x s v e
+  pub stops-it : runsOn (e .kind) ≡ false

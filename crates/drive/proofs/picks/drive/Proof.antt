@@ -1,0 +1,1143 @@
+-- `drive` meets its contract: at the loop's head the course stands where the state is, whichever course it is. What each turn does is in
+-- `proofs/Planning.antt`, a statement for each kind; here the code's places are tied to it.
+use mathlib.Core.Path.{_≡_, refl, sym, ap, ap₂, _∙_, subst⁻¹}
+use mathlib.Core.Logic.{_⊎_, inl, inr}
+use mathlib.Core.Bool.{Bool, true, false, cond, not, _&&_}
+use mathlib.Core.List.{List}
+use Prim.Native.Nat.{ℕ, _+_, _-_, _*_, _/_, _%_, _<_, _≤_}
+use lib.Dec.{ltb}
+use lib.ListN.{length, getD, set, length-set}
+use lib.Seq.{getD-set-other}
+use borrow.Author.Tests.{ltb-true, lt-ltb, le-ltb, not-true, not-false}
+use borrow.Author.Needs.{needs}
+use native.Mathlib.Omega.{arith}
+use Rattle.facts.proofs.Tests.{clash, both-true}
+use Rattle.image.specs.declared.Instruction.{Instruction}
+use Rattle.image.specs.Layout.{programOf}
+use Rattle.agreement.specs.Slots.{due}
+use Rattle.task.specs.declared.Executed.{Executed}
+use Rattle.task.specs.declared.Register.{Register}
+use Rattle.task.specs.declared.Task.{Task}
+use Rattle.task.specs.declared.Value.{Value}
+use Rattle.task.specs.Frames.{running, isRunning, noTask, zeros, zeroRegister, workLimit}
+use Rattle.task.specs.Step.{copied, movedTo}
+use Rattle.task.proofs.Copying.{copies-first, copies-none}
+use Rattle.task.proofs.Executing.{after}
+use Rattle.task.proofs.Sizes.{length-by}
+use Rattle.task.proofs.StretchLaws.{length-reads}
+use Rattle.drive.specs.declared.State.{State}
+use Rattle.turns.specs.declared.moves.Moves.{Moves}
+use Rattle.turns.specs.declared.course.Stretch.{Stretch}
+use Rattle.drive.specs.Slots.{at, Sized, ticked, slotsOf}
+use Rattle.drive.specs.Issue.{issued}
+use Rattle.turns.specs.Walk.{slotAfter, width}
+use Rattle.turns.specs.Moving.{forkMoves}
+use Rattle.drive.proofs.Copying.{filling}
+use Rattle.drive.proofs.InPlace.{withTaskAt, storedAt}
+use Rattle.drive.proofs.Intervals.{interval-fits}
+use Rattle.drive.proofs.Issuing.{Fetched, stores-issued, goes-issued}
+use Rattle.drive.proofs.Moving.{filling-none, filling-all, zero-next, copy-next, placed, placed-none, placed-next}
+use Rattle.drive.proofs.PlanLaws.{pairedAt, clearedAt, copiedAt, moved}
+use Rattle.drive.proofs.Planning.{ahead, Planned, then-less, then-grows, less-with, planned-below, planned-as, join-planned, end-planned, fork-room, fork-planned, next-at, next-ends, next-less}
+use Rattle.drive.proofs.Positions.{Position, to, Walks, Goes, goes, Comes}
+use Rattle.drive.proofs.Readiness.{its-instruction, s-small, r-small, label-small, left-read, right-read, ready}
+use Rattle.drive.proofs.SettleLaws.{sides-decide, without-room}
+use Rattle.drive.proofs.SettleSafety.{due-joinable, fits-safe}
+use Rattle.drive.proofs.ShapeLaws.{shape-allowed, shape-fits}
+use Rattle.drive.proofs.Owning.{own-allowed, own-fits, places-most}
+use Rattle.drive.proofs.Covering.{width-inside, width-some}
+use Rattle.drive.proofs.Turning.{Turns, none-due, at-head, stops, Leads, leads-by, leads-on, Stopped}
+use Rattle.drive.proofs.Walking.{Given, given, GivenAllowed, result, mostStretches, At, at-first, tile, gone-by, picked-on, comes-next, rise-is}
+use Rattle.drive.proofs.picks.drive.Statement.{statement}
+use Rattle.drive.proofs.picks.drive.Tie as tie
+
+abbrev place : ℕ → ℕ → ℕ → ℕ → ℕ → Position
+place slot gone until reach begun = record { slot = slot; gone = gone; until = until; reach = reach; begun = begun }
+
+-- ---- invariants and measures: the walk (2), pairs (3), registers cleared (4) and copied (5), and the turns
+
+abbrev Inv-loop2 : tie.InvT-loop2
+Inv-loop2 cells words order course m₀ first begun until reach k₀ gone₀ due side over stopped₀ e₀ m k gone stopped e =
+    Leads cells words order course m₀ (place k₀ gone₀ until reach begun) m (place k gone until reach begun)
+    × (stopped ≡ true → Stopped cells words m (place k gone until reach begun) e)
+
+abbrev μ-loop2 : tie.MeasureT-loop2
+μ-loop2 cells words order course m₀ first begun until reach k₀ gone₀ due side over stopped₀ e₀ m k gone stopped e =
+    2 * (65 * (until - m .work) + (reach - gone)) + cond stopped 0 1
+
+abbrev Inv-loop3 : tie.InvT-loop3
+Inv-loop3 cells words order course m₀ first begun until reach k gone due side over plan from to pairs₀ packed₀ m pairs packed =
+    (pairs ≤ pairs₀) × (l : List Register) × (length l ≡ 16) × (m ≡ placed m₀ to l)
+    × (copied (at m₀ from .registers) pairs₀ packed₀ (at m₀ to .registers) ≡ copied (at m₀ from .registers) pairs packed l)
+
+abbrev μ-loop3 : tie.MeasureT-loop3
+μ-loop3 cells words order course m₀ first begun until reach k gone due side over plan from to pairs₀ packed₀ m pairs packed = pairs
+
+abbrev Inv-loop4 : tie.InvT-loop4
+Inv-loop4 cells words order course m₀ first begun until reach k gone due side over plan from to pairs packed i₀ m i =
+    (i ≤ 16) × (m ≡ filling m₀ from zeros i)
+
+abbrev μ-loop4 : tie.MeasureT-loop4
+μ-loop4 cells words order course m₀ first begun until reach k gone due side over plan from to pairs packed i₀ m i = 16 - i
+
+abbrev Inv-loop5 : tie.InvT-loop5
+Inv-loop5 cells words order course m₀ first begun until reach k gone due side over from to pairs packed i₀ m i =
+    (i ≤ 16) × (m ≡ filling m₀ to (at m₀ from .registers) i)
+
+abbrev μ-loop5 : tie.MeasureT-loop5
+μ-loop5 cells words order course m₀ first begun until reach k gone due side over from to pairs packed i₀ m i = 16 - i
+
+abbrev Inv-loop : tie.InvT-loop
+Inv-loop cells words order course m₀ first begun₀ until₀ reach₀ k₀ gone₀ due₀ side₀ over₀ m begun until reach k gone due side over =
+    (over ≡ false → Turns (given cells words m₀ order course) m (place k gone until reach begun) due side)
+    × (over ≡ true → result (given cells words m₀ order course) ≡ record { state = m; picks = m .work - m₀ .work })
+    × (m₀ .work ≤ m .work)
+    × (m .work ≤ workLimit)
+
+abbrev μ-loop : tie.MeasureT-loop
+μ-loop cells words order course m₀ first begun₀ until₀ reach₀ k₀ gone₀ due₀ side₀ over₀ m begun until reach k gone due side over =
+    ahead (given cells words m₀ order course) m (place k gone until reach begun) due + cond over 0 1
+
+-- what a place of the code, or a fact that it needs, is with these
+abbrev Here : (tie.InvT-loop2 → tie.MeasureT-loop2 → tie.InvT-loop3 → tie.MeasureT-loop3 → tie.InvT-loop4 → tie.MeasureT-loop4 → tie.InvT-loop5
+    → tie.MeasureT-loop5 → tie.InvT-loop → tie.MeasureT-loop → Type 0) → Type 0
+Here need = need Inv-loop2 μ-loop2 Inv-loop3 μ-loop3 Inv-loop4 μ-loop4 Inv-loop5 μ-loop5 Inv-loop μ-loop
+
+-- ---- the loop's head
+
+abbrev Head : Type 0
+Head = Here tie.At-loop
+
+abbrev start-of : Head → Here tie.Start
+start-of c = c .before .before .before
+
+abbrev given-of : Head → Given
+given-of c =
+    given (start-of c .args .cells .now) (start-of c .args .words .now) (start-of c .args .state) (start-of c .args .order .now) (start-of c .args .course)
+
+allowed-of : (c : Head) → GivenAllowed (given-of c)
+allowed-of c = shape-allowed (start-of c .args .cells .now) (start-of c .args .state) (start-of c .pre .0) (start-of c .pre .2)
+
+-- a turn begins there
+abbrev Turn : Type 0
+Turn = Here tie.After-no-moves
+
+abbrev head-of : Turn → Head
+head-of c = c .before .before
+
+abbrev place-of : Turn → Position
+place-of c = let l = head-of c .loop in place (l .k) (l .gone) (l .until) (l .reach) (l .begun)
+
+going-on : (c : Turn) → head-of c .loop .over ≡ false
+going-on c = not-true (head-of c .loop .over) (c .before .loop-test .taken)
+
+one-more : (c : Turn) → _≡_ {A = ℕ} (cond (head-of c .loop .over) 0 1) 1
+one-more c = rw (going-on c)
+
+turns-at : (c : Turn) → Turns (given-of (head-of c)) (head-of c .loop .m) (place-of c) (head-of c .loop .due) (head-of c .loop .side)
+turns-at c = head-of c .loop .inv .0 (going-on c)
+
+-- ---- a look at a join
+
+abbrev Joining : Type 0
+Joining = Here tie.Else2
+
+abbrev turn-j : Joining → Turn
+turn-j c = c .before .before .before .before .before
+
+abbrev m-j : Joining → State
+m-j c = head-of (turn-j c) .loop .m
+
+abbrev q-of : Joining → ℕ
+q-of c = c .before .before .first-slot .result
+
+abbrev w-of : Joining → ℕ
+w-of c = at (m-j c) (head-of (turn-j c) .loop .side) .task .places
+
+inside : (c : Joining) → (0 < w-of c) × (q-of c + w-of c < 64)
+inside c =
+    let h = both-true (ltb 0 (w-of c)) (ltb (q-of c + w-of c) 64) (sym (c .before .has-room .ensures) ∙ not-false (c .before .has-room .result) (c .if2 .left)) in
+    (ltb-true 0 (w-of c) (h .0), ltb-true (q-of c + w-of c) 64 (h .1))
+
+-- what the two sides say of it
+abbrev Asked : Type 0
+Asked = Here tie.After-both-ended
+
+abbrev joining : Asked → Joining
+joining c = c .before .before .before
+
+abbrev Due : Joining → Bool → Type 0
+Due c b = due (slotsOf (programOf (given-of (head-of (turn-j c)) .cells))) (m-j c) (q-of c) (w-of c) (head-of (turn-j c) .loop .due) ≡ b
+
+sides : (c : Asked) → Due (joining c) (c .both-ended .result)
+sides c =
+    let j = joining c in
+    sides-decide (given-of (head-of (turn-j j)) .cells) (m-j j) (q-of j) (w-of j) (head-of (turn-j j) .loop .due) (inside j .0) (inside j .1)
+    ∙ sym (c .both-ended .ensures)
+
+-- ---- a walk
+
+abbrev Walk : Type 0
+Walk = Here tie.At-loop2
+
+abbrev turn-w : Walk → Turn
+turn-w c = c .before .before .before
+
+abbrev place-w : Walk → Position
+place-w c = let l = head-of (turn-w c) .loop in place (c .loop2 .k) (c .loop2 .gone) (l .until) (l .reach) (l .begun)
+
+none-due-w : (c : Walk) → head-of (turn-w c) .loop .due ≡ 0
+none-due-w c = omega (arith, c .before .before .if1 .left)
+
+at-w : (c : Walk) → At (given-of (head-of (turn-w c))) (c .loop2 .m) (place-w c)
+at-w c =
+    let h = head-of (turn-w c) in
+    c .loop2 .inv .0 .leads (start-of h .args .state) (allowed-of h)
+    (at-head (given-of h) (allowed-of h) (turns-at (turn-w c)) (none-due-w c))
+
+few-places : (c : Walk) → c .loop2 .m .places ≤ 64
+few-places c =
+    let h = head-of (turn-w c) in
+    omega (arith, at-w c .fits .its-places, places-most (start-of h .args .state .places) (allowed-of h .places-allowed))
+
+slot-inside : (c : Walk) → c .loop2 .k < 64
+slot-inside c = omega (arith, at-w c .slot-below, few-places c)
+
+-- its places at most
+width-few : (c : Walk) → width (at (c .loop2 .m) (c .loop2 .k) .task .places) ≤ 64
+width-few c =
+    let w = width-inside (allowed-of (head-of (turn-w c))) (c .loop2 .m) (at-w c .fits) (c .loop2 .k) (at-w c .slot-below) in
+    omega (arith, few-places c)
+
+-- ---- a look
+
+abbrev Look : Type 0
+Look = Here tie.Then4
+
+abbrev walk-of : Look → Walk
+walk-of c = c .before .before
+
+tests : (c : Look) → (not (walk-of c .loop2 .stopped) ≡ true) × Walks (walk-of c .loop2 .m) (place-w (walk-of c))
+tests c = both-true (not (walk-of c .loop2 .stopped)) _ (sym (c .before .walks-on .ensures) ∙ c .if4 .taken)
+
+not-stopped : (c : Look) → walk-of c .loop2 .stopped ≡ false
+not-stopped c = not-true (walk-of c .loop2 .stopped) (tests c .0)
+
+goes-at : (c : Look) → Goes (walk-of c .loop2 .m) (place-w (walk-of c))
+goes-at c = goes {m = walk-of c .loop2 .m} {p = place-w (walk-of c)} (tests c .1)
+
+-- at a running task
+abbrev Runs : Type 0
+Runs = Here tie.Then5
+
+abbrev look-of : Runs → Look
+look-of c = c .before .before .before
+
+abbrev walk-r : Runs → Walk
+walk-r c = walk-of (look-of c)
+
+runs-at : (c : Runs) → running (at (walk-r c .loop2 .m) (walk-r c .loop2 .k)) ≡ true
+runs-at c = sym (c .before .is-running .ensures) ∙ c .if5 .taken
+
+room-at : (c : Runs) → walk-r c .loop2 .m .work < workLimit
+room-at c = omega (arith, goes-at (look-of c) .picks-left, at-w (walk-r c) .until-most)
+
+span-at : (c : Runs) → at (walk-r c .loop2 .m) (walk-r c .loop2 .k) .task .span < workLimit
+span-at c = omega (arith, room-at c, at-w (walk-r c) .fits .counts (walk-r c .loop2 .k) .span-most)
+
+-- its instruction, carried out on small values
+abbrev Done : Type 0
+Done = Here tie.After-execute
+
+abbrev runs-of : Done → Runs
+runs-of c = c .before .before .before .before .before .before .before .before
+
+abbrev walk-d : Done → Walk
+walk-d c = walk-r (runs-of c)
+
+abbrev x-of : Done → Instruction
+x-of c = c .before .before .before .before .before .instruction-of .result
+
+abbrev s-of : Done → Value
+s-of c = getD (walk-d c .loop2 .m .bank) (16 * walk-d c .loop2 .k + x-of c .s) zeroRegister .value
+
+fetched-at : (c : Done) → let w = walk-d c in
+    let g = given-of (head-of (turn-w w)) in
+    Fetched (g .cells) (g .words) (w .loop2 .m) (w .loop2 .k) (x-of c) (s-of c) (c .before .operand .result) (c .execute .result)
+fetched-at c =
+    let w = walk-d c in
+    let h = head-of (turn-w w) in
+    let on = runs-at (runs-of c) in
+    let p = c .before .before .before .before .before .instruction-of .ensures in
+    let words = given-of h .words in
+    let below : w .loop2 .k < start-of h .args .state .places = omega (arith, at-w w .slot-below, at-w w .fits .its-places) in
+    record {
+      instruction = p;
+      left-value = left-read (allowed-of h) words (at-w w .fits) below on (x-of c) p;
+      right-value = right-read (allowed-of h) words (at-w w .fits) below on (x-of c) p (c .before .operand .result) (c .before .operand .ensures);
+      outcome = c .execute .ensures;
+    }
+
+-- ---- registers of the task
+
+below-g : (c : Walk) → c .loop2 .k < start-of (head-of (turn-w c)) .args .state .places
+below-g c = omega (arith, at-w c .slot-below, at-w c .fits .its-places)
+
+abbrev Fetching : Type 0
+Fetching = Here tie.After-instruction-of
+
+abbrev walk-f : Fetching → Walk
+walk-f c = walk-r (c .before .before .before)
+
+s-inside : (c : Fetching) → c .instruction-of .result .s ≤ 15
+s-inside c =
+    let w = walk-f c in
+    let h = head-of (turn-w w) in
+    s-small (allowed-of h) (given-of h .words) (at-w w .fits) (below-g w) (runs-at (c .before .before .before)) (c .instruction-of .result) (c .instruction-of .ensures)
+
+r-inside : (c : Fetching) → c .instruction-of .result .r ≤ 15
+r-inside c =
+    let w = walk-f c in
+    let h = head-of (turn-w w) in
+    r-small (allowed-of h) (given-of h .words) (at-w w .fits) (below-g w) (runs-at (c .before .before .before)) (c .instruction-of .result) (c .instruction-of .ensures)
+
+-- ---- the task runs on
+
+abbrev Ran : Type 0
+Ran = Here tie.Joined7
+
+abbrev done-r : Ran → Done
+done-r c = c .before .before .before .before .before
+
+abbrev walk-n : Ran → Walk
+walk-n c = walk-d (done-r c)
+
+-- the state with the instruction's record, and its register where it stores one
+abbrev ran-state : Ran → State
+ran-state c = ticked (c .if7 .m)
+
+ran-record : (c : Ran) → c .before .before .ran-on .result ≡ after (done-r c .execute .result) (at (walk-n c .loop2 .m) (walk-n c .loop2 .k) .task)
+ran-record c = c .before .before .ran-on .ensures
+
+ran-issued : (c : Ran) → let g = given-of (head-of (turn-w (walk-n c))) in ran-state c ≡ issued (g .cells) (g .words) (walk-n c .loop2 .m) (walk-n c .loop2 .k)
+ran-issued c =
+    let w = walk-n c in
+    let m = w .loop2 .m in
+    let k = w .loop2 .k in
+    let allowed = own-allowed (at-w w .fits) (allowed-of (head-of (turn-w w))) in
+    let fits = own-fits (at-w w .fits) in
+    let on = runs-at (runs-of (done-r c)) in
+    let got = fetched-at (done-r c) in
+    let r = x-of (done-r c) .r in
+    let runs-on = sym (c .before .before .before .before .runs-on .ensures) ∙ c .before .before .before .if6 .taken in
+    elim (c .if7 .came) [
+      | inl t ↦
+          let stores = sym (c .before .does-store .ensures) ∙ t .0 .taken in
+          ap ticked (t .2) ∙ ap (λ (o : Task). ticked (storedAt m k o r (t .1 .result))) (ran-record c)
+          ∙ stores-issued allowed fits (at-w w .slot-below) on got stores (omega (arith, r-inside (done-r c .before .before .before .before .before))) (t .1 .ensures)
+      | inr t ↦
+          let stores-not = sym (c .before .does-store .ensures) ∙ t .0 .left in
+          ap ticked (t .1) ∙ ap (λ (o : Task). ticked (withTaskAt m k o)) (ran-record c)
+          ∙ goes-issued allowed fits (at-w w .slot-below) on got runs-on stores-not
+    ]
+
+ran-tasks : (c : Ran) → c .if7 .m .tasks ≡ set (walk-n c .loop2 .m .tasks) (walk-n c .loop2 .k) (c .before .before .ran-on .result)
+ran-tasks c = elim (c .if7 .came) [ inl t ↦ ap (λ (n : State). n .tasks) (t .2) | inr t ↦ ap (λ (n : State). n .tasks) (t .1) ]
+
+ran-work : (c : Ran) → c .if7 .m .work ≡ walk-n c .loop2 .m .work
+ran-work c = elim (c .if7 .came) [ inl t ↦ ap (λ (n : State). n .work) (t .2) | inr t ↦ ap (λ (n : State). n .work) (t .1) ]
+
+ran-places : (c : Ran) → c .if7 .m .places ≡ walk-n c .loop2 .m .places
+ran-places c = elim (c .if7 .came) [ inl t ↦ ap (λ (n : State). n .places) (t .2) | inr t ↦ ap (λ (n : State). n .places) (t .1) ]
+
+-- the slot looked at next
+ran-next : (c : Here tie.After-slot-after) → let w = walk-n (c .before) in
+    c .slot-after .result ≡ slotAfter (w .loop2 .m .places) (place-w w .reach) (w .loop2 .gone) (w .loop2 .k) (at (w .loop2 .m) (w .loop2 .k) .task .places)
+ran-next c =
+    let w = walk-n (c .before) in
+    c .slot-after .ensures
+    ∙ ap (λ (n : ℕ). slotAfter n (place-w w .reach) (w .loop2 .gone) (w .loop2 .k) (at (w .loop2 .m) (w .loop2 .k) .task .places)) (ran-places (c .before))
+
+-- the other slots are as they were
+ran-others : (c : Ran) (i : ℕ) → (i ≡ walk-n c .loop2 .k → ⊥) → running (at (ran-state c) i) ≡ running (at (walk-n c .loop2 .m) i)
+ran-others c i other =
+    ap (λ (l : List Task). isRunning (getD l i noTask .status)) (ran-tasks c)
+    ∙ ap (λ (t : Task). isRunning (t .status)) (getD-set-other (walk-n c .loop2 .m .tasks) (walk-n c .loop2 .k) i _ noTask other)
+
+ran-few : (c : Ran) → at (walk-n c .loop2 .m) (walk-n c .loop2 .k) .task .places ≤ 64
+ran-few c =
+    let w = walk-n c in
+    let h = head-of (turn-w w) in
+    omega (arith, tile (given-of h) (allowed-of h) (at-w w) (runs-at (runs-of (done-r c))) .inside, few-places w)
+
+ran-gone : (c : Ran) → walk-n c .loop2 .gone ≤ 64
+ran-gone c = omega (arith, goes-at (look-of (runs-of (done-r c))) .places-left, at-w (walk-n c) .reach-most)
+
+-- ---- the walk is over
+
+rests-there : (b t : Bool) → b ≡ false → (not b && t) ≡ false → t ≡ false
+rests-there b t e h = rw e at h
+
+abbrev Asking : Type 0
+Asking = Here tie.After-next-stretch
+
+abbrev ComesAt : Walk → Stretch → Type 0
+ComesAt w s =
+    let g = given-of (head-of (turn-w w)) in
+    let b = head-of (turn-w w) .loop .begun in
+    Comes (result g) (w .loop2 .m) (at-w w .picks) b (mostStretches (g .course) (g .order)) (λ q. At g (w .loop2 .m) q) s
+
+comes-at : (c : Asking) → ComesAt (c .before .before .before .before) (c .next-stretch .result)
+comes-at c =
+    let w = c .before .before .before .before in
+    let h = head-of (turn-w w) in
+    let rest = rests-there (w .loop2 .stopped) _ (not-true (w .loop2 .stopped) (c .before .if8 .taken)) (sym (c .before .before .before .walks-on .ensures) ∙ c .before .before .if4 .left) in
+    subst⁻¹ (ComesAt w) (c .next-stretch .ensures) (comes-next (given-of h) (allowed-of h) (at-w w) rest)
+
+-- ---- the pick that stopped a walk
+
+abbrev Halting : Type 0
+Halting = Here tie.Else8
+
+abbrev walk-h : Halting → Walk
+walk-h c = c .before .before .before
+
+stopped-at : (c : Halting) → let w = walk-h c in
+    Stopped (given-of (head-of (turn-w w)) .cells) (given-of (head-of (turn-w w)) .words) (w .loop2 .m) (place-w w) (w .loop2 .e)
+stopped-at c = walk-h c .loop2 .inv .1 (not-false (walk-h c .loop2 .stopped) (c .if8 .left))
+
+halt-room : (c : Halting) → walk-h c .loop2 .m .work < workLimit
+halt-room c =
+    let w = walk-h c in
+    omega (arith, goes {m = w .loop2 .m} {p = place-w w} (stopped-at c .walks) .picks-left, at-w w .until-most)
+
+halt-span : (c : Halting) → at (walk-h c .loop2 .m) (walk-h c .loop2 .k) .task .span < workLimit
+halt-span c = omega (arith, halt-room c, at-w (walk-h c) .fits .counts (walk-h c .loop2 .k) .span-most)
+
+-- a fork: the child's slot is in the state
+abbrev Forking : Type 0
+Forking = Here tie.After-known-told
+
+fork-at : (c : Forking) → let w = walk-h (c .before .before .before .before) in
+    let places = at (w .loop2 .m) (w .loop2 .k) .task .places in
+    (0 < places / 2) × (w .loop2 .k + places / 2 < w .loop2 .m .places) × (at (w .loop2 .m) (w .loop2 .k) .task .depth < 6)
+fork-at c =
+    let w = walk-h (c .before .before .before .before) in
+    let h = head-of (turn-w w) in
+    fork-room (given-of h) (allowed-of h) (at-w w) (stopped-at (c .before .before .before .before)) (c .before .kind .given .0 .0) (c .before .kind .given .1)
+
+-- both sides' slots, and their numbers
+fork-slots : (c : Forking) → let w = walk-h (c .before .before .before .before) in
+    let t = at (w .loop2 .m) (w .loop2 .k) .task in
+    (w .loop2 .k + t .places / 2 < 64) × (t .depth < 6) × (w .loop2 .k < 64)
+fork-slots c =
+    let f = fork-at c in
+    let w = walk-h (c .before .before .before .before) in
+    (omega (arith, f .1, few-places w), f .2, slot-inside w)
+
+-- ---- what a turn has planned
+
+abbrev tasksWith : State → ℕ → ℕ → Task → Task → State
+tasksWith m q c v t = record { places = m .places; interval = m .interval; work = m .work; bank = m .bank; tasks = set (set (m .tasks) c v) q t }
+
+abbrev Moving : Type 0
+Moving = Here tie.Joined1
+
+abbrev sidesWritten : State → ℕ → Task → Task → State
+sidesWritten m k p q =
+    record { places = m .places; interval = m .interval; work = m .work + 1; bank = m .bank; tasks = set (set (m .tasks) k p) (k + p .places) q }
+
+planned-at : (c : Moving) → let h = head-of (c .before) in
+    Planned (given-of h) (ahead (given-of h) (h .loop .m) (place-of (c .before)) (h .loop .due)) (c .if1 .m) (c .if1 .plan)
+    (place (c .if1 .k) (c .if1 .gone) (h .loop .until) (h .loop .reach) (h .loop .begun)) (c .if1 .due) (c .if1 .side)
+planned-at c = elim (c .if1 .came) [
+  | inl t ↦
+      let j : Joining = record {
+        before = record {
+          before = record { before = record { before = record { before = c .before; if1 = t .0 }; own = t .1 }; first-slot = t .2 };
+          has-room = t .3;
+        };
+        if2 = t .4;
+      } in
+      let a : Asked = record { before = record { before = record { before = j; parent = t .5 }; child = t .6 }; both-ended = t .7 } in
+      let h = head-of (c .before) in
+      let m = h .loop .m in
+      let written = t .13 ∙ ap (λ (v : Task). tasksWith m (q-of j) (q-of j + w-of j) v (t .9 .result .task)) (t .11 .ensures) in
+      planned-as (place-of (c .before)) (t .14) (t .15) (t .16) (t .17)
+      (join-planned (given-of h) (allowed-of h) (turns-at (c .before)) (q-of j) (w-of j) (t .0 .taken) refl (t .2 .ensures .0)
+      (sides a ∙ not-false (t .7 .result) (t .8 .left)) (inside j .0) (inside j .1) (t .9 .ensures) (h .loop .inv .2, h .loop .inv .3) written (t .18 ∙ t .12 .ensures))
+  | inr s ↦ elim s [
+    | inl t ↦
+        let w : Walk = record { before = record { before = record { before = c .before; if1 = t .0 }; go = t .1 }; loop2 = t .2 } in
+        let x : Halting = record { before = record { before = record { before = w; walks-on = t .3 }; if4 = t .4 }; if8 = t .5 } in
+        let h = head-of (c .before) in
+        let m = w .loop2 .m in
+        let k = w .loop2 .k in
+        let pc = t .8 .given .0 .0 in
+        let parent = t .11 .ensures in
+        let written = t .14 ∙ ap₂ (λ (p q : Task). sidesWritten m k p q) parent (t .12 .ensures ∙ ap (movedTo pc 0) parent) in
+        let child = ap (λ (p : Task). k + p .places) parent in
+        planned-as (place-w w) (t .15 ∙ child) (t .16) (t .17 ∙ none-due-w w) (t .18)
+        (planned-below (omega (arith, w .loop2 .inv .0 .shorter, none-due-w w))
+        (fork-planned (given-of h) (allowed-of h) (at-w w) (stopped-at x) pc (t .8 .given .1) (t .10 .ensures) written
+        (t .19 ∙ t .13 .ensures ∙ ap (forkMoves k) child) (h .loop .side) (turns-at (c .before) .side-below)))
+    | inr t ↦
+        let w : Walk = record { before = record { before = record { before = c .before; if1 = t .0 }; go = t .1 }; loop2 = t .2 } in
+        let x : Halting = record { before = record { before = record { before = w; walks-on = t .3 }; if4 = t .4 }; if8 = t .5 } in
+        let h = head-of (c .before) in
+        planned-as (place-w w) (t .12 ∙ t .10 .ensures) (t .13) (t .14) (t .15)
+        (planned-below (omega (arith, w .loop2 .inv .0 .shorter, none-due-w w))
+        (end-planned (given-of h) (allowed-of h) (at-w w) (stopped-at x) (t .7 .keys2) (t .8 .ensures) (t .11) (t .16 ∙ t .9 .ensures)))
+  ]
+]
+
+-- ---- the moves made
+
+abbrev Cleared : Type 0
+Cleared = Here tie.Joined9
+
+paired-at : (c : Cleared) → c .before .before .before .loop3 .m ≡ pairedAt (c .before .before .before .before .if1 .plan) (c .before .before .before .before .if1 .m)
+paired-at c =
+    let i = c .before .before .before .loop3 .inv in
+    let l = c .before .before .before .loop3 in
+    let j = c .before .before .before .before .if1 in
+    i .3 ∙ ap (placed (j .m) (j .plan .to)) (sym (i .4 ∙ copies-none _ (l .pairs) (l .packed) (i .1) (c .before .before .loop3-test .left)))
+
+cleared-at : (c : Cleared) → let j = c .before .before .before .before .if1 in c .if9 .m ≡ clearedAt (j .plan) (pairedAt (j .plan) (j .m))
+cleared-at c =
+    let plan = c .before .before .before .before .if1 .plan in
+    let m₂ = c .before .before .before .loop3 .m in
+    elim (c .if9 .came) [
+      | inl t ↦ t .3 ∙ filling-all m₂ (plan .from) zeros (t .1 .i) (t .1 .inv .0) (t .2 .left) (t .1 .inv .1)
+          ∙ sym (ap (λ (b : Bool). cond b (filling m₂ (plan .from) zeros 16) m₂) (lt-ltb 0 (plan .clears) (t .0 .taken)))
+          ∙ ap (clearedAt plan) (paired-at c)
+      | inr t ↦ t .1 ∙ sym (ap (λ (b : Bool). cond b (filling m₂ (plan .from) zeros 16) m₂) (le-ltb 0 (plan .clears) (t .0 .left)))
+          ∙ ap (clearedAt plan) (paired-at c)
+    ]
+
+copied-on : (c : Here tie.After-loop5) → let j = c .before .before .before .before .before .before .before .before .if1 in c .before .loop5 .m ≡ moved (j .plan) (j .m)
+copied-on c =
+    let plan = c .before .before .before .before .before .before .before .before .if1 .plan in
+    let i = c .before .loop5 .inv in
+    let m₃ = c .before .before .before .before .if9 .m in
+    filling-all m₃ (plan .to) _ (c .before .loop5 .i) (i .0) (c .loop5-test .left) (i .1)
+    ∙ sym (ap (λ (b : Bool). cond b (filling m₃ (plan .to) (at m₃ (plan .from) .registers) 16) m₃) (lt-ltb 0 (plan .whole) (c .before .before .if10 .taken)))
+    ∙ ap (copiedAt plan) (cleared-at (c .before .before .before .before))
+
+copied-not : (c : Here tie.Else10) → let j = c .before .before .before .before .before .before .if1 in c .before .before .if9 .m ≡ moved (j .plan) (j .m)
+copied-not c =
+    let plan = c .before .before .before .before .before .before .if1 .plan in
+    let m₃ = c .before .before .if9 .m in
+    sym (ap (λ (b : Bool). cond b (filling m₃ (plan .to) (at m₃ (plan .from) .registers) 16) m₃) (le-ltb 0 (plan .whole) (c .if10 .left)))
+    ∙ ap (copiedAt plan) (cleared-at (c .before .before))
+
+-- ---- what the code needs at its places
+
+loop-holds : Here tie.Need-loop-holds
+loop-holds c =
+    let a = c .before .before .args in
+    let g = given (a .cells .now) (a .words .now) (a .state) (a .order .now) (a .course) in
+    let sized : Sized (a .state) = record { of-bank = search (needs, length-by); of-tasks = search (needs, length-by) } in
+    let allowed = shape-allowed (a .cells .now) (a .state) (c .before .before .pre .0) (c .before .before .pre .2) in
+    let fits = shape-fits (a .cells .now) (a .state) sized (c .before .before .pre .2) in
+    let few : a .state .work ≤ workLimit = search needs in (
+      λ z. none-due g allowed 0 0 refl (omega arith)
+          (at-first g fits allowed (c .before .before .pre .3) (place 0 0 (a .state .work) 0 0) refl refl refl few refl),
+      λ e. clash e refl,
+      omega arith,
+      few,
+    )
+
+mul-own : Here tie.Need-mul-own
+mul-own c = omega (arith, turns-at (c .before) .side-below)
+
+element-copy-out-own : Here tie.Need-element-copy-out-own
+element-copy-out-own c = omega (arith, turns-at (c .before) .side-below)
+
+first-slot-requires : Here tie.Need-first-slot-requires
+first-slot-requires c κs = turns-at (c .before .before) .side-below
+
+has-room-requires : Here tie.Need-has-room-requires
+has-room-requires c κs = omega (arith, c .first-slot .ensures .1, turns-at (c .before .before .before) .side-below)
+
+loop-less : Here tie.Need-loop-less
+loop-less c = omega (arith, c .before .before .before .before .if1 .taken)
+
+loop-again : Here tie.Need-loop-again
+loop-again c =
+    let t = c .before .before .before .before .before in
+    let h = head-of t in
+    let w = at (h .loop .m) (h .loop .side) .task .places in
+    let l = c .before .before in
+    let none = without-room (given-of h .cells) (h .loop .m) (l .first-slot .result) w (h .loop .due)
+    (sym (c .before .has-room .ensures) ∙ not-true (c .before .has-room .result) (c .if2 .taken)) in (
+      λ z. stops (given-of h) (allowed-of h) (turns-at t) (l .first-slot .result) _ (l .before .before .if1 .taken) refl (l .first-slot .ensures .0) none,
+      λ e. clash e (going-on t),
+      h .loop .inv .2,
+      h .loop .inv .3,
+    )
+
+add-c : Here tie.Need-add-c
+add-c c = omega (arith, inside c)
+
+mul-parent : Here tie.Need-mul-parent
+mul-parent c = omega (arith, inside c)
+
+element-copy-out-parent : Here tie.Need-element-copy-out-parent
+element-copy-out-parent c = omega (arith, inside c)
+
+mul-child : Here tie.Need-mul-child
+mul-child c = omega (arith, inside (c .before))
+
+element-copy-out-child : Here tie.Need-element-copy-out-child
+element-copy-out-child c = omega (arith, inside (c .before))
+
+loop-less-2 : Here tie.Need-loop-less-2
+loop-less-2 c = omega (arith, c .before .before .before .before .before .before .before .before .if1 .taken)
+
+loop-again-2 : Here tie.Need-loop-again-2
+loop-again-2 c =
+    let j = c .before .before .before .before in
+    let l = j .before .before in
+    let t = j .before .before .before .before .before in
+    let h = head-of t in
+    let none = sides (c .before) ∙ not-true (c .before .both-ended .result) (c .if3 .taken) in (
+      λ z. stops (given-of h) (allowed-of h) (turns-at t) (q-of j) _ (l .before .before .if1 .taken) refl (l .first-slot .ensures .0) none,
+      λ e. clash e (going-on t),
+      h .loop .inv .2,
+      h .loop .inv .3,
+    )
+
+joined-requires : Here tie.Need-joined-requires
+joined-requires c κs =
+    let j = c .before .before .before .before in
+    let h = head-of (turn-j j) in
+    due-joinable (given-of h .cells) (h .loop .m) (q-of j) (w-of j) (h .loop .due) (start-of h .pre .0) (turns-at (turn-j j) .safe)
+    (j .before .before .before .before .if1 .taken) (sides (c .before) ∙ not-false (c .before .both-ended .result) (c .if3 .left))
+
+mul-t63 : Here tie.Need-mul-t63
+mul-t63 c = omega (arith, inside (c .before .before .before .before .before .before .before))
+
+element-set-from-m : Here tie.Need-element-set-from-m
+element-set-from-m c = omega (arith, inside (c .before .before .before .before .before .before .before))
+
+mul-whole : Here tie.Need-mul-whole
+mul-whole c = omega (arith, inside (c .before .before .before .before .before .before .before))
+
+element-set-from-whole : Here tie.Need-element-set-from-whole
+element-set-from-whole c = omega (arith, inside (c .before .before .before .before .before .before .before))
+
+sub-due : Here tie.Need-sub-due
+sub-due c = omega (arith, c .before .before .before .before .before .before .before .before .before .before .before .before .if1 .taken)
+
+loop2-holds : Here tie.Need-loop2-holds
+loop2-holds c = (record { leads = λ state a h. h; shorter = omega arith }, λ e. clash e refl)
+
+mul-record : Here tie.Need-mul-record
+mul-record c = omega (arith, slot-inside (walk-of c))
+
+element-copy-out-record : Here tie.Need-element-copy-out-record
+element-copy-out-record c = omega (arith, slot-inside (walk-of c))
+
+instruction-of-requires : Here tie.Need-instruction-of-requires
+instruction-of-requires c κs =
+    let w = walk-r (c .before .before) in
+    let h = head-of (turn-w w) in
+    let x = its-instruction (allowed-of h) (given-of h .words) (at-w w .fits) (below-g w) (runs-at (c .before .before)) in
+    omega (arith, x .is-stored, start-of h .pre .1)
+
+mul-base : Here tie.Need-mul-base
+mul-base c = omega (arith, slot-inside (walk-f c), s-inside c)
+
+add-at-s : Here tie.Need-add-at-s
+add-at-s c = omega (arith, slot-inside (walk-f c), s-inside c)
+
+mul-left-register : Here tie.Need-mul-left-register
+mul-left-register c = omega (arith, slot-inside (walk-f c), s-inside c)
+
+element-copy-out-left-register : Here tie.Need-element-copy-out-left-register
+element-copy-out-left-register c = omega (arith, slot-inside (walk-f c), s-inside c)
+
+add-at-v : Here tie.Need-add-at-v
+add-at-v c = omega (arith, slot-inside (walk-f (c .before .before)))
+
+mul-right-register : Here tie.Need-mul-right-register
+mul-right-register c = omega (arith, slot-inside (walk-f (c .before .before)))
+
+element-copy-out-right-register : Here tie.Need-element-copy-out-right-register
+element-copy-out-right-register c = omega (arith, slot-inside (walk-f (c .before .before)))
+
+operand-requires : Here tie.Need-operand-requires
+operand-requires c κs =
+    let f = c .before .before .before in
+    let w = walk-f f in
+    let h = head-of (turn-w w) in
+    label-small (allowed-of h) (given-of h .words) (at-w w .fits) (below-g w) (runs-at (f .before .before .before)) (f .instruction-of .result) (f .instruction-of .ensures)
+
+cast-execute : Here tie.Need-cast-execute
+cast-execute c =
+    let w = walk-f (c .before .before .before .before) in
+    let h = head-of (turn-w w) in
+    omega (arith, interval-fits (start-of h .args .state .interval) (allowed-of h .interval-allowed), at-w w .fits .its-interval)
+
+execute-requires : Here tie.Need-execute-requires
+execute-requires c κs =
+    let f = c .before .before .before .before in
+    let w = walk-f f in
+    let h = head-of (turn-w w) in
+    let r = f .before .before .before in
+    let x = f .instruction-of .result in
+    let e = f .instruction-of .ensures in
+    let words = given-of h .words in
+    let s = left-read (allowed-of h) words (at-w w .fits) (below-g w) (runs-at r) x e in
+    let v = right-read (allowed-of h) words (at-w w .fits) (below-g w) (runs-at r) x e (c .operand .result) (c .operand .ensures) in
+    ready (allowed-of h) words (at-w w .fits) (below-g w) (runs-at r) x e _ (c .operand .result) s v (room-at r)
+
+ran-on-requires : Here tie.Need-ran-on-requires
+ran-on-requires c κs = span-at (runs-of (c .before .before))
+
+mul-t94 : Here tie.Need-mul-t94
+mul-t94 c = omega (arith, slot-inside (walk-d (c .before .before .before)))
+
+element-set-from-m-2 : Here tie.Need-element-set-from-m-2
+element-set-from-m-2 c = omega (arith, slot-inside (walk-d (c .before .before .before)))
+
+add-at-r : Here tie.Need-add-at-r
+add-at-r c = omega (arith, slot-inside (walk-d (c .before .before .before .before .before)), r-inside (c .before .before .before .before .before .before .before .before .before .before))
+
+mul-t98 : Here tie.Need-mul-t98
+mul-t98 c = let d = c .before .before .before .before .before .before in omega (arith, slot-inside (walk-d d), r-inside (d .before .before .before .before .before))
+
+element-set-from-m-3 : Here tie.Need-element-set-from-m-3
+element-set-from-m-3 c = let d = c .before .before .before .before .before .before in omega (arith, slot-inside (walk-d d), r-inside (d .before .before .before .before .before))
+
+add-m : Here tie.Need-add-m
+add-m c = omega (arith, ran-work c, room-at (runs-of (done-r c)))
+
+slot-after-requires : Here tie.Need-slot-after-requires
+slot-after-requires c κs = (slot-inside (walk-n c), ran-few c, ran-gone c)
+
+gone-after-requires : Here tie.Need-gone-after-requires
+gone-after-requires c κs = (ran-few (c .before), ran-gone (c .before))
+
+loop2-less : Here tie.Need-loop2-less
+loop2-less c =
+    let w = walk-n (c .before .before) in
+    let x = goes-at (look-of (runs-of (done-r (c .before .before)))) in
+    omega (arith, ran-work (c .before .before), x .picks-left, x .places-left, at-w w .reach-most)
+
+loop2-again : Here tie.Need-loop2-again
+loop2-again c =
+    let r = c .before .before in
+    let w = walk-n r in
+    let look = look-of (runs-of (done-r r)) in (
+      leads-on (w .loop2 .inv .0) (tests look .1) (at-w w .reach-most) (runs-at (runs-of (done-r r))) (ran-issued r) (ran-others r)
+          (ran-next (c .before)) (c .gone-after .ensures),
+      λ e. clash e (not-stopped look),
+    )
+
+loop2-less-2 : Here tie.Need-loop2-less-2
+loop2-less-2 c =
+    let w = walk-d (c .before .before) in
+    let one : _≡_ {A = ℕ} (cond (w .loop2 .stopped) 0 1) 1 = rw (not-stopped (look-of (runs-of (c .before .before)))) in omega arith
+
+loop2-again-2 : Here tie.Need-loop2-again-2
+loop2-again-2 c =
+    let d = c .before .before in (
+      walk-d d .loop2 .inv .0,
+      λ z. record {
+        walks = tests (look-of (runs-of d)) .1;
+        runs-there = runs-at (runs-of d);
+        x = x-of d;
+        s = s-of d;
+        v = d .before .operand .result;
+        fetched = fetched-at d;
+        stops-it = sym (c .before .runs-on .ensures) ∙ c .if6 .left;
+      },
+    )
+
+add-gone : Here tie.Need-add-gone
+add-gone c =
+    let w = walk-of (c .before .before .before .before) in omega (arith, c .width-of .ensures, width-few w, goes-at (c .before .before .before .before) .places-left, at-w w .reach-most)
+
+behind-slot-requires : Here tie.Need-behind-slot-requires
+behind-slot-requires c κs =
+    let w = walk-of (c .before .before .before .before) in (slot-inside w, omega (arith, c .width-of .ensures, width-few w))
+
+loop2-less-3 : Here tie.Need-loop2-less-3
+loop2-less-3 c =
+    let w = walk-of (c .before .before .before .before .before) in
+    let some = width-some (at (w .loop2 .m) (w .loop2 .k) .task .places) in
+    omega (arith, c .before .width-of .ensures, goes-at (c .before .before .before .before .before) .places-left)
+
+loop2-again-3 : Here tie.Need-loop2-again-3
+loop2-again-3 c =
+    let w = walk-of (c .before .before .before .before .before) in
+    let idle : running (at (w .loop2 .m) (w .loop2 .k)) ≡ false = sym (c .before .before .before .is-running .ensures) ∙ c .before .before .if5 .left in (
+      leads-by (w .loop2 .inv .0) (tests (c .before .before .before .before .before) .1) idle (c .before .width-of .ensures) (c .behind-slot .ensures),
+      λ e. clash e (not-stopped (c .before .before .before .before .before)),
+    )
+
+loop-less-3 : Here tie.Need-loop-less-3
+loop-less-3 c =
+    let w = c .before .before .before .before in
+    let less = next-less (given-of (head-of (turn-w w))) (at-w w) (comes-at c) in
+    omega (arith, w .loop2 .inv .0 .shorter, one-more (turn-w w), none-due-w w)
+
+loop-again-3 : Here tie.Need-loop-again-3
+loop-again-3 c =
+    let w = c .before .before .before .before in
+    let h = head-of (turn-w w) in
+    let g = given-of h in (
+      λ z. none-due g (allowed-of h) _ _ (none-due-w w) (turns-at (turn-w w) .side-below) (next-at g (at-w w) (comes-at c) z),
+      λ o. next-ends g (at-w w) (comes-at c) o,
+      omega (arith, at-w w .all-picks),
+      at-w w .work-most,
+    )
+
+mul-record-2 : Here tie.Need-mul-record-2
+mul-record-2 c = omega (arith, slot-inside (walk-h c))
+
+element-copy-out-record-2 : Here tie.Need-element-copy-out-record-2
+element-copy-out-record-2 c = omega (arith, slot-inside (walk-h c))
+
+add-m-2 : Here tie.Need-add-m-2
+add-m-2 c = omega (arith, halt-room (c .before))
+
+side-task-requires : Here tie.Need-side-task-requires
+side-task-requires c κs = (halt-span (c .before .before .before .before .before), fork-at (c .before) .2)
+
+add-c-2 : Here tie.Need-add-c-2
+add-c-2 c = omega (arith, fork-slots (c .before .before), ap (λ (t : Task). t .places) (c .side-task .ensures))
+
+mul-parent-2 : Here tie.Need-mul-parent-2
+mul-parent-2 c = omega (arith, fork-slots (c .before .before), ap (λ (t : Task). t .places) (c .side-task .ensures))
+
+element-set-from-parent : Here tie.Need-element-set-from-parent
+element-set-from-parent c = omega (arith, fork-slots (c .before .before), ap (λ (t : Task). t .places) (c .side-task .ensures))
+
+mul-t116 : Here tie.Need-mul-t116
+mul-t116 c = omega (arith, fork-slots (c .before .before .before), ap (λ (t : Task). t .places) (c .before .side-task .ensures))
+
+element-set-from-m-4 : Here tie.Need-element-set-from-m-4
+element-set-from-m-4 c = omega (arith, fork-slots (c .before .before .before), ap (λ (t : Task). t .places) (c .before .side-task .ensures))
+
+ended-task-requires : Here tie.Need-ended-task-requires
+ended-task-requires c κs = halt-span (c .before .before)
+
+mul-t123 : Here tie.Need-mul-t123
+mul-t123 c = omega (arith, slot-inside (walk-h (c .before .before .before)))
+
+element-set-from-m-5 : Here tie.Need-element-set-from-m-5
+element-set-from-m-5 c = omega (arith, slot-inside (walk-h (c .before .before .before)))
+
+behind-slot-requires-2 : Here tie.Need-behind-slot-requires-2
+behind-slot-requires-2 c κs =
+    let w = walk-h (c .before .before .before .before) in
+    let h = head-of (turn-w w) in
+    let t = tile (given-of h) (allowed-of h) (at-w w) (stopped-at (c .before .before .before .before) .runs-there) in
+    (slot-inside w, omega (arith, t .inside, few-places w))
+
+loop3-holds : Here tie.Need-loop3-holds
+loop3-holds c = (omega arith, at (c .if1 .m) (c .if1 .plan .to) .registers, length-reads zeroRegister (c .if1 .m .bank) _ 16, placed-none _ _, refl)
+
+mul-moved : Here tie.Need-mul-moved
+mul-moved c =
+    let p = planned-at (c .before .before) .plan-fits in omega (arith, p .from-below, p .to-below)
+
+add-moved : Here tie.Need-add-moved
+add-moved c =
+    let p = planned-at (c .before .before) .plan-fits in omega (arith, p .from-below, p .to-below)
+
+mul-moved-2 : Here tie.Need-mul-moved-2
+mul-moved-2 c =
+    let p = planned-at (c .before .before) .plan-fits in omega (arith, p .from-below, p .to-below)
+
+element-copy-out-moved : Here tie.Need-element-copy-out-moved
+element-copy-out-moved c =
+    let p = planned-at (c .before .before) .plan-fits in omega (arith, p .from-below, p .to-below)
+
+mul-moved-3 : Here tie.Need-mul-moved-3
+mul-moved-3 c =
+    let p = planned-at (c .before .before .before) .plan-fits in omega (arith, p .from-below, p .to-below)
+
+add-moved-2 : Here tie.Need-add-moved-2
+add-moved-2 c =
+    let p = planned-at (c .before .before .before) .plan-fits in omega (arith, p .from-below, p .to-below)
+
+mul-moved-4 : Here tie.Need-mul-moved-4
+mul-moved-4 c =
+    let p = planned-at (c .before .before .before) .plan-fits in omega (arith, p .from-below, p .to-below)
+
+element-set-from-moved : Here tie.Need-element-set-from-moved
+element-set-from-moved c =
+    let p = planned-at (c .before .before .before) .plan-fits in omega (arith, p .from-below, p .to-below)
+
+sub-pairs : Here tie.Need-sub-pairs
+sub-pairs c = omega (arith, c .before .loop3-test .taken)
+
+loop3-less : Here tie.Need-loop3-less
+loop3-less c = omega (arith, c .before .loop3-test .taken)
+
+loop3-again : Here tie.Need-loop3-again
+loop3-again c =
+    let i = c .before .before .loop3 .inv in
+    let m₀ = c .before .before .before .if1 .m in
+    let plan = c .before .before .before .if1 .plan in
+    let packed = c .before .before .loop3 .packed in
+    let some = c .before .loop3-test .taken in
+    let v = getD (at m₀ (plan .from) .registers) (packed / 16 % 16) zeroRegister in (
+      omega (arith, i .0),
+      set (i .1) (packed % 16) v,
+      length-set (i .1) (packed % 16) v ∙ i .2,
+      placed-next m₀ (plan .to) (plan .from) (planned-at (c .before .before .before) .plan-fits .pairs-apart (omega (arith, i .0, some))) (i .1) packed (i .2) (i .3) refl,
+      i .4 ∙ copies-first (at m₀ (plan .from) .registers) (c .before .before .loop3 .pairs) packed (i .1) some,
+    )
+
+loop4-holds : Here tie.Need-loop4-holds
+loop4-holds c = (omega arith, filling-none _ _ zeros)
+
+mul-t140 : Here tie.Need-mul-t140
+mul-t140 c = omega (arith, planned-at (c .before .before .before .before .before .before .before) .plan-fits .from-below, c .before .loop4-test .taken)
+
+add-t141 : Here tie.Need-add-t141
+add-t141 c = omega (arith, planned-at (c .before .before .before .before .before .before .before) .plan-fits .from-below, c .before .loop4-test .taken)
+
+mul-t142 : Here tie.Need-mul-t142
+mul-t142 c = omega (arith, planned-at (c .before .before .before .before .before .before .before) .plan-fits .from-below, c .before .loop4-test .taken)
+
+element-set-from-m-6 : Here tie.Need-element-set-from-m-6
+element-set-from-m-6 c = omega (arith, planned-at (c .before .before .before .before .before .before .before) .plan-fits .from-below, c .before .loop4-test .taken)
+
+add-i : Here tie.Need-add-i
+add-i c = omega (arith, planned-at (c .before .before .before .before .before .before .before) .plan-fits .from-below, c .before .loop4-test .taken)
+
+loop4-less : Here tie.Need-loop4-less
+loop4-less c = omega (arith, c .before .loop4-test .taken)
+
+loop4-again : Here tie.Need-loop4-again
+loop4-again c =
+    let l = c .before .before .loop4 in
+    (omega (arith, c .before .loop4-test .taken), zero-next _ _ (l .i) (l .inv .1) (c .before .loop4-test .taken) (c .zero-register .ensures))
+
+loop5-holds : Here tie.Need-loop5-holds
+loop5-holds c = (omega arith, filling-none _ _ _)
+
+loop-less-4 : Here tie.Need-loop-less-4
+loop-less-4 c = less-with _ (then-less (planned-at (c .before .before .before .before .before .before .before .before)) (copied-on c))
+
+loop-again-4 : Here tie.Need-loop-again-4
+loop-again-4 c =
+    let t = c .before .before .before .before .before .before .before .before .before in (
+      λ z. planned-at (c .before .before .before .before .before .before .before .before) .then-turns (copied-on c),
+      λ e. clash e (going-on t),
+      then-grows (planned-at (c .before .before .before .before .before .before .before .before)) (copied-on c) .0,
+      then-grows (planned-at (c .before .before .before .before .before .before .before .before)) (copied-on c) .1,
+    )
+
+mul-copied : Here tie.Need-mul-copied
+mul-copied c = omega (arith, planned-at (c .before .before .before .before .before .before .before .before) .plan-fits .from-below, c .loop5-test .taken)
+
+add-copied : Here tie.Need-add-copied
+add-copied c = omega (arith, planned-at (c .before .before .before .before .before .before .before .before) .plan-fits .from-below, c .loop5-test .taken)
+
+mul-copied-2 : Here tie.Need-mul-copied-2
+mul-copied-2 c = omega (arith, planned-at (c .before .before .before .before .before .before .before .before) .plan-fits .from-below, c .loop5-test .taken)
+
+element-copy-out-copied : Here tie.Need-element-copy-out-copied
+element-copy-out-copied c = omega (arith, planned-at (c .before .before .before .before .before .before .before .before) .plan-fits .from-below, c .loop5-test .taken)
+
+mul-copied-3 : Here tie.Need-mul-copied-3
+mul-copied-3 c = omega (arith, planned-at (c .before .before .before .before .before .before .before .before .before) .plan-fits .to-below, c .before .loop5-test .taken)
+
+add-copied-2 : Here tie.Need-add-copied-2
+add-copied-2 c = omega (arith, planned-at (c .before .before .before .before .before .before .before .before .before) .plan-fits .to-below, c .before .loop5-test .taken)
+
+mul-copied-4 : Here tie.Need-mul-copied-4
+mul-copied-4 c = omega (arith, planned-at (c .before .before .before .before .before .before .before .before .before) .plan-fits .to-below, c .before .loop5-test .taken)
+
+element-set-from-copied : Here tie.Need-element-set-from-copied
+element-set-from-copied c = omega (arith, planned-at (c .before .before .before .before .before .before .before .before .before) .plan-fits .to-below, c .before .loop5-test .taken)
+
+add-i-2 : Here tie.Need-add-i-2
+add-i-2 c = omega (arith, planned-at (c .before .before .before .before .before .before .before .before .before) .plan-fits .to-below, c .before .loop5-test .taken)
+
+loop5-less : Here tie.Need-loop5-less
+loop5-less c = omega (arith, c .before .loop5-test .taken)
+
+loop5-again : Here tie.Need-loop5-again
+loop5-again c =
+    let l = c .before .before in
+    let p = c .before .before .before .before .before .before .before .before .before in
+    let plan = p .if1 .plan in (
+      omega (arith, c .before .loop5-test .taken),
+      copy-next _ (plan .to) (plan .from) (l .loop5 .i) (planned-at p .plan-fits .whole-apart (l .before .if10 .taken)) (l .loop5 .inv .1)
+          (c .before .loop5-test .taken) refl,
+    )
+
+loop-less-5 : Here tie.Need-loop-less-5
+loop-less-5 c = less-with _ (then-less (planned-at (c .before .before .before .before .before .before)) (copied-not c))
+
+loop-again-5 : Here tie.Need-loop-again-5
+loop-again-5 c =
+    let t = c .before .before .before .before .before .before .before in (
+      λ z. planned-at (c .before .before .before .before .before .before) .then-turns (copied-not c),
+      λ e. clash e (going-on t),
+      then-grows (planned-at (c .before .before .before .before .before .before)) (copied-not c) .0,
+      then-grows (planned-at (c .before .before .before .before .before .before)) (copied-not c) .1,
+    )
+
+sub-picks : Here tie.Need-sub-picks
+sub-picks c = omega (arith, c .before .loop .inv .2)
+
+cast-picks : Here tie.Need-cast-picks
+cast-picks c = omega (arith, c .before .loop .inv .3)
+
+returns : Here tie.Need-returns
+returns c =
+    let h = c .before in sym (h .loop .inv .1 (not-false (h .loop .over) (c .loop-test .left)))
+
+pub drive-spec : {M : Type 1} → statement M
+drive-spec =
+    tie.close
+    (tie.spec Inv-loop2 μ-loop2 Inv-loop3 μ-loop3 Inv-loop4 μ-loop4 Inv-loop5 μ-loop5 Inv-loop μ-loop
+    -- the loop begins
+    loop-holds
+    -- a turn
+    (λ c κs. search needs)
+    -- a look at a join
+    mul-own
+    element-copy-out-own
+    first-slot-requires
+    has-room-requires
+    loop-less
+    loop-again
+    add-c
+    mul-parent
+    element-copy-out-parent
+    mul-child
+    element-copy-out-child
+    (λ c κs. search needs)
+    loop-less-2
+    loop-again-2
+    joined-requires
+    (λ c κs. search needs)
+    mul-t63
+    element-set-from-m
+    mul-whole
+    element-set-from-whole
+    (λ c κs. search needs)
+    sub-due
+    -- a walk
+    (λ c κs. search needs)
+    loop2-holds
+    (λ c κs. search needs)
+    -- a look
+    mul-record
+    element-copy-out-record
+    (λ c κs. search needs)
+    -- a running task: its instruction and registers
+    (λ c. search needs)
+    instruction-of-requires
+    mul-base
+    add-at-s
+    mul-left-register
+    element-copy-out-left-register
+    add-at-v
+    mul-right-register
+    element-copy-out-right-register
+    operand-requires
+    cast-execute
+    execute-requires
+    -- it runs on
+    (λ c κs. search needs)
+    ran-on-requires
+    mul-t94
+    element-set-from-m-2
+    (λ c κs. search needs)
+    add-at-r
+    (λ c κs. search needs)
+    mul-t98
+    element-set-from-m-3
+    add-m
+    slot-after-requires
+    gone-after-requires
+    loop2-less
+    loop2-again
+    loop2-less-2
+    loop2-again-2
+    -- nothing runs there
+    (λ c κs. search needs)
+    add-gone
+    behind-slot-requires
+    loop2-less-3
+    loop2-again-3
+    -- the next stretch
+    (λ c κs. search needs)
+    loop-less-3
+    loop-again-3
+    -- the pick that stopped the walk
+    mul-record-2
+    element-copy-out-record-2
+    add-m-2
+    -- a fork
+    (λ c. search needs)
+    (λ c κs. search needs)
+    side-task-requires
+    add-c-2
+    mul-parent-2
+    element-set-from-parent
+    (λ c κs. search needs)
+    mul-t116
+    element-set-from-m-4
+    (λ c κs. search needs)
+    -- an ended side
+    ended-task-requires
+    mul-t123
+    element-set-from-m-5
+    (λ c κs. search needs)
+    behind-slot-requires-2
+    -- pairs
+    loop3-holds
+    mul-moved
+    add-moved
+    mul-moved-2
+    element-copy-out-moved
+    mul-moved-3
+    add-moved-2
+    mul-moved-4
+    element-set-from-moved
+    sub-pairs
+    loop3-less
+    loop3-again
+    -- registers cleared
+    loop4-holds
+    (λ c κs. search needs)
+    mul-t140
+    add-t141
+    mul-t142
+    element-set-from-m-6
+    add-i
+    loop4-less
+    loop4-again
+    -- registers copied
+    loop5-holds
+    loop-less-4
+    loop-again-4
+    mul-copied
+    add-copied
+    mul-copied-2
+    element-copy-out-copied
+    mul-copied-3
+    add-copied-2
+    mul-copied-4
+    element-set-from-copied
+    add-i-2
+    loop5-less
+    loop5-again
+    loop-less-5
+    loop-again-5
+    -- the end
+    sub-picks
+    cast-picks
+    returns)

@@ -1,0 +1,185 @@
+// The one loop that carries out picks, in the state where it stands: it keeps the state in a local, since a function that took it would copy
+// it, and a struct cannot be lent for writing. It is told a course; what an instruction does to the state is the rest. A turn of the outer loop
+// is one look at a join that is due; or a walk along the stretch, over every pick after which the task runs on alone, and then the pick that
+// stopped it, a fork or an ended side, or the next stretch. At its end the register moves are made that it has planned.
+// An ended side leaves `due`, the depth whose join is looked at next, and `side`, the slot that it is looked at from.
+use crate::Driven;
+use crate::State;
+use crate::slots;
+use task::Active;
+use task::Kind;
+use task::running::is_running;
+use turns::course;
+use turns::course::Course;
+use turns::moves;
+use turns::records;
+ghost use mathlib.Core.Path.{_≡_};
+ghost use mathlib.Core.Bool.{true};
+ghost use lib.ListN.{length};
+ghost use Rattle.image.specs.Layout.{programCells, programOf};
+ghost use Rattle.image.specs.Questions.{programNo};
+ghost use Rattle.drive.specs.Shape.{shape};
+ghost use Rattle.drive.specs.Driving.{startsIn, driven};
+
+// For a course that has no order.
+pub const NO_ORDER: [u8; 1] = [0];
+
+// The picks of a course. Pick, run, `orders` and `job` call it, after the questions that ensure its `requires`.
+pub fn drive(cells: &[u64], words: &[i64], state: State, order: &[u8], course: Course) -> Driven
+    requires { ⌜ (programNo (now cells) ≡ 0) × (length (now cells) ≡ programCells) × (shape (programOf (now cells)) state ≡ true) × (startsIn course state ≡ true) ⌝ }
+    ensures { λ r. ⌜ r ≡ driven (now (cells .entry)) (now (words .entry)) state (now (order .entry)) course ⌝ }
+{
+    let mut m = state;
+    let first = m.work;
+    // the stretch, the slot that is looked at next, and the places gone by since the last pick
+    let mut begun = 0usize;
+    let mut until = first;
+    let mut reach: u64 = 0;
+    let mut k = 0usize;
+    let mut gone: u64 = 0;
+    // the joins that may be due
+    let mut due: u32 = 0;
+    let mut side = 0usize;
+    let mut over = false;
+    while !over {
+        let mut plan = moves::no_moves();
+        if 0 < due {
+            // one look at a join
+            let own = m.tasks[side];
+            let w = own.places;
+            let q = slots::first_slot(side, w);
+            if !slots::has_room(q, w) {
+                due = 0;
+                continue;
+            }
+            let c = q + (w as usize);
+            let parent = m.tasks[q];
+            let child = m.tasks[c];
+            if !slots::both_ended(parent, child, due) {
+                due = 0;
+                continue;
+            }
+            let joint = task::joining::joined(cells, parent, child);
+            let whole = joint.task;
+            m.tasks[c] = slots::vacant_task();
+            m.tasks[q] = whole;
+            plan = moves::join_moves(q, c, joint.pairs, joint.packed, joint.faulted);
+            side = q;
+            due = due - 1;
+        } else {
+            // a walk, over the picks after which the task runs on
+            let mut stopped = false;
+            let mut e = task::results::go(0, 0);
+            while course::walks_on(stopped, m.work, until, gone, reach) {
+                let record = m.tasks[k];
+                let status = record.status;
+                if is_running(status) {
+                    let active = Active {
+                        places: record.places,
+                        pc: record.pc,
+                        counter: record.counter,
+                        depth: record.depth,
+                    };
+                    let forks = record.forks;
+                    let x = image::layout::instruction_of(cells, active.pc as usize);
+                    let base = 16 * k;
+                    let at_s = base + (x.s as usize);
+                    let left_register = m.bank[at_s];
+                    let s = left_register.value;
+                    let at_v = base + ((x.operand % 16) as usize);
+                    let right_register = m.bank[at_v];
+                    let held = right_register.value;
+                    let v = task::execution::operand(x, held);
+                    e = task::execution::execute(
+                        cells,
+                        words,
+                        m.interval as u64,
+                        x,
+                        s,
+                        v,
+                        active,
+                        forks,
+                    );
+                    let kind = e.kind;
+                    if records::runs_on(kind) {
+                        // the record before the register: with a store between, the open forks would be copied out and in
+                        m.tasks[k] = records::ran_on(record, e.pc, e.counter);
+                        if records::does_store(kind) {
+                            let at_r = base + (x.r as usize);
+                            let value = e.value;
+                            m.bank[at_r] = moves::holding(value);
+                        }
+                        m.work = m.work + 1;
+                        k = course::slot_after(m.places, reach, gone, k, active.places);
+                        gone = course::gone_after(reach, gone, active.places);
+                    } else {
+                        stopped = true;
+                    }
+                } else {
+                    let wide = course::width_of(record.places);
+                    gone = gone + wide;
+                    k = course::behind_slot(m.places, k, wide);
+                }
+            }
+            if !stopped {
+                let next = course::next_stretch(course, order, begun, m.places, m.work);
+                over = next.over;
+                begun = next.begun;
+                until = next.until;
+                reach = next.reach;
+                k = next.slot;
+                gone = 0;
+                continue;
+            }
+            // the pick that stopped it
+            let record = m.tasks[k];
+            m.work = m.work + 1;
+            gone = 0;
+            let kind = e.kind;
+            if let Kind::Forks(pc) = kind {
+                let value = e.value;
+                let parent = records::side_task(record, records::record_of(value), e.pc, e.counter);
+                let c = k + (parent.places as usize);
+                m.tasks[k] = parent;
+                m.tasks[c] = records::begun_at(parent, pc);
+                plan = moves::fork_moves(k, c);
+                k = c;
+            } else {
+                m.tasks[k] = records::ended_task(record, kind);
+                plan = moves::end_moves(k, kind);
+                due = record.depth;
+                side = k;
+                k = course::behind_slot(m.places, k, record.places);
+            }
+        }
+        let from = plan.from;
+        let to = plan.to;
+        let mut pairs = plan.pairs;
+        let mut packed = plan.packed;
+        while 0 < pairs {
+            let source = (packed / 16 % 16) as usize;
+            let target = (packed % 16) as usize;
+            let moved = m.bank[16 * from + source];
+            m.bank[16 * to + target] = moved;
+            packed = packed / 256;
+            pairs = pairs - 1;
+        }
+        if 0 < plan.clears {
+            let mut i = 0usize;
+            while i < 16 {
+                m.bank[16 * from + i] = moves::zero_register();
+                i += 1;
+            }
+        }
+        if 0 < plan.whole {
+            let mut i = 0usize;
+            while i < 16 {
+                let copied = m.bank[16 * from + i];
+                m.bank[16 * to + i] = copied;
+                i += 1;
+            }
+        }
+    }
+    let picks = (m.work - first) as u64;
+    Driven { state: m, picks }
+}

@@ -1,0 +1,26 @@
+-- `next_stretch` meets its contract.
+use borrow.Author.Needs.{needs}
+use Rattle.turns.proofs.course.next_stretch.Statement.{statement}
+use Rattle.turns.proofs.course.next_stretch.Tie as tie
+
+enum-known-course : tie.Need-enum-known-course
+enum-known-course c = search needs
+
+next-pass-requires : tie.Need-next-pass-requires
+next-pass-requires c κs = search needs
+
+enum-told : tie.Need-enum-told
+enum-told c = search needs
+
+next-listed-requires : tie.Need-next-listed-requires
+next-listed-requires c κs = search needs
+
+returns : tie.Need-returns
+returns c = rw (c .before .before .course .given .1) (c .next-pass .ensures)
+
+returns-2 : tie.Need-returns-2
+returns-2 c = rw (c .before .enum-told .given .1) (c .next-listed .ensures)
+
+pub next-stretch-spec : {M : Type 1} → statement M
+next-stretch-spec =
+    tie.close (tie.spec enum-known-course next-pass-requires enum-told next-listed-requires returns returns-2)

@@ -1,0 +1,4 @@
+-- What the contracts of `turns` cite.
+pub mod Walk
+pub mod Kinds
+pub mod Moving

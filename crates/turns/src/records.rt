@@ -1,0 +1,133 @@
+// The task records that an instruction leaves.
+use task::Fork;
+use task::Kind;
+use task::Status;
+use task::Task;
+use task::Value;
+ghost use mathlib.Core.Path.{_≡_};
+ghost use Prim.Native.Nat.{_<_};
+ghost use Rattle.task.specs.Frames.{workLimit};
+ghost use Rattle.task.specs.Values.{recordOf};
+ghost use Rattle.task.specs.Step.{counted, movedTo, ended};
+ghost use Rattle.turns.specs.Kinds.{runsOn, storesIt, statusOf, sideOf};
+
+// Whether the task runs on alone.
+pub fn runs_on(kind: Kind) -> bool
+    ensures { λ r. ⌜ r ≡ runsOn kind ⌝ }
+{
+    match kind {
+        Kind::Stores => true,
+        Kind::Goes => true,
+        Kind::Waits => false,
+        Kind::Halts => false,
+        Kind::Faults(_) => false,
+        Kind::Forks(_) => false,
+    }
+}
+
+pub fn does_store(kind: Kind) -> bool
+    ensures { λ r. ⌜ r ≡ storesIt kind ⌝ }
+{
+    match kind {
+        Kind::Stores => true,
+        Kind::Goes => false,
+        Kind::Waits => false,
+        Kind::Halts => false,
+        Kind::Faults(_) => false,
+        Kind::Forks(_) => false,
+    }
+}
+
+// The status of a task that an instruction has ended.
+fn status_of(kind: Kind) -> Status
+    ensures { λ r. ⌜ r ≡ statusOf kind ⌝ }
+{
+    match kind {
+        Kind::Stores => Status::Running,
+        Kind::Goes => Status::Running,
+        Kind::Waits => Status::Waiting,
+        Kind::Halts => Status::Halted,
+        Kind::Faults(n) => Status::Faulted(n),
+        Kind::Forks(_) => Status::Running,
+    }
+}
+
+// A task that runs on. By whole record, so that what stays is not stored again. The caller has found the work below its limit.
+pub fn ran_on(t: Task, pc: u16, counter: u32) -> Task
+    requires { ⌜ t .span < workLimit ⌝ }
+    ensures { λ r. ⌜ r ≡ movedTo pc counter (counted t) ⌝ }
+{
+    let mut n = t;
+    n.pc = pc;
+    n.counter = counter;
+    n.span = t.span + 1;
+    n
+}
+
+// The record that a fork is opened under.
+pub fn record_of(v: Value) -> Fork
+    ensures { λ r. ⌜ r ≡ recordOf v ⌝ }
+{
+    match v {
+        Value::Int(_) => Fork {
+            continuation: 0,
+            depth: 0,
+        },
+        Value::Label(_) => Fork {
+            continuation: 0,
+            depth: 0,
+        },
+        Value::Record(continuation, depth) => Fork {
+            continuation,
+            depth,
+        },
+    }
+}
+
+// A task whose side an instruction has ended. The caller has found the work below its limit.
+pub fn ended_task(t: Task, kind: Kind) -> Task
+    requires { ⌜ t .span < workLimit ⌝ }
+    ensures { λ r. ⌜ r ≡ ended (statusOf kind) (counted t) ⌝ }
+{
+    let status = status_of(kind);
+    let forks = t.forks;
+    Task {
+        status,
+        places: t.places,
+        pc: 0,
+        counter: 0,
+        span: t.span + 1,
+        depth: t.depth,
+        forks,
+    }
+}
+
+// The parent's side of a fork of a running task, opened under this record. The caller has found the work below its limit, and an instruction
+// that forks leaves room for an open fork more.
+pub fn side_task(t: Task, under: Fork, pc: u16, counter: u32) -> Task
+    requires { ⌜ (t .span < workLimit) × (t .depth < 6) ⌝ }
+    ensures { λ r. ⌜ r ≡ sideOf t under pc counter ⌝ }
+{
+    let mut forks = t.forks;
+    let at = t.depth as usize;
+    forks[at] = under;
+    Task {
+        status: Status::Running,
+        places: t.places / 2,
+        pc,
+        counter,
+        span: t.span + 1,
+        depth: t.depth + 1,
+        forks,
+    }
+}
+
+// The child's side: the same, at its own first instruction and with counter 0.
+pub fn begun_at(parent: Task, pc: u16) -> Task
+    ensures { λ r. ⌜ r ≡ movedTo pc 0 parent ⌝ }
+{
+    let mut n = parent;
+    n.pc = pc;
+    n.counter = 0;
+    n
+}
