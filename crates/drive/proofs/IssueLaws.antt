@@ -30,12 +30,15 @@ pub issued-interval : (cells : List ℕ) (words : List ℤ) (m : State) (k : ℕ
 issued-interval cells words m k =
     carry-keeps (slotsOf (programOf cells)) (λ n. n .interval) (λ n k f. refl) (step (programOf cells) words (chosen (m .interval))) m k
 
--- the state after an instruction that may be issued is of the shape
-pub issued-fits : {cells : List ℕ} {interval places : ℕ} → Allowed cells interval places → (words : List ℤ) (m : State) (k : ℕ) → Fits cells interval places m
-    → k < places → running (at m k) ≡ true → m .work < workLimit → Fits cells interval places (issued cells words m k)
-issued-fits {cells} {interval} {places} allowed words m k x b r w =
-    let M = modelOf cells words interval places in
-    let e : pick M m k ≡ ticked (carry (slotsOf (programOf cells)) (step (programOf cells) words (chosen interval)) m k) = pick-carried M m k (parts-can M m k b r w) in
-    let i : issued cells words m k ≡ pick M m k =
-    ap (λ n. ticked (carry (slotsOf (programOf cells)) (step (programOf cells) words (chosen n)) m k)) (x .its-interval) ∙ sym e in
-    subst⁻¹ (λ n. Fits cells interval places n) i (pick-fits allowed words m k x)
+module _ {cells : List ℕ} {interval places : ℕ} (allowed : Allowed cells interval places) (words : List ℤ) (m : State) (k : ℕ) (x : Fits cells interval places m)
+    (below : k < places) (runs : running (at m k) ≡ true) (room : m .work < workLimit) where
+  -- an instruction that may be issued is the model's pick
+  pub issued-is-pick : issued cells words m k ≡ pick (modelOf cells words interval places) m k
+  issued-is-pick =
+      let M = modelOf cells words interval places in
+      ap (λ n. ticked (carry (slotsOf (programOf cells)) (step (programOf cells) words (chosen n)) m k)) (x .its-interval)
+      ∙ sym (pick-carried M m k (parts-can M m k below runs room))
+
+  -- and the state after it is of the shape
+  pub issued-fits : Fits cells interval places (issued cells words m k)
+  issued-fits = subst⁻¹ (λ n. Fits cells interval places n) issued-is-pick (pick-fits allowed words m k x)

@@ -14,7 +14,10 @@ pub mod Seeking
 pub mod Positions
 pub mod Passing
 pub mod ListLaws
+pub mod Taking
+pub mod RoundLaws
 pub mod Carrying
+pub mod Beyond
 pub mod Covering
 pub mod Owning
 pub mod Walking

@@ -63,7 +63,7 @@ module _ (cells : List ℕ) (words : List ℤ) where
 
   -- by what the chooser says
   abbrev on : ℕ → State → ℕ → Next (List ℕ) → Driven
-  on n m picks over = record { state = m; picks = picks }
+  on n m picks over = record { state = m; picks = picks; rounds = 0 }
   on n m picks (turn k ks) = along n (issued cells words m k) ks (picks + 1)
 
   goes-on : (n : ℕ) (m : State) (ks : List ℕ) (picks : ℕ) → along (suc n) m ks picks ≡ on n m picks (listed m ks)
@@ -190,7 +190,7 @@ module _ (cells : List ℕ) (words : List ℤ) where
 
   -- the next slot that the state has
   next-of : (order : List ℕ) (whole : Driven) (m : State) (picks fuel : ℕ) (ks : List ℕ) (b : ℕ) → ks ≡ drop b order → whole ≡ along fuel m ks picks
-      → length ks ≤ fuel → Comes whole m picks b (length order) (λ p. Listing order whole m p picks) (nextListed ks b (m .places) (m .work))
+      → length ks ≤ fuel → Comes whole m picks b (length order) (λ _. 0) (λ p. Listing order whole m p picks) (nextListed ks b (m .places) (m .work))
   unfolding nextListed
   next-of order whole m picks fuel [] b d e n =
       comes-none refl (omega arith) refl refl (e ∙ ap left (stays cells words listed fuel (record { state = m; kept = []; picks = picks }) (listed-over m)))
@@ -198,8 +198,8 @@ module _ (cells : List ℕ) (words : List ℤ) where
       by-below k (m .places) here (λ z. further z (next-of order whole m picks fuel ks (b + 1) (drop-next order b k ks d)
       (e ∙ skips fuel m k ks picks (far-refused m k z)) (omega arith)))
     where
-      later : Comes whole m picks (b + 1) (length order) (λ p. Listing order whole m p picks) (nextListed ks (b + 1) (m .places) (m .work))
-          → Comes whole m picks b (length order) (λ p. Listing order whole m p picks) (nextListed ks (b + 1) (m .places) (m .work))
+      later : Comes whole m picks (b + 1) (length order) (λ _. 0) (λ p. Listing order whole m p picks) (nextListed ks (b + 1) (m .places) (m .work))
+          → Comes whole m picks b (length order) (λ _. 0) (λ p. Listing order whole m p picks) (nextListed ks (b + 1) (m .places) (m .work))
       later (comes-none o le u r w) = comes-none o (omega arith) u r w
       later (comes-one o f s) = comes-one o (record {
         begun-more = omega (arith, f .begun-more);
@@ -209,7 +209,7 @@ module _ (cells : List ℕ) (words : List ℤ) where
         until-most = f .until-most;
       }) s
 
-      here : k < m .places → Comes whole m picks b (length order) (λ p. Listing order whole m p picks) (nextListed (k ∷ ks) b (m .places) (m .work))
+      here : k < m .places → Comes whole m picks b (length order) (λ _. 0) (λ p. Listing order whole m p picks) (nextListed (k ∷ ks) b (m .places) (m .work))
       here below = rw (nextListed, lt-ltb k (m .places) below) (comes-one refl
           (record {
             begun-more = omega arith;
@@ -226,12 +226,12 @@ module _ (cells : List ℕ) (words : List ℤ) where
             stands = inl (record { ahead = ap (λ l. k ∷ l) (drop-next order b k ks d); none-gone = refl; one-pick = refl; one-look = refl });
           }))
 
-      further : m .places ≤ k → Comes whole m picks (b + 1) (length order) (λ p. Listing order whole m p picks) (nextListed ks (b + 1) (m .places) (m .work))
-          → Comes whole m picks b (length order) (λ p. Listing order whole m p picks) (nextListed (k ∷ ks) b (m .places) (m .work))
+      further : m .places ≤ k → Comes whole m picks (b + 1) (length order) (λ _. 0) (λ p. Listing order whole m p picks) (nextListed ks (b + 1) (m .places) (m .work))
+          → Comes whole m picks b (length order) (λ _. 0) (λ p. Listing order whole m p picks) (nextListed (k ∷ ks) b (m .places) (m .work))
       further beyond rest = rw (nextListed, le-ltb k (m .places) beyond) (later rest)
 
   pub list-next : {order : List ℕ} {whole : Driven} {m : State} {p : Position} {picks : ℕ} → Listing order whole m p picks
       → walksOn false (m .work) (p .until) (p .gone) (p .reach) ≡ false
-      → Comes whole m picks (p .begun) (length order) (λ q. Listing order whole m q picks) (nextListed (drop (p .begun) order) (p .begun) (m .places) (m .work))
+      → Comes whole m picks (p .begun) (length order) (λ _. 0) (λ q. Listing order whole m q picks) (nextListed (drop (p .begun) order) (p .begun) (m .places) (m .work))
   list-next {order} {whole} {m} {p} {picks} x h =
       let r = list-rests x h in next-of order whole m picks (x .fuel) (drop (p .begun) order) (p .begun) refl (r .0) (r .1)

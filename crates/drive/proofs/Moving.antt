@@ -65,24 +65,6 @@ settle-tick-by cells (suc d) m k =
 pub settle-tick : (cells : List ℕ) (d : ℕ) (m : State) (k : ℕ) → settle (slotsOf (programOf cells)) d (ticked m) k ≡ ticked (settle (slotsOf (programOf cells)) d m k)
 settle-tick = settle-tick-by
 
--- a slot above, in which no task runs: a join is made in slots below it, and empties the child's
-settle-quiet-by : (cells : List ℕ) (d : ℕ) (m : State) (k i : ℕ) → k < i → running (at m i) ≡ false → running (at (settle (slotsOf (programOf cells)) d m k) i) ≡ false
-settle-quiet-by cells zero m k i above r = rw (settle-none (slotsOf (programOf cells)) m k) r
-settle-quiet-by cells (suc d) m k i above r =
-    let w = at m k .task .places in
-    let q = k - k % (2 * w) in
-    by-test (due (slotsOf (programOf cells)) m q w (suc d))
-    (λ t. rw (settle-go (slotsOf (programOf cells)) d m k q w refl refl t) (settle-quiet-by cells d (merged (slotsOf (programOf cells)) m q w) q i (omega arith) (merged-quiet q w (omega arith))))
-    (λ t. rw (settle-stop (slotsOf (programOf cells)) d m k q w refl refl t) r)
-  where
-    merged-quiet : (q w : ℕ) → q < i → running (at (merged (slotsOf (programOf cells)) m q w) i) ≡ false
-    merged-quiet q w h =
-        ap running (put-other (put m (q + w) vacant) q (join (programOf cells) (at m q) (at m (q + w))) i (λ e. absurd (omega arith)))
-        ∙ put-tasks (λ (t : Task). isRunning (t .status) ≡ false) m (q + w) vacant i refl r
-
-pub settle-quiet : (cells : List ℕ) (d : ℕ) (m : State) (k i : ℕ) → k < i → running (at m i) ≡ false → running (at (settle (slotsOf (programOf cells)) d m k) i) ≡ false
-settle-quiet = settle-quiet-by
-
 -- ---- registers of slots
 
 -- i registers of `from` stored from slot z's first on, and one more, whose value was found in the bank or is 0

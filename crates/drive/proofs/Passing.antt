@@ -16,14 +16,14 @@ use Rattle.drive.specs.Ending.{jobEnded}
 use Rattle.drive.specs.Issue.{issued}
 use Rattle.drive.specs.Courses.{over, turn, Run, begun, pickedAt, follows}
 use Rattle.drive.specs.Passes.{nextPick, stops, passes, runs, runFrom}
-use Rattle.turns.specs.Walk.{walksOn, stopAt}
+use Rattle.turns.specs.Walk.{walksOn, stopAt, behind}
 use Rattle.drive.specs.Driving.{left}
 use Rattle.drive.proofs.CourseLaws.{stays, picks-turn}
 use Rattle.drive.proofs.Models.{Allowed}
 use Rattle.drive.proofs.ShapeLaws.{Fits}
 use Rattle.drive.proofs.IssueLaws.{issued-work}
 use Rattle.drive.proofs.Quiet.{running-open, quiet-ended}
-use Rattle.drive.proofs.Positions.{Position, to, goneBy, pickedBehind, rests}
+use Rattle.drive.proofs.Positions.{Position, to, goneBy, rests}
 use Rattle.drive.proofs.Seeking.{Seeks, Quiet, Alone, finds, none-runs, goes-by, begins, begins-behind, comes-back}
 
 -- ---- the run
@@ -87,12 +87,13 @@ module _ (cells : List ℕ) (words : List ℤ) where
     pub seeks : Seeks m from passed (p .slot)
     pub reach-all : p .reach ≡ m .places
     pub is-begun : p .begun ≡ 0 → ⊥
+    pub not-once : p .once ≡ false
     pub same : whole ≡ left (runs cells words (p .until - m .work) (record { state = m; kept = from; picks = picks }))
 
   -- at the first slot of the stretch
   pub pass-begins : (m : State) (slot budget : ℕ) → slot < m .places
       → Passing (left (runFrom cells words m slot budget)) m
-      (record { slot = slot; gone = 0; until = stopAt (m .work) budget; reach = m .places; begun = 1 }) 0
+      (record { slot = slot; gone = 0; until = stopAt (m .work) budget; reach = m .places; begun = 1; once = false }) 0
   pass-begins m slot budget below = record {
     from = slot;
     passed = 0;
@@ -100,6 +101,7 @@ module _ (cells : List ℕ) (words : List ℤ) where
     seeks = begins m slot below;
     reach-all = refl;
     is-begun = λ z. absurd (omega arith);
+    not-once = refl;
     same = ap left (by-below budget (workLimit - m .work)
         (λ h. let n : stopAt (m .work) budget - m .work ≡ budget = rw (lt-ltb budget (workLimit - m .work) h) (omega arith) in
         ap (λ n. runs cells words n (begun m slot)) (sym n))
@@ -117,6 +119,7 @@ module _ (cells : List ℕ) (words : List ℤ) where
       seeks = goes-by (x .seeks) w fits quiet;
       reach-all = x .reach-all;
       is-begun = x .is-begun;
+      not-once = x .not-once;
       same = x .same;
     }
 
@@ -125,7 +128,7 @@ module _ (cells : List ℕ) (words : List ℤ) where
       here = record { state = m; kept = x .from; picks = picks }
 
       -- where the walk does not go on, the run has stopped
-      pub pass-rests : walksOn false (m .work) (p .until) (p .gone) (p .reach) ≡ false → whole ≡ record { state = m; picks = picks }
+      pub pass-rests : walksOn false (m .work) (p .until) (p .gone) (p .reach) ≡ false → whole ≡ record { state = m; picks = picks; rounds = 0 }
       unfolding follows
       pass-rests h = x .same ∙ ap left (rests m p h spent idle)
         where
@@ -158,7 +161,7 @@ module _ (cells : List ℕ) (words : List ℤ) where
 
         -- and the walk goes on behind w places, in the others of which nothing runs
         pub pass-behind : (w : ℕ) → m′ .places ≡ m .places → 0 < w → k + w ≤ m .places → Quiet m′ (k + 1) (k + w)
-            → Passing whole m′ (pickedBehind m w p) (picks + 1)
+            → Passing whole m′ (to (behind (m .places) k w) 0 p) (picks + 1)
         pass-behind w same-places some-places inside quiet = record {
           from = k + 1;
           passed = w - 1;
@@ -166,6 +169,7 @@ module _ (cells : List ℕ) (words : List ℤ) where
           seeks = rw (sym same-places) (begins-behind m′ k w some-places (omega arith) quiet);
           reach-all = x .reach-all ∙ sym same-places;
           is-begun = x .is-begun;
+          not-once = x .not-once;
           same = same-on;
         }
 
@@ -178,6 +182,7 @@ module _ (cells : List ℕ) (words : List ℤ) where
           seeks = comes-back m′ k (omega arith) others;
           reach-all = x .reach-all ∙ sym same-places;
           is-begun = x .is-begun;
+          not-once = x .not-once;
           same = same-on;
         }
 

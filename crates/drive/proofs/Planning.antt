@@ -29,6 +29,7 @@ use Rattle.turns.specs.declared.course.Stretch.{Stretch}
 use Rattle.drive.specs.Slots.{at, ticked, slotsOf}
 use Rattle.turns.specs.Moving.{forkMoves, endMoves, joinMoves}
 use Rattle.turns.specs.Kinds.{statusOf}
+use Rattle.turns.specs.Walk.{goneBehind, roundsOf}
 use Rattle.drive.proofs.Models.{Allowed}
 use Rattle.drive.proofs.ShapeLaws.{Fits}
 use Rattle.drive.proofs.Owning.{own-allowed, own-fits, places-most}
@@ -36,7 +37,7 @@ use Rattle.drive.proofs.SettleSafety.{fits-safe}
 use Rattle.drive.proofs.InPlace.{withTaskAt}
 use Rattle.drive.proofs.PlanLaws.{moved, pairedAt, clearedAt, PlanFits, tasksJoined, join-moved, join-fits, end-fits, fork-fits}
 use Rattle.drive.proofs.Issuing.{ends-steps, end-put, endFrame, forkedAt, forks-issued, forks-room}
-use Rattle.drive.proofs.Positions.{Position, firstOf, to, pickedBehind, goes, Comes, comes-none, comes-one}
+use Rattle.drive.proofs.Positions.{Position, firstOf, to, pickedBehind, pickedFork, goes, Comes, comes-none, comes-one}
 use Rattle.drive.proofs.Walking.{Given, GivenAllowed, result, mostStretches, At, tile, rise-is}
 use Rattle.drive.proofs.Turning.{Turns, none-due, joins, ends, forks, Stopped}
 
@@ -130,8 +131,8 @@ module _ (g : Given) (allowed : GivenAllowed g) where
     fits-there = own-fits (a .fits)
 
     -- one pick less to do
-    less-on : (n : State) (slot o : ℕ) → n .work ≡ m .work + 1 → o ≤ 6 → ahead g n (to slot 0 p) o < ahead g m p 0
-    less-on n slot o more few = let x = goes {m = m} {p = p} (s .walks) in omega (arith, x .picks-left, x .places-left, a .reach-most)
+    less-on : (n : State) (slot gone o : ℕ) → n .work ≡ m .work + 1 → o ≤ 6 → ahead g n (to slot gone p) o < ahead g m p 0
+    less-on n slot gone o more few = let x = goes {m = m} {p = p} (s .walks) in omega (arith, x .picks-left, x .places-left, a .reach-most)
 
     pub end-planned : OneOf (0 ∷ 1 ∷ 2 ∷ 3 ∷ 4 ∷ []) (tagOf the-type (e .kind)) → {t : Task} → t ≡ ended (statusOf (e .kind)) (counted (at m k .task))
         → {n : State} → n ≡ ticked (withTaskAt m k t) → {plan : Moves} → plan ≡ endMoves k (e .kind)
@@ -143,7 +144,7 @@ module _ (g : Given) (allowed : GivenAllowed g) where
         record {
           plan-fits = rw planned (end-fits k (e .kind) here);
           then-turns = λ {m′} is. ends g allowed a (s .walks) (s .runs-there) _ step-is (is ∙ ap₂ moved planned written ∙ put-is) here (at m k .task .depth) refl deep;
-          less = less-on n 0 (at m k .task .depth) (ap (λ (o : State). o .work) written) deep;
+          less = less-on n 0 (goneBehind (p .once) (p .gone) (at m k .task .places)) (at m k .task .depth) (ap (λ (o : State). o .work) written) deep;
           grows = let more : n .work ≡ m .work + 1 = ap (λ (o : State). o .work) written in
               (omega (arith, a .all-picks), omega (arith, goes {m = m} {p = p} (s .walks) .picks-left, a .until-most));
         }
@@ -162,18 +163,18 @@ module _ (g : Given) (allowed : GivenAllowed g) where
       pub fork-planned : {under : Fork} → under ≡ recordOf (e .value)
           → {n : State} → n ≡ forkedAt allowed-there fits-there (a .slot-below) (s .runs-there) (s .fetched) under pc
           → {plan : Moves} → plan ≡ forkMoves k (k + half) → (side : ℕ) → side < 64
-          → Planned g (ahead g m p 0) n plan (to (k + half) 0 p) 0 side
+          → Planned g (ahead g m p 0) n plan (pickedFork m half (at m k .task .places) p) 0 side
       fork-planned {under} is-under {n} written {plan} planned side below =
           let r = fork-room in
           record {
             plan-fits = rw planned (fork-fits k (k + half) (omega (arith, r .0)) (omega (arith, r .1, places-few)));
             then-turns = λ {m′} is. none-due g allowed 0 side refl below (on m′ is);
-            less = less-on n 0 0 (ap (λ (o : State). o .work) written) (omega arith);
+            less = less-on n 0 (goneBehind (p .once) (p .gone) (at m k .task .places)) 0 (ap (λ (o : State). o .work) written) (omega arith);
             grows = let more : n .work ≡ m .work + 1 = ap (λ (o : State). o .work) written in
                 (omega (arith, a .all-picks), omega (arith, goes {m = m} {p = p} (s .walks) .picks-left, a .until-most));
           }
         where
-          on : (m′ : State) → m′ ≡ moved plan n → At g m′ (to (k + half) 0 p)
+          on : (m′ : State) → m′ ≡ moved plan n → At g m′ (pickedFork m half (at m k .task .places) p)
           on m′ is =
               let issued-is = is ∙ ap₂ moved planned written
               ∙ forks-issued allowed-there fits-there (a .slot-below) (s .runs-there) (s .fetched) pc kind-is is-under in
@@ -189,26 +190,26 @@ module _ (g : Given) (allowed : GivenAllowed g) where
 -- ---- the next stretch, or the end
 
 module _ (g : Given) {m : State} {p : Position} (a : At g m p) {s : Stretch}
-    (c : Comes (result g) m (a .picks) (p .begun) (mostStretches (g .course) (g .order)) (λ q. At g m q) s) where
+    (c : Comes (result g) m (a .picks) (p .begun) (mostStretches (g .course) (g .order)) (roundsOf (g .course)) (λ q. At g m q) s) where
   pub next-at : s .over ≡ false → At g m (firstOf s)
   next-at o = go c
     where
-      go : Comes (result g) m (a .picks) (p .begun) (mostStretches (g .course) (g .order)) (λ q. At g m q) s → At g m (firstOf s)
+      go : Comes (result g) m (a .picks) (p .begun) (mostStretches (g .course) (g .order)) (roundsOf (g .course)) (λ q. At g m q) s → At g m (firstOf s)
       go (comes-none over b u r e) = clash over o
       go (comes-one over f x) = x
 
-  pub next-ends : s .over ≡ true → result g ≡ record { state = m; picks = m .work - g .state .work }
+  pub next-ends : s .over ≡ true → result g ≡ record { state = m; picks = m .work - g .state .work; rounds = roundsOf (g .course) (s .begun) }
   next-ends o = go c
     where
-      go : Comes (result g) m (a .picks) (p .begun) (mostStretches (g .course) (g .order)) (λ q. At g m q) s
-          → result g ≡ record { state = m; picks = m .work - g .state .work }
-      go (comes-none over b u r e) = e ∙ ap (λ (n : ℕ). record { state = m; picks = n }) (sym (rise-is g a))
+      go : Comes (result g) m (a .picks) (p .begun) (mostStretches (g .course) (g .order)) (roundsOf (g .course)) (λ q. At g m q) s
+          → result g ≡ record { state = m; picks = m .work - g .state .work; rounds = roundsOf (g .course) (s .begun) }
+      go (comes-none over b u r e) = e ∙ ap (λ (n : ℕ). record { state = m; picks = n; rounds = roundsOf (g .course) (s .begun) }) (sym (rise-is g a))
       go (comes-one over f x) = clash o over
 
   pub next-less : ahead g m (firstOf s) 0 + cond (s .over) 0 1 < ahead g m p 0 + 1
   next-less = go c
     where
-      go : Comes (result g) m (a .picks) (p .begun) (mostStretches (g .course) (g .order)) (λ q. At g m q) s
+      go : Comes (result g) m (a .picks) (p .begun) (mostStretches (g .course) (g .order)) (roundsOf (g .course)) (λ q. At g m q) s
           → ahead g m (firstOf s) 0 + cond (s .over) 0 1 < ahead g m p 0 + 1
       go (comes-none over b u r e) = let z : _≡_ {A = ℕ} (cond (s .over) 0 1) 0 = rw over in omega arith
       go (comes-one over f x) =

@@ -2,7 +2,7 @@
 use Prim.Native.Nat.{ℕ, _+_, _-_, _<_, _≤_}
 use native.Mathlib.Omega.{arith}
 use mathlib.Core.Path.{_≡_}
-use mathlib.Core.Bool.{true, false, _&&_}
+use mathlib.Core.Bool.{Bool, true, false, _&&_}
 use lib.Dec.{ltb}
 use borrow.Author.Tests.{ltb-true, lt-ltb, le-ltb}
 use Rattle.facts.proofs.Tests.{both-true, clash, by-below}
@@ -10,7 +10,7 @@ use Rattle.drive.specs.declared.State.{State}
 use Rattle.task.specs.Frames.{workLimit}
 use Rattle.drive.specs.declared.Driven.{Driven}
 use Rattle.turns.specs.declared.course.Stretch.{Stretch}
-use Rattle.turns.specs.Walk.{walksOn, behind, stopAt}
+use Rattle.turns.specs.Walk.{walksOn, behind, stopAt, goneBehind, afterFork}
 
 pub record Position : Type 0 where
   pub slot : ℕ
@@ -18,21 +18,26 @@ pub record Position : Type 0 where
   pub until : ℕ
   pub reach : ℕ
   pub begun : ℕ
+  pub once : Bool
 
 -- the first slot of a stretch
 abbrev pub firstOf : Stretch → Position
-firstOf s = record { slot = s .slot; gone = 0; until = s .until; reach = s .reach; begun = s .begun }
+firstOf s = record { slot = s .slot; gone = 0; until = s .until; reach = s .reach; begun = s .begun; once = s .once }
 
 -- another slot of it
 abbrev pub to : ℕ → ℕ → Position → Position
-to slot gone p = record { slot = slot; gone = gone; until = p .until; reach = p .reach; begun = p .begun }
+to slot gone p = record { slot = slot; gone = gone; until = p .until; reach = p .reach; begun = p .begun; once = p .once }
 
--- w places gone by; and a pick carried out, after which the walk goes on behind w places
+-- w places gone by
 abbrev pub goneBy : State → ℕ → Position → Position
 goneBy m w p = to (behind (m .places) (p .slot) w) (p .gone + w) p
 
+-- slot k's task was picked, and ended its side; or forked, and half of its places are the child's
 abbrev pub pickedBehind : State → ℕ → Position → Position
-pickedBehind m w p = to (behind (m .places) (p .slot) w) 0 p
+pickedBehind m w p = to (behind (m .places) (p .slot) w) (goneBehind (p .once) (p .gone) w) p
+
+abbrev pub pickedFork : State → ℕ → ℕ → Position → Position
+pickedFork m half w p = to (afterFork (p .once) (p .slot + half) (behind (m .places) (p .slot) w)) (goneBehind (p .once) (p .gone) w) p
 
 -- the walk goes on from here
 abbrev pub Walks : State → Position → Type 0
@@ -67,10 +72,11 @@ pub record Fresh (m : State) (b most : ℕ) (s : Stretch) : Type 0 where
   pub reach-most : s .reach ≤ 64
   pub until-most : s .until ≤ workLimit
 
--- either there is none, and the loop leaves the state as it stands; or one begins, where the course stands as it should
-pub data Comes (whole : Driven) (m : State) (picks b most : ℕ) (Standing : Position → Type 0) (s : Stretch) : Type 0 where
-  comes-none : s .over ≡ true → b ≤ s .begun → s .until ≡ 0 → s .reach ≡ 0 → whole ≡ record { state = m; picks = picks } → Comes whole m picks b most Standing s
-  comes-one : s .over ≡ false → Fresh m b most s → Standing (firstOf s) → Comes whole m picks b most Standing s
+-- either there is none, and the loop leaves the state as it stands, with so many rounds; or one begins, where the course stands as it should
+pub data Comes (whole : Driven) (m : State) (picks b most : ℕ) (counts : ℕ → ℕ) (Standing : Position → Type 0) (s : Stretch) : Type 0 where
+  comes-none : s .over ≡ true → b ≤ s .begun → s .until ≡ 0 → s .reach ≡ 0 → whole ≡ record { state = m; picks = picks; rounds = counts (s .begun) }
+      → Comes whole m picks b most counts Standing s
+  comes-one : s .over ≡ false → Fresh m b most s → Standing (firstOf s) → Comes whole m picks b most counts Standing s
 
 -- the work at which a stretch stops
 pub stop-most : (work picks : ℕ) → stopAt work picks ≤ workLimit

@@ -5,13 +5,13 @@ use mathlib.Core.Bool.{Bool, true, false, not, _&&_, and-false}
 use mathlib.Core.List.{List}
 use native.Mathlib.Omega.{arith}
 use lib.Dec.{eqb, ltb}
-use borrow.Author.Tests.{lt-ltb, le-ltb, eq-eqb, ltb-true, eqb-true}
+use borrow.Author.Tests.{lt-ltb, le-ltb, eq-eqb, ltb-true, eqb-true, not-true}
 use Rattle.facts.proofs.Tests.{clash, both-true}
 use Rattle.image.specs.Layout.{programOf}
 use Rattle.agreement.specs.Slots.{sideEnded, due, merged, settle}
 use Rattle.agreement.proofs.SlotLaws.{settle-none, settle-go, settle-stop}
 use Rattle.task.specs.declared.Status.{Status}
-use Rattle.task.specs.Frames.{isRunning}
+use Rattle.task.specs.Frames.{isRunning, running}
 use Rattle.drive.specs.declared.State.{State}
 use Rattle.drive.specs.Slots.{at, slotsOf}
 
@@ -48,6 +48,7 @@ module _ (cells : List ℕ) (m : State) (q w d : ℕ) where
     pub has-room : q + w < 64
     pub parent-depth : at m q .task .depth ≡ d
     pub child-depth : at m (q + w) .task .depth ≡ d
+    pub child-idle : running (at m (q + w)) ≡ false
 
   pub due-sides : due (slotsOf (programOf cells)) m q w d ≡ true → Sides
   due-sides e =
@@ -56,7 +57,7 @@ module _ (cells : List ℕ) (m : State) (q w d : ℕ) where
       let c = both-true (sideEnded (slotsOf (programOf cells)) m q d) (sideEnded (slotsOf (programOf cells)) m (q + w) d) (b .1) in
       let p = both-true (eqb (at m q .task .depth) d) _ (c .0) in
       let k = both-true (eqb (at m (q + w) .task .depth) d) _ (c .1) in
-      record { has-room = ltb-true (q + w) 64 (b .0); parent-depth = eqb-true _ d (p .0); child-depth = eqb-true _ d (k .0) }
+      record { has-room = ltb-true (q + w) 64 (b .0); parent-depth = eqb-true _ d (p .0); child-depth = eqb-true _ d (k .0); child-idle = not-true (running (at m (q + w))) (k .1) }
 
 -- ---- one turn
 

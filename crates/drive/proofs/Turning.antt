@@ -28,14 +28,15 @@ use Rattle.drive.proofs.RankLaws.{rank-power}
 use Rattle.drive.proofs.ShapeLaws.{Fits}
 use Rattle.drive.proofs.SlotLaws.{put-sized, put-other, ticked-sized}
 use Rattle.drive.proofs.Carrying.{stand}
-use Rattle.drive.proofs.Moving.{settle-tick, settle-quiet}
+use Rattle.drive.proofs.Moving.{settle-tick}
+use Rattle.drive.proofs.Beyond.{settle-beyond}
 use Rattle.drive.proofs.Issuing.{Fetched}
 use Rattle.drive.proofs.IssueLaws.{issued-fits, issued-work}
 use Rattle.drive.proofs.SettleLaws.{settle-ends, settle-stops}
 use Rattle.drive.proofs.SettleSafety.{SettleSafe, turn, fits-safe, put-back-safe}
-use Rattle.drive.proofs.Positions.{Position, to, pickedBehind, Walks, goes}
-use Rattle.drive.proofs.Seeking.{Quiet, behind-inside}
-use Rattle.drive.proofs.Walking.{Given, given, GivenAllowed, At, tile, picked-behind, picked-on, gone-by}
+use Rattle.drive.proofs.Positions.{Position, to, pickedBehind, pickedFork, Walks, goes}
+use Rattle.drive.proofs.Seeking.{Quiet}
+use Rattle.drive.proofs.Walking.{Given, given, GivenAllowed, At, tile, picked-behind, picked-fork, picked-on, gone-by}
 
 module _ (g : Given) where
   -- the state that counts is the one with the joins made that are due from depth `open` on
@@ -98,9 +99,9 @@ module _ (g : Given) where
           let same : (i : ℕ) → k < i → running (at m′ i) ≡ running (at m i) =
           λ i h. ap (λ (o : State). running (at o i)) is ∙ ap running (put-other m k f i (λ z. absurd (omega arith))) in
           let quiet : Quiet (settle S o m′ k) (k + 1) (k + at m k .task .places) =
-          λ i h b. settle-quiet (g .cells) o m′ k i (omega arith) (same i (omega arith) ∙ t .quiet i h b) in
+          λ i h b. settle-beyond (g .cells) o m′ k i (omega arith) ∙ same i (omega arith) ∙ t .quiet i h b in
           record {
-            head = picked-behind g allowed a walks runs-there settled _ (t .some) (t .inside) quiet;
+            head = picked-behind g allowed a walks runs-there settled quiet;
             safe = subst⁻¹ (SettleSafe (g .cells)) is
                 (put-back-safe allowed m (a .fits) (g .words) k f below runs-there
                 (ap (λ n. step (programOf (g .cells)) (g .words) (chosen n) (at m k)) (sym (a .fits .its-interval)) ∙ e));
@@ -109,18 +110,17 @@ module _ (g : Given) where
             few = shallow;
           }
 
-      -- it has forked: the walk goes on at the child's slot, behind the parent's half of the places
+      -- it has forked, and the parent has half of the places
       pub forks : {m′ : State} → m′ ≡ issued (g .cells) (g .words) m k → running (at m′ k) ≡ true → (half : ℕ) → at m′ k .task .places ≡ half → k + half < m .places
-          → At g m′ (to (k + half) 0 p)
+          → At g m′ (pickedFork m half (at m k .task .places) p)
       forks {m′} is on half width inside =
           let below : k < g .state .places = omega (arith, a .slot-below, a .fits .its-places) in
           let fits : Fits (g .cells) (g .state .interval) (g .state .places) m′ =
           rw is (issued-fits allowed (g .words) m k (a .fits) below runs-there (omega (arith, goes {m = m} {p = p} walks .picks-left, a .until-most))) in
           let s = stand allowed (g .words) m′ k fits below on in
           let power : half ≡ 2 ^ s .height = sym width ∙ s .formed .has-places in
-          subst (λ n. At g m′ (to n 0 p)) (behind-inside (m .places) k half inside)
-          (picked-behind g allowed a walks runs-there is half (omega (arith, power, pow-pos (s .height))) (omega arith)
-          (λ i h b. s .alone i (omega arith) (omega (arith, power))))
+          picked-fork g allowed a walks runs-there is half (omega (arith, power, pow-pos (s .height))) inside
+          (λ i h b. s .alone i (omega arith) (omega (arith, power)))
 
 -- ---- the walk, until an instruction forks or ends its side
 
@@ -144,7 +144,7 @@ module _ {cells : List ℕ} {words : List ℤ} {order : List ℕ} {course : Cour
   pub leads-on : p .reach ≤ 64 → running (at m (p .slot)) ≡ true → {m′ : State} → m′ ≡ issued cells words m (p .slot)
       → ((i : ℕ) → (i ≡ p .slot → ⊥) → running (at m′ i) ≡ running (at m i))
       → {slot gone : ℕ} → slot ≡ slotAfter (m .places) (p .reach) (p .gone) (p .slot) (at m (p .slot) .task .places)
-      → gone ≡ goneAfter (p .reach) (p .gone) (at m (p .slot) .task .places)
+      → gone ≡ goneAfter (p .once) (p .reach) (p .gone) (at m (p .slot) .task .places)
       → Leads cells words order course m₀ p₀ m′ (to slot gone p)
   leads-on reach on {m′} is others {slot} {gone} next still = record {
     leads = λ state allowed a₀. rw (next, still) (picked-on (given cells words state order course) allowed (l .leads state allowed a₀) walks on is others);

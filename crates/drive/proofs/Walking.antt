@@ -1,8 +1,8 @@
 -- The loop's walk along its course, whichever that is: what holds where it stands, and what each way on keeps. Nothing here knows what an
 -- instruction does, but that it is one pick.
-use mathlib.Core.Path.{_≡_, refl, sym, ap, _∙_, subst}
+use mathlib.Core.Path.{_≡_, refl, sym, ap, _∙_, subst, subst⁻¹}
 use mathlib.Core.Logic.{_⊎_, inl, inr}
-use mathlib.Core.Bool.{true, false}
+use mathlib.Core.Bool.{Bool, true, false}
 use mathlib.Core.List.{List}
 use Prim.Native.Nat.{ℕ, _+_, _-_, _^_, _<_, _≤_}
 use native.Mathlib.Omega.{arith}
@@ -16,13 +16,14 @@ use Rattle.task.specs.Frames.{running, workLimit}
 use Rattle.drive.specs.declared.State.{State}
 use Rattle.drive.specs.declared.Driven.{Driven}
 use Rattle.turns.specs.declared.course.Course.{Course}
-use Rattle.turns.specs.declared.course.Course.the-variants.{Passes, Listed}
+use Rattle.turns.specs.declared.course.Course.the-variants.{Passes, Listed, Rounds}
 use Rattle.turns.specs.declared.course.Stretch.{Stretch}
 use Rattle.drive.specs.Slots.{at}
 use Rattle.drive.specs.Settings.{rank}
+use Rattle.drive.specs.Ending.{jobEnded}
 use Rattle.drive.specs.Issue.{slotNo, issued}
 use Rattle.drive.specs.Passes.{runFrom}
-use Rattle.turns.specs.Walk.{walksOn, slotAfter, goneAfter, width, nextPass, nextStretch}
+use Rattle.turns.specs.Walk.{walksOn, behind, slotAfter, goneAfter, goneBehind, afterFork, width, nextPass, nextStretch, roundsOf}
 use Rattle.drive.specs.Driving.{startsIn, left, driven}
 use Rattle.drive.proofs.RankLaws.{rank-power}
 use Rattle.drive.proofs.Models.{Allowed}
@@ -32,11 +33,13 @@ use Rattle.drive.proofs.Carrying.{stand}
 use Rattle.drive.proofs.Covering.{width-inside, width-quiet, width-some}
 use Rattle.drive.proofs.Owning.{places-most, places-some}
 use Rattle.drive.proofs.Quiet.{running-open}
-use Rattle.drive.proofs.Positions.{Position, firstOf, to, goneBy, pickedBehind, Walks, goes, no-picks-left, Fresh, Comes, comes-none, comes-one, stop-most}
-use Rattle.drive.proofs.Seeking.{Quiet, Alone, alone, behind-below}
+use Rattle.drive.proofs.Positions.{Position, firstOf, to, goneBy, pickedBehind, pickedFork, Walks, Goes, goes, no-picks-left, Fresh, Comes, comes-none, comes-one, stop-most}
+use Rattle.drive.proofs.Seeking.{Quiet, Alone, alone, behind-below, behind-inside}
 use Rattle.drive.proofs.Passing.{Passing, pass-begins, pass-goes-by, pass-behind, pass-again, pass-rests}
 use Rattle.drive.proofs.ListLaws.{Listing, list-begins, list-goes-by, list-picked, list-next}
+use Rattle.drive.proofs.RoundLaws.{Between, InRound, round-goes-by, round-picked, round-ends, round-next}
 use Rattle.drive.proofs.SlotQuestions.{ready-passes}
+use Rattle.drive.proofs.Beyond.{issued-beyond}
 
 -- what the loop was given
 pub record Given : Type 0 where
@@ -59,6 +62,7 @@ GivenAllowed g = Allowed (g .cells) (g .state .interval) (g .state .places)
 abbrev pub mostStretches : Course → List ℕ → ℕ
 mostStretches (Passes slot picks) order = 1
 mostStretches Listed order = length order
+mostStretches (Rounds lanes budget) order = budget
 
 -- ---- where a course stands
 
@@ -74,6 +78,7 @@ module _ (cells : List ℕ) (words : List ℤ) where
   abbrev pub Standing : List ℕ → Driven → Course → State → Position → ℕ → Type 0
   Standing order whole (Passes slot budget) m p picks = Unbegun whole m p picks slot budget ⊎ Passing cells words whole m p picks
   Standing order whole Listed m p picks = Listing cells words order whole m p picks
+  Standing order whole (Rounds lanes budget) m p picks = Between cells words lanes budget whole m p picks ⊎ InRound cells words lanes budget whole m p picks
 
 pub record At (g : Given) (m : State) (p : Position) : Type 0 where
   pub fits : Fits (g .cells) (g .state .interval) (g .state .places) m
@@ -105,6 +110,7 @@ at-first g fits allowed inside p slot reach until limit begun = record {
         → Standing (g .cells) (g .words) (g .order) (driven (g .cells) (g .words) (g .state) (g .order) course) course (g .state) p 0
     by (Passes slot budget) h = inl (record { none-begun = begun; no-picks = omega arith; none-yet = refl; slot-below = ltb-true slot (g .state .places) h; same = refl })
     by Listed h = list-begins (g .cells) (g .words) (g .order) (g .state) p begun (omega arith)
+    by (Rounds lanes budget) h = inl (record { some-lanes = ltb-true 0 lanes h; no-picks = omega arith; same = rw begun refl })
 
 module _ (g : Given) (allowed : GivenAllowed g) {m : State} {p : Position} (a : At g m p) where
   open Given g using (cells, words, order, course)
@@ -143,6 +149,9 @@ module _ (g : Given) (allowed : GivenAllowed g) {m : State} {p : Position} (a : 
       by (Passes slot budget) whole (inl u) = clash walks (no-picks-left m p (u .no-picks))
       by (Passes slot budget) whole (inr x) = inr (passing whole x)
       by Listed whole x = list-goes-by cells words x walks idle _ (width-some (at m k .task .places))
+      by (Rounds lanes budget) whole (inl u) = clash walks (no-picks-left m p (u .no-picks))
+      by (Rounds lanes budget) whole (inr x) =
+          inr (round-goes-by cells words lanes budget x walks _ (width-inside allowed m (a .fits) k (a .slot-below)) (width-quiet allowed m (a .fits) k (a .slot-below) idle))
 
   -- ---- a running task in its places
 
@@ -193,49 +202,112 @@ module _ (g : Given) (allowed : GivenAllowed g) {m : State} {p : Position} (a : 
       stands = stands;
     }
 
-    -- behind w places, in the others of which nothing runs
-    pub picked-behind : (w : ℕ) → 0 < w → k + w ≤ m .places → Quiet m′ (k + 1) (k + w) → At g m′ (pickedBehind m w p)
-    picked-behind w some inside quiet = onward _ 0 (behind-below (m .places) k w some-places) (by course (result g) (a .stands))
+    abbrev w : ℕ
+    w = at m k .task .places
+
+    abbrev on : Goes m p
+    on = goes {m = m} {p = p} walks
+
+    -- along a round the walk goes on behind the task's places
+    rounded : (lanes budget : ℕ) (whole : Driven) → InRound cells words lanes budget whole m p (a .picks) → (slot : ℕ) → (p .gone + w < p .reach → slot ≡ behind (m .places) k w)
+        → InRound cells words lanes budget whole m′ (to slot (p .gone + w) p) (a .picks + 1)
+    rounded lanes budget whole x slot next =
+        let t = tile runs-there in
+        let here = x .at-gone (on .places-left) in
+        round-picked cells words lanes budget x allowed (a .fits) walks (a .slot-below) runs-there (a .until-most) is w slot same-places (t .some) (t .inside) (t .quiet)
+        (λ i h. ap (λ (n : State). running (at n i)) is ∙ issued-beyond allowed words m k (a .fits) slot-below-there runs-there i h)
+        (λ h. next h ∙ behind-inside (m .places) k w (omega (arith, here, x .reach-all)) ∙ ap (λ i. i + w) here)
+
+    -- passes go on behind these places, in the others of which nothing runs
+    passed : (whole : Driven) → Passing cells words whole m p (a .picks) → (v : ℕ) → 0 < v → k + v ≤ m .places → Quiet m′ (k + 1) (k + v)
+        → Passing cells words whole m′ (to (behind (m .places) k v) 0 p) (a .picks + 1)
+    passed whole x v some inside quiet =
+        pass-behind cells words x allowed (a .fits) (a .slot-below) runs-there (on .picks-left) (a .until-most) is v same-places some inside quiet
+
+    -- the task's side has ended
+    pub picked-behind : Quiet m′ (k + 1) (k + w) → At g m′ (pickedBehind m w p)
+    picked-behind quiet = onward _ _ (behind-below (m .places) k w some-places) (by course (result g) (a .stands))
       where
         by : (c : Course) (whole : Driven) → Stands c whole m p (a .picks) → Stands c whole m′ (pickedBehind m w p) (a .picks + 1)
         by (Passes slot budget) whole (inl u) = clash walks (no-picks-left m p (u .no-picks))
-        by (Passes slot budget) whole (inr x) =
-            inr (pass-behind cells words x allowed (a .fits) (a .slot-below) runs-there (goes {m = m} {p = p} walks .picks-left) (a .until-most) is w same-places some inside quiet)
+        by (Passes slot budget) whole (inr x) = inr (subst⁻¹ (λ b. Passing cells words whole m′ (to (behind (m .places) k w) (goneBehind b (p .gone) w) p) (a .picks + 1)) (x .not-once)
+            (passed whole x w (tile runs-there .some) (tile runs-there .inside) quiet))
         by Listed whole x = list-picked cells words x walks ready is _ _
+        by (Rounds lanes budget) whole (inl u) = clash walks (no-picks-left m p (u .no-picks))
+        by (Rounds lanes budget) whole (inr x) =
+            inr (subst⁻¹ (λ b. InRound cells words lanes budget whole m′ (to (behind (m .places) k w) (goneBehind b (p .gone) w) p) (a .picks + 1)) (x .is-once)
+            (rounded lanes budget whole x _ (λ h. refl)))
+
+    -- it has forked: the child's slot is behind the parent's half of the places
+    pub picked-fork : (half : ℕ) → 0 < half → k + half < m .places → Quiet m′ (k + 1) (k + half)
+        → At g m′ (pickedFork m half w p)
+    picked-fork half some inside quiet = onward _ _ (below (p .once)) (by course (result g) (a .stands))
+      where
+        below : (once : Bool) → afterFork once (k + half) (behind (m .places) k w) < m .places
+        below true = behind-below (m .places) k w some-places
+        below false = inside
+
+        by : (c : Course) (whole : Driven) → Stands c whole m p (a .picks)
+            → Stands c whole m′ (pickedFork m half w p) (a .picks + 1)
+        by (Passes slot budget) whole (inl u) = clash walks (no-picks-left m p (u .no-picks))
+        by (Passes slot budget) whole (inr x) =
+            inr (subst⁻¹ (λ b. Passing cells words whole m′ (to (afterFork b (k + half) (behind (m .places) k w)) (goneBehind b (p .gone) w) p) (a .picks + 1)) (x .not-once)
+            (subst (λ n. Passing cells words whole m′ (to n 0 p) (a .picks + 1)) (behind-inside (m .places) k half inside) (passed whole x half some (omega arith) quiet)))
+        by Listed whole x = list-picked cells words x walks ready is _ _
+        by (Rounds lanes budget) whole (inl u) = clash walks (no-picks-left m p (u .no-picks))
+        by (Rounds lanes budget) whole (inr x) =
+            inr (subst⁻¹ (λ b. InRound cells words lanes budget whole m′ (to (afterFork b (k + half) (behind (m .places) k w)) (goneBehind b (p .gone) w) p) (a .picks + 1))
+            (x .is-once) (rounded lanes budget whole x _ (λ h. refl)))
 
     -- the task runs on, and the other slots are as they were: behind its places, or at once again where it runs alone
     pub picked-on : ((i : ℕ) → (i ≡ k → ⊥) → running (at m′ i) ≡ running (at m i))
-        → let w = at m k .task .places in At g m′ (to (slotAfter (m .places) (p .reach) (p .gone) k w) (goneAfter (p .reach) (p .gone) w) p)
-    picked-on others = by-below (p .gone + at m k .task .places) (p .reach)
-        (λ h. rw (lt-leb (p .reach) (p .gone + at m k .task .places) h) (picked-behind _ (tile runs-there .some) (tile runs-there .inside) quiet-on))
-        (λ h. rw (le-leb (p .reach) (p .gone + at m k .task .places) h) (onward k (p .gone) (a .slot-below) (by h course (result g) (a .stands))))
+        → At g m′ (to (slotAfter (m .places) (p .reach) (p .gone) k w) (goneAfter (p .once) (p .reach) (p .gone) w) p)
+    picked-on others = onward _ _ below (by course (result g) (a .stands))
       where
-        quiet-on : Quiet m′ (k + 1) (k + at m k .task .places)
+        next : ℕ
+        next = slotAfter (m .places) (p .reach) (p .gone) k w
+
+        below : slotAfter (m .places) (p .reach) (p .gone) k w < m .places
+        below = by-below (p .gone + w) (p .reach) (λ h. rw (lt-leb (p .reach) (p .gone + w) h) (behind-below (m .places) k w some-places))
+            (λ h. rw (le-leb (p .reach) (p .gone + w) h) (a .slot-below))
+
+        quiet-on : Quiet m′ (k + 1) (k + w)
         quiet-on i x y = others i (λ e. absurd (omega arith)) ∙ tile runs-there .quiet i x y
 
-        alone-on : p .reach ≤ p .gone + at m k .task .places → (whole : Driven) → Passing cells words whole m p (a .picks) → Alone m′ k
+        alone-on : p .reach ≤ p .gone + w → (whole : Driven) → Passing cells words whole m p (a .picks) → Alone m′ k
         alone-on h whole x i below other =
             others i other
-            ∙ alone (x .seeks) (p .gone) (at m k .task .places) (x .counted) (omega (arith, x .reach-all)) (tile runs-there .inside) (tile runs-there .quiet) i
+            ∙ alone (x .seeks) (p .gone) w (x .counted) (omega (arith, x .reach-all)) (tile runs-there .inside) (tile runs-there .quiet) i
             (omega (arith, same-places)) other
 
-        by : p .reach ≤ p .gone + at m k .task .places → (c : Course) (whole : Driven) → Stands c whole m p (a .picks) → Stands c whole m′ (to k (p .gone) p) (a .picks + 1)
-        by h (Passes slot budget) whole (inl u) = clash walks (no-picks-left m p (u .no-picks))
-        by h (Passes slot budget) whole (inr x) =
-            let on = goes {m = m} {p = p} walks in
-            inr (pass-again cells words x allowed (a .fits) (a .slot-below) runs-there (on .picks-left) (a .until-most) is (p .gone) same-places (on .places-left)
-            (alone-on h whole x))
-        by h Listed whole x = list-picked cells words x walks ready is k (p .gone)
+        again : (whole : Driven) → Passing cells words whole m p (a .picks)
+            → Passing cells words whole m′ (to (slotAfter (m .places) (p .reach) (p .gone) k w) (goneAfter false (p .reach) (p .gone) w) p) (a .picks + 1)
+        again whole x = by-below (p .gone + w) (p .reach)
+            (λ h. rw (lt-leb (p .reach) (p .gone + w) h) (passed whole x w (tile runs-there .some) (tile runs-there .inside) quiet-on))
+            (λ h. rw (le-leb (p .reach) (p .gone + w) h)
+            (pass-again cells words x allowed (a .fits) (a .slot-below) runs-there (on .picks-left) (a .until-most) is (p .gone) same-places (on .places-left) (alone-on h whole x)))
+
+        by : (c : Course) (whole : Driven) → Stands c whole m p (a .picks)
+            → Stands c whole m′ (to (slotAfter (m .places) (p .reach) (p .gone) k w) (goneAfter (p .once) (p .reach) (p .gone) w) p) (a .picks + 1)
+        by (Passes slot budget) whole (inl u) = clash walks (no-picks-left m p (u .no-picks))
+        by (Passes slot budget) whole (inr x) =
+            inr (subst⁻¹ (λ b. Passing cells words whole m′ (to next (goneAfter b (p .reach) (p .gone) w) p) (a .picks + 1)) (x .not-once) (again whole x))
+        by Listed whole x = list-picked cells words x walks ready is _ _
+        by (Rounds lanes budget) whole (inl u) = clash walks (no-picks-left m p (u .no-picks))
+        by (Rounds lanes budget) whole (inr x) =
+            inr (subst⁻¹ (λ b. InRound cells words lanes budget whole m′ (to next (goneAfter b (p .reach) (p .gone) w) p) (a .picks + 1)) (x .is-once)
+            (rounded lanes budget whole x next (λ h. rw (lt-leb (p .reach) (p .gone + w) h))))
 
   -- ---- the walk does not go on: the next stretch, or the end
 
   pub comes-next : walksOn false (m .work) (p .until) (p .gone) (p .reach) ≡ false
-      → Comes (result g) m (a .picks) (p .begun) (mostStretches course order) (λ q. At g m q) (nextStretch course order (p .begun) (m .places) (m .work))
+      → Comes (result g) m (a .picks) (p .begun) (mostStretches course order) (roundsOf course) (λ q. At g m q)
+      (nextStretch course order (p .begun) (m .places) (m .work) (jobEnded m))
   comes-next h = comes _ (by course (result g) (a .stands) (a .begun-most))
     where
       -- where the course stands at a stretch, the loop does
-      comes : (s : Stretch) → Comes (result g) m (a .picks) (p .begun) (mostStretches course order) (λ q. Stands course (result g) m q (a .picks)) s
-          → Comes (result g) m (a .picks) (p .begun) (mostStretches course order) (λ q. At g m q) s
+      comes : (s : Stretch) → Comes (result g) m (a .picks) (p .begun) (mostStretches course order) (roundsOf course) (λ q. Stands course (result g) m q (a .picks)) s
+          → Comes (result g) m (a .picks) (p .begun) (mostStretches course order) (roundsOf course) (λ q. At g m q) s
       comes s (comes-none o b u r e) = comes-none o b u r e
       comes s (comes-one o f stands) = comes-one o f (record {
         fits = a .fits;
@@ -253,7 +325,7 @@ module _ (g : Given) (allowed : GivenAllowed g) {m : State} {p : Position} (a : 
       few = omega (arith, a .fits .its-places, places-most (g .state .places) (allowed .places-allowed))
 
       first : (whole : Driven) (slot budget : ℕ) → Unbegun cells words whole m p (a .picks) slot budget
-          → Comes whole m (a .picks) (p .begun) 1 (λ q. Stands (Passes slot budget) whole m q (a .picks)) (nextPass slot budget (p .begun) (m .places) (m .work))
+          → Comes whole m (a .picks) (p .begun) 1 (λ _. 0) (λ q. Stands (Passes slot budget) whole m q (a .picks)) (nextPass slot budget (p .begun) (m .places) (m .work))
       first whole slot budget u = rw (eq-eqb (p .begun) 0 (u .none-begun)) (comes-one refl
           (record {
             begun-more = omega (arith, u .none-begun);
@@ -265,15 +337,19 @@ module _ (g : Given) (allowed : GivenAllowed g) {m : State} {p : Position} (a : 
           (inr (rw (u .same, u .none-yet) (pass-begins cells words m slot budget (u .slot-below)))))
 
       last : (whole : Driven) (slot budget : ℕ) → Passing cells words whole m p (a .picks) → p .begun ≤ 1
-          → Comes whole m (a .picks) (p .begun) 1 (λ q. Stands (Passes slot budget) whole m q (a .picks)) (nextPass slot budget (p .begun) (m .places) (m .work))
+          → Comes whole m (a .picks) (p .begun) 1 (λ _. 0) (λ q. Stands (Passes slot budget) whole m q (a .picks)) (nextPass slot budget (p .begun) (m .places) (m .work))
       last whole slot budget x most =
           rw (ne-eqb (p .begun) 0 (x .is-begun)) (comes-none refl (omega arith) refl refl (pass-rests cells words x allowed (a .fits) h))
 
       by : (c : Course) (whole : Driven) → Stands c whole m p (a .picks) → p .begun ≤ mostStretches c order
-          → Comes whole m (a .picks) (p .begun) (mostStretches c order) (λ q. Stands c whole m q (a .picks)) (nextStretch c order (p .begun) (m .places) (m .work))
+          → Comes whole m (a .picks) (p .begun) (mostStretches c order) (roundsOf c) (λ q. Stands c whole m q (a .picks))
+          (nextStretch c order (p .begun) (m .places) (m .work) (jobEnded m))
       by (Passes slot budget) whole (inl u) most = first whole slot budget u
       by (Passes slot budget) whole (inr x) most = last whole slot budget x most
       by Listed whole x most = list-next cells words x h
+      by (Rounds lanes budget) whole (inl u) most = round-next cells words lanes budget (u .some-lanes) m p allowed (a .fits) some-places few (a .picks) (u .same)
+      by (Rounds lanes budget) whole (inr x) most =
+          round-next cells words lanes budget (x .some-lanes) m p allowed (a .fits) some-places few (a .picks) (round-ends cells words lanes budget x h)
 
 -- the number of picks is the rise in work
 pub rise-is : (g : Given) {m : State} {p : Position} (a : At g m p) → m .work - g .state .work ≡ a .picks

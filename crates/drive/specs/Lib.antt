@@ -7,4 +7,5 @@ pub mod Issue
 pub mod Courses
 pub mod Passes
 pub mod Listing
+pub mod Rounds
 pub mod Driving

@@ -22,8 +22,9 @@ pub enum End {
     Fault(u8),
 }
 
-// What the loop over the slots leaves: the state, and the picks carried out.
+// What the loop over the slots leaves: the state, the picks carried out, and of rounds how many were begun.
 pub struct Driven {
     pub state: State,
     pub picks: u64,
+    pub rounds: u64,
 }

@@ -5,6 +5,7 @@
 // An ended side leaves `due`, the depth whose join is looked at next, and `side`, the slot that it is looked at from.
 use crate::Driven;
 use crate::State;
+use crate::ending;
 use crate::slots;
 use task::Active;
 use task::Kind;
@@ -37,6 +38,7 @@ pub fn drive(cells: &[u64], words: &[i64], state: State, order: &[u8], course: C
     let mut reach: u64 = 0;
     let mut k = 0usize;
     let mut gone: u64 = 0;
+    let mut once = false;
     // the joins that may be due
     let mut due: u32 = 0;
     let mut side = 0usize;
@@ -111,7 +113,7 @@ pub fn drive(cells: &[u64], words: &[i64], state: State, order: &[u8], course: C
                         }
                         m.work = m.work + 1;
                         k = course::slot_after(m.places, reach, gone, k, active.places);
-                        gone = course::gone_after(reach, gone, active.places);
+                        gone = course::gone_after(once, reach, gone, active.places);
                     } else {
                         stopped = true;
                     }
@@ -122,11 +124,15 @@ pub fn drive(cells: &[u64], words: &[i64], state: State, order: &[u8], course: C
                 }
             }
             if !stopped {
-                let next = course::next_stretch(course, order, begun, m.places, m.work);
+                let first_task = m.tasks[0];
+                let first_status = first_task.status;
+                let ended = ending::has_ended(ending::end_at(first_task.depth, first_status));
+                let next = course::next_stretch(course, order, begun, m.places, m.work, ended);
                 over = next.over;
                 begun = next.begun;
                 until = next.until;
                 reach = next.reach;
+                once = next.once;
                 k = next.slot;
                 gone = 0;
                 continue;
@@ -134,7 +140,8 @@ pub fn drive(cells: &[u64], words: &[i64], state: State, order: &[u8], course: C
             // the pick that stopped it
             let record = m.tasks[k];
             m.work = m.work + 1;
-            gone = 0;
+            gone = course::gone_behind(once, gone, record.places);
+            let behind = course::behind_slot(m.places, k, record.places);
             let kind = e.kind;
             if let Kind::Forks(pc) = kind {
                 let value = e.value;
@@ -143,13 +150,13 @@ pub fn drive(cells: &[u64], words: &[i64], state: State, order: &[u8], course: C
                 m.tasks[k] = parent;
                 m.tasks[c] = records::begun_at(parent, pc);
                 plan = moves::fork_moves(k, c);
-                k = c;
+                k = course::after_fork(once, c, behind);
             } else {
                 m.tasks[k] = records::ended_task(record, kind);
                 plan = moves::end_moves(k, kind);
                 due = record.depth;
                 side = k;
-                k = course::behind_slot(m.places, k, record.places);
+                k = behind;
             }
         }
         let from = plan.from;
@@ -181,5 +188,9 @@ pub fn drive(cells: &[u64], words: &[i64], state: State, order: &[u8], course: C
         }
     }
     let picks = (m.work - first) as u64;
-    Driven { state: m, picks }
+    Driven {
+        state: m,
+        picks,
+        rounds: course::rounds_of(course, begun),
+    }
 }

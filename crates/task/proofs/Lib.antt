@@ -15,6 +15,7 @@ pub mod Vacancy
 pub mod Endings
 pub mod Start
 pub mod Counts
+pub mod Spans
 pub mod Rules
 pub mod Executing
 pub mod Variants

@@ -64,7 +64,7 @@ module _ (order : List ℕ) (at places work slot : ℕ) (inside : at < length or
 
   -- one that it has is the stretch
   pub slot-found : {r : Stretch} {until : ℕ} → slot < places → until ≡ stopAt work 1 → r ≡ nextListed (drop at order) at places work
-      → record { over = false; slot = slot; until = until; reach = 1; begun = at + 1 } ≡ r
+      → record { over = false; slot = slot; until = until; reach = 1; begun = at + 1; once = false } ≡ r
   unfolding nextListed
   slot-found h u e = sym (e ∙ slot-first ∙ rw (lt-ltb slot places h, nextListed, u))
 

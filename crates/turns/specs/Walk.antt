@@ -6,7 +6,7 @@ use lib.Dec.{eqb, ltb, leb}
 use lib.ListN.{drop}
 use Rattle.task.specs.Frames.{workLimit}
 use Rattle.turns.specs.declared.course.Course.{Course}
-use Rattle.turns.specs.declared.course.Course.the-variants.{Passes, Listed}
+use Rattle.turns.specs.declared.course.Course.the-variants.{Passes, Listed, Rounds}
 use Rattle.turns.specs.declared.course.Stretch.{Stretch}
 
 -- ---- The walk
@@ -23,8 +23,16 @@ behind places k w = cond (ltb (k + w) places) (k + w) 0
 abbrev pub slotAfter : ℕ → ℕ → ℕ → ℕ → ℕ → ℕ
 slotAfter places reach gone k w = cond (leb reach (gone + w)) k (behind places k w)
 
-abbrev pub goneAfter : ℕ → ℕ → ℕ → ℕ
-goneAfter reach gone w = cond (leb reach (gone + w)) gone 0
+abbrev pub goneAfter : Bool → ℕ → ℕ → ℕ → ℕ
+goneAfter once reach gone w = cond once (gone + w) (cond (leb reach (gone + w)) gone 0)
+
+-- after one that forks its task or ends its side
+abbrev pub goneBehind : Bool → ℕ → ℕ → ℕ
+goneBehind once gone w = cond once (gone + w) 0
+
+-- after a fork: the child's slot; along a round the one behind both sides
+abbrev pub afterFork : Bool → ℕ → ℕ → ℕ
+afterFork once child next = cond once next child
 
 -- the places of a slot where nothing runs
 abbrev pub width : ℕ → ℕ
@@ -37,21 +45,36 @@ abbrev pub stopAt : ℕ → ℕ → ℕ
 stopAt work picks = cond (ltb picks (workLimit - work)) (work + picks) workLimit
 
 abbrev pub done : ℕ → Stretch
-done begun = record { over = true; slot = 0; until = 0; reach = 0; begun = begun }
+done begun = record { over = true; slot = 0; until = 0; reach = 0; begun = begun; once = false }
 
 -- of passes there is one
 abbrev pub nextPass : ℕ → ℕ → ℕ → ℕ → ℕ → Stretch
 nextPass slot picks begun places work =
-    cond (eqb begun 0) (record { over = false; slot = slot; until = stopAt work picks; reach = places; begun = 1 }) (done begun)
+    cond (eqb begun 0) (record { over = false; slot = slot; until = stopAt work picks; reach = places; begun = 1; once = false }) (done begun)
 
 -- of an order, whose slots from the one numbered `begun` on are listed
 unfoldable pub nextListed : List ℕ → ℕ → ℕ → ℕ → Stretch
 nextListed [] begun places work = done begun
 nextListed (k ∷ ks) begun places work = elim (ltb k places) [
-  | true ↦ record { over = false; slot = k; until = stopAt work 1; reach = 1; begun = begun + 1 }
+  | true ↦ record { over = false; slot = k; until = stopAt work 1; reach = 1; begun = begun + 1; once = false }
   | false ↦ nextListed ks (begun + 1) places work
 ]
 
-abbrev pub nextStretch : Course → List ℕ → ℕ → ℕ → ℕ → Stretch
-nextStretch (Passes slot picks) order begun places work = nextPass slot picks begun places work
-nextStretch Listed order begun places work = nextListed (drop begun order) begun places work
+-- of rounds, where the job has not ended and the work is below its limit
+abbrev pub nextRound : ℕ → ℕ → ℕ → ℕ → ℕ → Bool → Stretch
+nextRound lanes rounds begun places work ended =
+    cond ended (done begun)
+    (cond (leb workLimit work) (done begun)
+    (cond (leb rounds begun) (done begun)
+    (record { over = false; slot = 0; until = stopAt work lanes; reach = places; begun = begun + 1; once = true })))
+
+abbrev pub nextStretch : Course → List ℕ → ℕ → ℕ → ℕ → Bool → Stretch
+nextStretch (Passes slot picks) order begun places work ended = nextPass slot picks begun places work
+nextStretch Listed order begun places work ended = nextListed (drop begun order) begun places work
+nextStretch (Rounds lanes rounds) order begun places work ended = nextRound lanes rounds begun places work ended
+
+-- the rounds of a course of which so many stretches are begun
+abbrev pub roundsOf : Course → ℕ → ℕ
+roundsOf (Passes slot picks) begun = 0
+roundsOf Listed begun = 0
+roundsOf (Rounds lanes rounds) begun = begun

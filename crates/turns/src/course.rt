@@ -4,23 +4,25 @@ ghost use mathlib.Core.Path.{_≡_};
 ghost use Prim.Native.Nat.{_+_, _-_, _<_, _≤_};
 ghost use lib.ListN.{length, drop};
 ghost use Rattle.task.specs.Frames.{workLimit};
-ghost use Rattle.turns.specs.Walk.{walksOn, behind, slotAfter, goneAfter, width, stopAt, done, nextPass, nextListed, nextStretch};
+ghost use Rattle.turns.specs.Walk.{walksOn, behind, slotAfter, goneAfter, goneBehind, afterFork, width, stopAt, done, nextPass, nextListed, nextRound, nextStretch, roundsOf};
 
 // Passes over the slots, from a slot on and for at most so many picks: one stretch. Or the slots of an order: for each of them that the
-// state has a stretch of one look.
+// state has a stretch of one look. Or rounds on so many lanes, at most so many: for each a stretch over all slots, with a pick a lane.
 pub enum Course {
     Passes(usize, u64),
     Listed,
+    Rounds(u64, u64),
 }
 
 // The slot that a stretch begins at; the work at which it stops; the places that it goes by at most without a pick; and how many stretches
-// (of an order: slots) are begun with it. Or it is over: there is none.
+// (of an order: slots) are begun with it. Along a round each task is met once. Or it is over: there is none.
 pub struct Stretch {
     pub over: bool,
     pub slot: usize,
     pub until: u32,
     pub reach: u64,
     pub begun: usize,
+    pub once: bool,
 }
 
 fn no_stretch(begun: usize) -> Stretch
@@ -32,6 +34,7 @@ fn no_stretch(begun: usize) -> Stretch
         until: 0,
         reach: 0,
         begun,
+        once: false,
     }
 }
 
@@ -58,6 +61,7 @@ fn next_pass(slot: usize, picks: u64, begun: usize, places: u64, work: u32) -> S
         until: stop_at(work, picks),
         reach: places,
         begun: 1,
+        once: false,
     }
 }
 
@@ -76,18 +80,61 @@ fn next_listed(order: &[u8], begun: usize, places: u64, work: u32) -> Stretch
                 until: stop_at(work, 1),
                 reach: 1,
                 begun: at,
+                once: false,
             };
         }
     }
     no_stretch(at)
 }
 
-pub fn next_stretch(course: Course, order: &[u8], begun: usize, places: u64, work: u32) -> Stretch
-    ensures { λ r. ⌜ r ≡ nextStretch course (now (order .entry)) begun places work ⌝ }
+// A round begins where the job has not ended and the work is below its limit.
+fn next_round(lanes: u64, rounds: u64, begun: usize, places: u64, work: u32, ended: bool) -> Stretch
+    ensures { λ r. ⌜ r ≡ nextRound lanes rounds begun places work ended ⌝ }
+{
+    if ended {
+        return no_stretch(begun);
+    }
+    if task::WORK_LIMIT <= work {
+        return no_stretch(begun);
+    }
+    if rounds <= begun as u64 {
+        return no_stretch(begun);
+    }
+    Stretch {
+        over: false,
+        slot: 0,
+        until: stop_at(work, lanes),
+        reach: places,
+        begun: begun + 1,
+        once: true,
+    }
+}
+
+pub fn next_stretch(
+    course: Course,
+    order: &[u8],
+    begun: usize,
+    places: u64,
+    work: u32,
+    ended: bool,
+) -> Stretch
+    ensures { λ r. ⌜ r ≡ nextStretch course (now (order .entry)) begun places work ended ⌝ }
 {
     match course {
         Course::Passes(slot, picks) => next_pass(slot, picks, begun, places, work),
         Course::Listed => next_listed(order, begun, places, work),
+        Course::Rounds(lanes, rounds) => next_round(lanes, rounds, begun, places, work, ended),
+    }
+}
+
+// The rounds of a course of which so many stretches are begun.
+pub fn rounds_of(course: Course, begun: usize) -> u64
+    ensures { λ r. ⌜ r ≡ roundsOf course begun ⌝ }
+{
+    match course {
+        Course::Passes(_, _) => 0,
+        Course::Listed => 0,
+        Course::Rounds(_, _) => begun as u64,
     }
 }
 
@@ -131,15 +178,39 @@ pub fn slot_after(places: u64, reach: u64, gone: u64, k: usize, w: u64) -> usize
     behind_slot(places, k, w)
 }
 
-// The places gone by after it: none, or as before where the task runs alone.
-pub fn gone_after(reach: u64, gone: u64, w: u64) -> u64
+// The places gone by after it: none, or as before where the task runs alone. Along a round its own are gone by too.
+pub fn gone_after(once: bool, reach: u64, gone: u64, w: u64) -> u64
     requires { ⌜ (w ≤ 64) × (gone ≤ 64) ⌝ }
-    ensures { λ r. ⌜ r ≡ goneAfter reach gone w ⌝ }
+    ensures { λ r. ⌜ r ≡ goneAfter once reach gone w ⌝ }
 {
+    if once {
+        return gone + w;
+    }
     if reach <= gone + w {
         return gone;
     }
     0
+}
+
+// The same after a pick that forks its task or ends its side.
+pub fn gone_behind(once: bool, gone: u64, w: u64) -> u64
+    requires { ⌜ (w ≤ 64) × (gone ≤ 64) ⌝ }
+    ensures { λ r. ⌜ r ≡ goneBehind once gone w ⌝ }
+{
+    if once {
+        return gone + w;
+    }
+    0
+}
+
+// The slot looked at after a fork: the child's. A round goes on behind the places that the two sides have: a task made in it waits for the next.
+pub fn after_fork(once: bool, child: usize, next: usize) -> usize
+    ensures { λ r. ⌜ r ≡ afterFork once child next ⌝ }
+{
+    if once {
+        return next;
+    }
+    child
 }
 
 // The places of a slot where nothing runs: an ended task's, or the slot alone.

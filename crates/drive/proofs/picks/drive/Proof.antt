@@ -30,7 +30,8 @@ use Rattle.turns.specs.declared.moves.Moves.{Moves}
 use Rattle.turns.specs.declared.course.Stretch.{Stretch}
 use Rattle.drive.specs.Slots.{at, Sized, ticked, slotsOf}
 use Rattle.drive.specs.Issue.{issued}
-use Rattle.turns.specs.Walk.{slotAfter, width}
+use Rattle.drive.specs.Ending.{isEnd, jobEnded}
+use Rattle.turns.specs.Walk.{slotAfter, afterFork, width, nextStretch, roundsOf}
 use Rattle.turns.specs.Moving.{forkMoves}
 use Rattle.drive.proofs.Copying.{filling}
 use Rattle.drive.proofs.InPlace.{withTaskAt, storedAt}
@@ -51,52 +52,52 @@ use Rattle.drive.proofs.Walking.{Given, given, GivenAllowed, result, mo
 use Rattle.drive.proofs.picks.drive.Statement.{statement}
 use Rattle.drive.proofs.picks.drive.Tie as tie
 
-abbrev place : ℕ → ℕ → ℕ → ℕ → ℕ → Position
-place slot gone until reach begun = record { slot = slot; gone = gone; until = until; reach = reach; begun = begun }
+abbrev place : ℕ → ℕ → ℕ → ℕ → ℕ → Bool → Position
+place slot gone until reach begun once = record { slot = slot; gone = gone; until = until; reach = reach; begun = begun; once = once }
 
 -- ---- invariants and measures: the walk (2), pairs (3), registers cleared (4) and copied (5), and the turns
 
 abbrev Inv-loop2 : tie.InvT-loop2
-Inv-loop2 cells words order course m₀ first begun until reach k₀ gone₀ due side over stopped₀ e₀ m k gone stopped e =
-    Leads cells words order course m₀ (place k₀ gone₀ until reach begun) m (place k gone until reach begun)
-    × (stopped ≡ true → Stopped cells words m (place k gone until reach begun) e)
+Inv-loop2 cells words order course m₀ first begun until reach k₀ gone₀ once due side over stopped₀ e₀ m k gone stopped e =
+    Leads cells words order course m₀ (place k₀ gone₀ until reach begun once) m (place k gone until reach begun once)
+    × (stopped ≡ true → Stopped cells words m (place k gone until reach begun once) e)
 
 abbrev μ-loop2 : tie.MeasureT-loop2
-μ-loop2 cells words order course m₀ first begun until reach k₀ gone₀ due side over stopped₀ e₀ m k gone stopped e =
+μ-loop2 cells words order course m₀ first begun until reach k₀ gone₀ once due side over stopped₀ e₀ m k gone stopped e =
     2 * (65 * (until - m .work) + (reach - gone)) + cond stopped 0 1
 
 abbrev Inv-loop3 : tie.InvT-loop3
-Inv-loop3 cells words order course m₀ first begun until reach k gone due side over plan from to pairs₀ packed₀ m pairs packed =
+Inv-loop3 cells words order course m₀ first begun until reach k gone once due side over plan from to pairs₀ packed₀ m pairs packed =
     (pairs ≤ pairs₀) × (l : List Register) × (length l ≡ 16) × (m ≡ placed m₀ to l)
     × (copied (at m₀ from .registers) pairs₀ packed₀ (at m₀ to .registers) ≡ copied (at m₀ from .registers) pairs packed l)
 
 abbrev μ-loop3 : tie.MeasureT-loop3
-μ-loop3 cells words order course m₀ first begun until reach k gone due side over plan from to pairs₀ packed₀ m pairs packed = pairs
+μ-loop3 cells words order course m₀ first begun until reach k gone once due side over plan from to pairs₀ packed₀ m pairs packed = pairs
 
 abbrev Inv-loop4 : tie.InvT-loop4
-Inv-loop4 cells words order course m₀ first begun until reach k gone due side over plan from to pairs packed i₀ m i =
+Inv-loop4 cells words order course m₀ first begun until reach k gone once due side over plan from to pairs packed i₀ m i =
     (i ≤ 16) × (m ≡ filling m₀ from zeros i)
 
 abbrev μ-loop4 : tie.MeasureT-loop4
-μ-loop4 cells words order course m₀ first begun until reach k gone due side over plan from to pairs packed i₀ m i = 16 - i
+μ-loop4 cells words order course m₀ first begun until reach k gone once due side over plan from to pairs packed i₀ m i = 16 - i
 
 abbrev Inv-loop5 : tie.InvT-loop5
-Inv-loop5 cells words order course m₀ first begun until reach k gone due side over from to pairs packed i₀ m i =
+Inv-loop5 cells words order course m₀ first begun until reach k gone once due side over from to pairs packed i₀ m i =
     (i ≤ 16) × (m ≡ filling m₀ to (at m₀ from .registers) i)
 
 abbrev μ-loop5 : tie.MeasureT-loop5
-μ-loop5 cells words order course m₀ first begun until reach k gone due side over from to pairs packed i₀ m i = 16 - i
+μ-loop5 cells words order course m₀ first begun until reach k gone once due side over from to pairs packed i₀ m i = 16 - i
 
 abbrev Inv-loop : tie.InvT-loop
-Inv-loop cells words order course m₀ first begun₀ until₀ reach₀ k₀ gone₀ due₀ side₀ over₀ m begun until reach k gone due side over =
-    (over ≡ false → Turns (given cells words m₀ order course) m (place k gone until reach begun) due side)
-    × (over ≡ true → result (given cells words m₀ order course) ≡ record { state = m; picks = m .work - m₀ .work })
+Inv-loop cells words order course m₀ first begun₀ until₀ reach₀ k₀ gone₀ once₀ due₀ side₀ over₀ m begun until reach k gone once due side over =
+    (over ≡ false → Turns (given cells words m₀ order course) m (place k gone until reach begun once) due side)
+    × (over ≡ true → result (given cells words m₀ order course) ≡ record { state = m; picks = m .work - m₀ .work; rounds = roundsOf course begun })
     × (m₀ .work ≤ m .work)
     × (m .work ≤ workLimit)
 
 abbrev μ-loop : tie.MeasureT-loop
-μ-loop cells words order course m₀ first begun₀ until₀ reach₀ k₀ gone₀ due₀ side₀ over₀ m begun until reach k gone due side over =
-    ahead (given cells words m₀ order course) m (place k gone until reach begun) due + cond over 0 1
+μ-loop cells words order course m₀ first begun₀ until₀ reach₀ k₀ gone₀ once₀ due₀ side₀ over₀ m begun until reach k gone once due side over =
+    ahead (given cells words m₀ order course) m (place k gone until reach begun once) due + cond over 0 1
 
 -- what a place of the code, or a fact that it needs, is with these
 abbrev Here : (tie.InvT-loop2 → tie.MeasureT-loop2 → tie.InvT-loop3 → tie.MeasureT-loop3 → tie.InvT-loop4 → tie.MeasureT-loop4 → tie.InvT-loop5
@@ -126,7 +127,7 @@ abbrev head-of : Turn → Head
 head-of c = c .before .before
 
 abbrev place-of : Turn → Position
-place-of c = let l = head-of c .loop in place (l .k) (l .gone) (l .until) (l .reach) (l .begun)
+place-of c = let l = head-of c .loop in place (l .k) (l .gone) (l .until) (l .reach) (l .begun) (l .once)
 
 going-on : (c : Turn) → head-of c .loop .over ≡ false
 going-on c = not-true (head-of c .loop .over) (c .before .loop-test .taken)
@@ -184,7 +185,7 @@ abbrev turn-w : Walk → Turn
 turn-w c = c .before .before .before
 
 abbrev place-w : Walk → Position
-place-w c = let l = head-of (turn-w c) .loop in place (c .loop2 .k) (c .loop2 .gone) (l .until) (l .reach) (l .begun)
+place-w c = let l = head-of (turn-w c) .loop in place (c .loop2 .k) (c .loop2 .gone) (l .until) (l .reach) (l .begun) (l .once)
 
 none-due-w : (c : Walk) → head-of (turn-w c) .loop .due ≡ 0
 none-due-w c = omega (arith, c .before .before .if1 .left)
@@ -385,14 +386,24 @@ abbrev ComesAt : Walk → Stretch → Type 0
 ComesAt w s =
     let g = given-of (head-of (turn-w w)) in
     let b = head-of (turn-w w) .loop .begun in
-    Comes (result g) (w .loop2 .m) (at-w w .picks) b (mostStretches (g .course) (g .order)) (λ q. At g (w .loop2 .m) q) s
+    Comes (result g) (w .loop2 .m) (at-w w .picks) b (mostStretches (g .course) (g .order)) (roundsOf (g .course)) (λ q. At g (w .loop2 .m) q) s
 
-comes-at : (c : Asking) → ComesAt (c .before .before .before .before) (c .next-stretch .result)
+abbrev walk-a : Asking → Walk
+walk-a c = c .before .before .before .before .before .before .before
+
+-- whether the job has ended is read off slot 0
+ended-at : (c : Asking) → c .before .has-ended .result ≡ jobEnded (walk-a c .loop2 .m)
+ended-at c = c .before .has-ended .ensures ∙ ap isEnd (c .before .before .end-at .ensures)
+
+comes-at : (c : Asking) → ComesAt (walk-a c) (c .next-stretch .result)
 comes-at c =
-    let w = c .before .before .before .before in
+    let w = walk-a c in
     let h = head-of (turn-w w) in
-    let rest = rests-there (w .loop2 .stopped) _ (not-true (w .loop2 .stopped) (c .before .if8 .taken)) (sym (c .before .before .before .walks-on .ensures) ∙ c .before .before .if4 .left) in
-    subst⁻¹ (ComesAt w) (c .next-stretch .ensures) (comes-next (given-of h) (allowed-of h) (at-w w) rest)
+    let g = given-of h in
+    let over = c .before .before .before .before in
+    let rest = rests-there (w .loop2 .stopped) _ (not-true (w .loop2 .stopped) (over .if8 .taken)) (sym (over .before .before .walks-on .ensures) ∙ over .before .if4 .left) in
+    let asked = ap (λ b. nextStretch (g .course) (g .order) (h .loop .begun) (w .loop2 .m .places) (w .loop2 .m .work) b) (ended-at c) in
+    subst⁻¹ (ComesAt w) (c .next-stretch .ensures ∙ asked) (comes-next g (allowed-of h) (at-w w) rest)
 
 -- ---- the pick that stopped a walk
 
@@ -414,25 +425,36 @@ halt-room c =
 halt-span : (c : Halting) → at (walk-h c .loop2 .m) (walk-h c .loop2 .k) .task .span < workLimit
 halt-span c = omega (arith, halt-room c, at-w (walk-h c) .fits .counts (walk-h c .loop2 .k) .span-most)
 
+halt-few : (c : Halting) → at (walk-h c .loop2 .m) (walk-h c .loop2 .k) .task .places ≤ 64
+halt-few c =
+    let w = walk-h c in
+    let h = head-of (turn-w w) in
+    omega (arith, tile (given-of h) (allowed-of h) (at-w w) (stopped-at c .runs-there) .inside, few-places w)
+
+halt-gone : (c : Halting) → walk-h c .loop2 .gone ≤ 64
+halt-gone c =
+    let w = walk-h c in
+    omega (arith, goes {m = w .loop2 .m} {p = place-w w} (stopped-at c .walks) .places-left, at-w w .reach-most)
+
 -- a fork: the child's slot is in the state
 abbrev Forking : Type 0
 Forking = Here tie.After-known-told
 
-fork-at : (c : Forking) → let w = walk-h (c .before .before .before .before) in
+fork-at : (c : Forking) → let w = walk-h (c .before .before .before .before .before .before) in
     let places = at (w .loop2 .m) (w .loop2 .k) .task .places in
     (0 < places / 2) × (w .loop2 .k + places / 2 < w .loop2 .m .places) × (at (w .loop2 .m) (w .loop2 .k) .task .depth < 6)
 fork-at c =
-    let w = walk-h (c .before .before .before .before) in
+    let w = walk-h (c .before .before .before .before .before .before) in
     let h = head-of (turn-w w) in
-    fork-room (given-of h) (allowed-of h) (at-w w) (stopped-at (c .before .before .before .before)) (c .before .kind .given .0 .0) (c .before .kind .given .1)
+    fork-room (given-of h) (allowed-of h) (at-w w) (stopped-at (c .before .before .before .before .before .before)) (c .before .kind .given .0 .0) (c .before .kind .given .1)
 
 -- both sides' slots, and their numbers
-fork-slots : (c : Forking) → let w = walk-h (c .before .before .before .before) in
+fork-slots : (c : Forking) → let w = walk-h (c .before .before .before .before .before .before) in
     let t = at (w .loop2 .m) (w .loop2 .k) .task in
     (w .loop2 .k + t .places / 2 < 64) × (t .depth < 6) × (w .loop2 .k < 64)
 fork-slots c =
     let f = fork-at c in
-    let w = walk-h (c .before .before .before .before) in
+    let w = walk-h (c .before .before .before .before .before .before) in
     (omega (arith, f .1, few-places w), f .2, slot-inside w)
 
 -- ---- what a turn has planned
@@ -449,7 +471,7 @@ sidesWritten m k p q =
 
 planned-at : (c : Moving) → let h = head-of (c .before) in
     Planned (given-of h) (ahead (given-of h) (h .loop .m) (place-of (c .before)) (h .loop .due)) (c .if1 .m) (c .if1 .plan)
-    (place (c .if1 .k) (c .if1 .gone) (h .loop .until) (h .loop .reach) (h .loop .begun)) (c .if1 .due) (c .if1 .side)
+    (place (c .if1 .k) (c .if1 .gone) (h .loop .until) (h .loop .reach) (h .loop .begun) (h .loop .once)) (c .if1 .due) (c .if1 .side)
 planned-at c = elim (c .if1 .came) [
   | inl t ↦
       let j : Joining = record {
@@ -473,21 +495,22 @@ planned-at c = elim (c .if1 .came) [
         let h = head-of (c .before) in
         let m = w .loop2 .m in
         let k = w .loop2 .k in
-        let pc = t .8 .given .0 .0 in
-        let parent = t .11 .ensures in
-        let written = t .14 ∙ ap₂ (λ (p q : Task). sidesWritten m k p q) parent (t .12 .ensures ∙ ap (movedTo pc 0) parent) in
+        let pc = t .10 .given .0 .0 in
+        let parent = t .13 .ensures in
+        let written = t .17 ∙ ap₂ (λ (p q : Task). sidesWritten m k p q) parent (t .14 .ensures ∙ ap (movedTo pc 0) parent) in
         let child = ap (λ (p : Task). k + p .places) parent in
-        planned-as (place-w w) (t .15 ∙ child) (t .16) (t .17 ∙ none-due-w w) (t .18)
+        let next = t .18 ∙ t .16 .ensures ∙ ap₂ (afterFork (h .loop .once)) child (t .8 .ensures) in
+        planned-as (place-w w) next (t .19 ∙ t .7 .ensures) (t .20 ∙ none-due-w w) (t .21)
         (planned-below (omega (arith, w .loop2 .inv .0 .shorter, none-due-w w))
-        (fork-planned (given-of h) (allowed-of h) (at-w w) (stopped-at x) pc (t .8 .given .1) (t .10 .ensures) written
-        (t .19 ∙ t .13 .ensures ∙ ap (forkMoves k) child) (h .loop .side) (turns-at (c .before) .side-below)))
+        (fork-planned (given-of h) (allowed-of h) (at-w w) (stopped-at x) pc (t .10 .given .1) (t .12 .ensures) written
+        (t .22 ∙ t .15 .ensures ∙ ap (forkMoves k) child) (h .loop .side) (turns-at (c .before) .side-below)))
     | inr t ↦
         let w : Walk = record { before = record { before = record { before = c .before; if1 = t .0 }; go = t .1 }; loop2 = t .2 } in
         let x : Halting = record { before = record { before = record { before = w; walks-on = t .3 }; if4 = t .4 }; if8 = t .5 } in
         let h = head-of (c .before) in
-        planned-as (place-w w) (t .12 ∙ t .10 .ensures) (t .13) (t .14) (t .15)
+        planned-as (place-w w) (t .13 ∙ t .8 .ensures) (t .14 ∙ t .7 .ensures) (t .15) (t .16)
         (planned-below (omega (arith, w .loop2 .inv .0 .shorter, none-due-w w))
-        (end-planned (given-of h) (allowed-of h) (at-w w) (stopped-at x) (t .7 .keys2) (t .8 .ensures) (t .11) (t .16 ∙ t .9 .ensures)))
+        (end-planned (given-of h) (allowed-of h) (at-w w) (stopped-at x) (t .9 .keys2) (t .10 .ensures) (t .12) (t .17 ∙ t .11 .ensures)))
   ]
 ]
 
@@ -542,7 +565,7 @@ loop-holds c =
     let fits = shape-fits (a .cells .now) (a .state) sized (c .before .before .pre .2) in
     let few : a .state .work ≤ workLimit = search needs in (
       λ z. none-due g allowed 0 0 refl (omega arith)
-          (at-first g fits allowed (c .before .before .pre .3) (place 0 0 (a .state .work) 0 0) refl refl refl few refl),
+          (at-first g fits allowed (c .before .before .pre .3) (place 0 0 (a .state .work) 0 0 false) refl refl refl few refl),
       λ e. clash e refl,
       omega arith,
       few,
@@ -615,8 +638,8 @@ joined-requires c κs =
     due-joinable (given-of h .cells) (h .loop .m) (q-of j) (w-of j) (h .loop .due) (start-of h .pre .0) (turns-at (turn-j j) .safe)
     (j .before .before .before .before .if1 .taken) (sides (c .before) ∙ not-false (c .before .both-ended .result) (c .if3 .left))
 
-mul-t63 : Here tie.Need-mul-t63
-mul-t63 c = omega (arith, inside (c .before .before .before .before .before .before .before))
+mul-t68 : Here tie.Need-mul-t68
+mul-t68 c = omega (arith, inside (c .before .before .before .before .before .before .before))
 
 element-set-from-m : Here tie.Need-element-set-from-m
 element-set-from-m c = omega (arith, inside (c .before .before .before .before .before .before .before))
@@ -696,8 +719,8 @@ execute-requires c κs =
 ran-on-requires : Here tie.Need-ran-on-requires
 ran-on-requires c κs = span-at (runs-of (c .before .before))
 
-mul-t94 : Here tie.Need-mul-t94
-mul-t94 c = omega (arith, slot-inside (walk-d (c .before .before .before)))
+mul-t99 : Here tie.Need-mul-t99
+mul-t99 c = omega (arith, slot-inside (walk-d (c .before .before .before)))
 
 element-set-from-m-2 : Here tie.Need-element-set-from-m-2
 element-set-from-m-2 c = omega (arith, slot-inside (walk-d (c .before .before .before)))
@@ -705,8 +728,8 @@ element-set-from-m-2 c = omega (arith, slot-inside (walk-d (c .before .before .b
 add-at-r : Here tie.Need-add-at-r
 add-at-r c = omega (arith, slot-inside (walk-d (c .before .before .before .before .before)), r-inside (c .before .before .before .before .before .before .before .before .before .before))
 
-mul-t98 : Here tie.Need-mul-t98
-mul-t98 c = let d = c .before .before .before .before .before .before in omega (arith, slot-inside (walk-d d), r-inside (d .before .before .before .before .before))
+mul-t103 : Here tie.Need-mul-t103
+mul-t103 c = let d = c .before .before .before .before .before .before in omega (arith, slot-inside (walk-d d), r-inside (d .before .before .before .before .before))
 
 element-set-from-m-3 : Here tie.Need-element-set-from-m-3
 element-set-from-m-3 c = let d = c .before .before .before .before .before .before in omega (arith, slot-inside (walk-d d), r-inside (d .before .before .before .before .before))
@@ -780,13 +803,13 @@ loop2-again-3 c =
 
 loop-less-3 : Here tie.Need-loop-less-3
 loop-less-3 c =
-    let w = c .before .before .before .before in
+    let w = walk-a c in
     let less = next-less (given-of (head-of (turn-w w))) (at-w w) (comes-at c) in
     omega (arith, w .loop2 .inv .0 .shorter, one-more (turn-w w), none-due-w w)
 
 loop-again-3 : Here tie.Need-loop-again-3
 loop-again-3 c =
-    let w = c .before .before .before .before in
+    let w = walk-a c in
     let h = head-of (turn-w w) in
     let g = given-of h in (
       λ z. none-due g (allowed-of h) _ _ (none-due-w w) (turns-at (turn-w w) .side-below) (next-at g (at-w w) (comes-at c) z),
@@ -804,8 +827,14 @@ element-copy-out-record-2 c = omega (arith, slot-inside (walk-h c))
 add-m-2 : Here tie.Need-add-m-2
 add-m-2 c = omega (arith, halt-room (c .before))
 
+gone-behind-requires : Here tie.Need-gone-behind-requires
+gone-behind-requires c κs = (halt-few (c .before), halt-gone (c .before))
+
+behind-slot-requires-2 : Here tie.Need-behind-slot-requires-2
+behind-slot-requires-2 c κs = (slot-inside (walk-h (c .before .before)), halt-few (c .before .before))
+
 side-task-requires : Here tie.Need-side-task-requires
-side-task-requires c κs = (halt-span (c .before .before .before .before .before), fork-at (c .before) .2)
+side-task-requires c κs = (halt-span (c .before .before .before .before .before .before .before), fork-at (c .before) .2)
 
 add-c-2 : Here tie.Need-add-c-2
 add-c-2 c = omega (arith, fork-slots (c .before .before), ap (λ (t : Task). t .places) (c .side-task .ensures))
@@ -816,27 +845,20 @@ mul-parent-2 c = omega (arith, fork-slots (c .before .before), ap (λ (t : Task)
 element-set-from-parent : Here tie.Need-element-set-from-parent
 element-set-from-parent c = omega (arith, fork-slots (c .before .before), ap (λ (t : Task). t .places) (c .side-task .ensures))
 
-mul-t116 : Here tie.Need-mul-t116
-mul-t116 c = omega (arith, fork-slots (c .before .before .before), ap (λ (t : Task). t .places) (c .before .side-task .ensures))
+mul-t126 : Here tie.Need-mul-t126
+mul-t126 c = omega (arith, fork-slots (c .before .before .before), ap (λ (t : Task). t .places) (c .before .side-task .ensures))
 
 element-set-from-m-4 : Here tie.Need-element-set-from-m-4
 element-set-from-m-4 c = omega (arith, fork-slots (c .before .before .before), ap (λ (t : Task). t .places) (c .before .side-task .ensures))
 
 ended-task-requires : Here tie.Need-ended-task-requires
-ended-task-requires c κs = halt-span (c .before .before)
+ended-task-requires c κs = halt-span (c .before .before .before .before)
 
-mul-t123 : Here tie.Need-mul-t123
-mul-t123 c = omega (arith, slot-inside (walk-h (c .before .before .before)))
+mul-t133 : Here tie.Need-mul-t133
+mul-t133 c = omega (arith, slot-inside (walk-h (c .before .before .before .before .before)))
 
 element-set-from-m-5 : Here tie.Need-element-set-from-m-5
-element-set-from-m-5 c = omega (arith, slot-inside (walk-h (c .before .before .before)))
-
-behind-slot-requires-2 : Here tie.Need-behind-slot-requires-2
-behind-slot-requires-2 c κs =
-    let w = walk-h (c .before .before .before .before) in
-    let h = head-of (turn-w w) in
-    let t = tile (given-of h) (allowed-of h) (at-w w) (stopped-at (c .before .before .before .before) .runs-there) in
-    (slot-inside w, omega (arith, t .inside, few-places w))
+element-set-from-m-5 c = omega (arith, slot-inside (walk-h (c .before .before .before .before .before)))
 
 loop3-holds : Here tie.Need-loop3-holds
 loop3-holds c = (omega arith, at (c .if1 .m) (c .if1 .plan .to) .registers, length-reads zeroRegister (c .if1 .m .bank) _ 16, placed-none _ _, refl)
@@ -897,14 +919,14 @@ loop3-again c =
 loop4-holds : Here tie.Need-loop4-holds
 loop4-holds c = (omega arith, filling-none _ _ zeros)
 
-mul-t140 : Here tie.Need-mul-t140
-mul-t140 c = omega (arith, planned-at (c .before .before .before .before .before .before .before) .plan-fits .from-below, c .before .loop4-test .taken)
+mul-t149 : Here tie.Need-mul-t149
+mul-t149 c = omega (arith, planned-at (c .before .before .before .before .before .before .before) .plan-fits .from-below, c .before .loop4-test .taken)
 
-add-t141 : Here tie.Need-add-t141
-add-t141 c = omega (arith, planned-at (c .before .before .before .before .before .before .before) .plan-fits .from-below, c .before .loop4-test .taken)
+add-t150 : Here tie.Need-add-t150
+add-t150 c = omega (arith, planned-at (c .before .before .before .before .before .before .before) .plan-fits .from-below, c .before .loop4-test .taken)
 
-mul-t142 : Here tie.Need-mul-t142
-mul-t142 c = omega (arith, planned-at (c .before .before .before .before .before .before .before) .plan-fits .from-below, c .before .loop4-test .taken)
+mul-t151 : Here tie.Need-mul-t151
+mul-t151 c = omega (arith, planned-at (c .before .before .before .before .before .before .before) .plan-fits .from-below, c .before .loop4-test .taken)
 
 element-set-from-m-6 : Here tie.Need-element-set-from-m-6
 element-set-from-m-6 c = omega (arith, planned-at (c .before .before .before .before .before .before .before) .plan-fits .from-below, c .before .loop4-test .taken)
@@ -995,7 +1017,9 @@ cast-picks c = omega (arith, c .before .loop .inv .3)
 
 returns : Here tie.Need-returns
 returns c =
-    let h = c .before in sym (h .loop .inv .1 (not-false (h .loop .over) (c .loop-test .left)))
+    let h = c .before .before in
+    ap (λ n. record { state = h .loop .m; picks = h .loop .m .work - start-of h .args .state .work; rounds = n }) (c .rounds-of .ensures)
+    ∙ sym (h .loop .inv .1 (not-false (h .loop .over) (c .before .loop-test .left)))
 
 pub drive-spec : {M : Type 1} → statement M
 drive-spec =
@@ -1022,7 +1046,7 @@ drive-spec =
     loop-again-2
     joined-requires
     (λ c κs. search needs)
-    mul-t63
+    mul-t68
     element-set-from-m
     mul-whole
     element-set-from-whole
@@ -1052,12 +1076,12 @@ drive-spec =
     -- it runs on
     (λ c κs. search needs)
     ran-on-requires
-    mul-t94
+    mul-t99
     element-set-from-m-2
     (λ c κs. search needs)
     add-at-r
     (λ c κs. search needs)
-    mul-t98
+    mul-t103
     element-set-from-m-3
     add-m
     slot-after-requires
@@ -1073,6 +1097,9 @@ drive-spec =
     loop2-less-3
     loop2-again-3
     -- the next stretch
+    (λ c. search needs)
+    (λ c κs. search needs)
+    (λ c κs. search needs)
     (λ c κs. search needs)
     loop-less-3
     loop-again-3
@@ -1080,6 +1107,8 @@ drive-spec =
     mul-record-2
     element-copy-out-record-2
     add-m-2
+    gone-behind-requires
+    behind-slot-requires-2
     -- a fork
     (λ c. search needs)
     (λ c κs. search needs)
@@ -1088,15 +1117,15 @@ drive-spec =
     mul-parent-2
     element-set-from-parent
     (λ c κs. search needs)
-    mul-t116
+    mul-t126
     element-set-from-m-4
+    (λ c κs. search needs)
     (λ c κs. search needs)
     -- an ended side
     ended-task-requires
-    mul-t123
+    mul-t133
     element-set-from-m-5
     (λ c κs. search needs)
-    behind-slot-requires-2
     -- pairs
     loop3-holds
     mul-moved
@@ -1113,9 +1142,9 @@ drive-spec =
     -- registers cleared
     loop4-holds
     (λ c κs. search needs)
-    mul-t140
-    add-t141
-    mul-t142
+    mul-t149
+    add-t150
+    mul-t151
     element-set-from-m-6
     add-i
     loop4-less
@@ -1140,4 +1169,5 @@ drive-spec =
     -- the end
     sub-picks
     cast-picks
+    (λ c κs. search needs)
     returns)

@@ -1,0 +1,4 @@
+-- Definitions: what a reader of the bound must believe.
+pub mod Rounds
+pub mod Spans
+pub mod OnLanes

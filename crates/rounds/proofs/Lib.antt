@@ -1,0 +1,4 @@
+-- The theorems: `Jobs` proves the statements.
+pub mod Machine
+pub mod Jobs
+pub mod Course

@@ -1,0 +1,3 @@
+-- The statements.
+pub mod Jobs
+pub mod Course

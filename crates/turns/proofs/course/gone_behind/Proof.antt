@@ -1,0 +1,16 @@
+-- `gone_behind` meets its contract.
+use borrow.Author.Needs.{needs}
+use Rattle.turns.proofs.course.gone_behind.Statement.{statement}
+use Rattle.turns.proofs.course.gone_behind.Tie as tie
+
+add-result : tie.Need-add-result
+add-result c = search needs
+
+returns : tie.Need-returns
+returns c = rw (c .if1 .taken)
+
+returns-2 : tie.Need-returns-2
+returns-2 c = search needs
+
+pub gone-behind-spec : {M : Type 1} → statement M
+gone-behind-spec = tie.close (tie.spec add-result returns returns-2)
