@@ -1,8 +1,8 @@
 -- Demand 3: whatever the order of picks, a job agrees with its plain evaluation. It speaks of whole orders, and of any start and pick.
 -- Ours, as `machine` defines them, are one instance: `proofs/Demand.antt` proves it of them, and `teeth` that it is false of wrong ones.
 -- What it rests on, in reading order: agreement's Plain (the evaluation) and Slots (what an instruction does to the slots), image's Program,
--- task's Frames, Values, Choices, Effect and Step (an instruction, a join), machine's Slots, Ending, Starting and Picking. The shape test that a
--- pick makes (machine's Shape) refuses no pick of an order: Shapes.antt.
+-- task's Frames, Values, Choices, Effect and Step (an instruction, a join), drive's Slots, Ending and Issue, machine's Starting and Picking. The
+-- shape test that a pick makes (drive's Shape) refuses no pick of an order: Shapes.antt.
 use Prim.Native.Nat.{ℕ, _+_, _≤_, _<_}
 use mathlib.Core.Path.{_≡_}
 use mathlib.Core.Bool.{Bool, true, false}

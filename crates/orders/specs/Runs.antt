@@ -1,7 +1,7 @@
 -- A run along a course is an order of picks, whoever chooses them, so demand 3 speaks of every run: of the budgeted one and of a list. And a
 -- budget may be spent in two runs. `proofs/Courses.antt`, `Lists.antt`, `Runs.antt`, `Budgets.antt` and `SameEnd.antt` prove it.
--- What a course is, machine's Courses says; Running has the budgeted run: `outcome` is what `State::run` hands back, and `runFrom` the run
--- inside it, whose chooser `passes` keeps the slot that it reaches next. Listing has the list.
+-- What a course is, drive's Courses says; its Passes has the run with a budget, `runFrom`, whose chooser `passes` keeps the slot that it
+-- reaches next, and Listing the list. machine's Running has `outcome`, what `Machine::run` hands back.
 use Prim.Native.Nat.{ℕ, _+_, _<_, _≤_}
 use mathlib.Core.Path.{_≡_}
 use mathlib.Core.Logic.{_⊎_}

@@ -114,8 +114,8 @@ jointRegisters false pairs packed p c = copied c pairs packed p
 
 -- ---- What the machine ensures
 
--- of a running task of a state of the shape, below the work's limit: what carrying out its instruction needs to be safe. The machine proves
--- it in its `proofs/Readiness.antt`
+-- of a running task of a state of the shape, below the work's limit: what carrying out its instruction needs to be safe. `drive` proves it
+-- in its `proofs/Readiness.antt`
 pub record Ready (cells : List ℕ) (s v : Value) (t : Active) : Type 0 where
   pub accepted-program : programNo cells ≡ 0
   pub pc-below : t .pc < instructionCount cells

@@ -1,4 +1,4 @@
--- What the loop plans for the registers of two slots. Only its small functions cite these; `proofs/PlanLaws.antt` says what a plan does.
+-- What the loop plans for the registers of two slots. Only its small functions cite these; `drive`'s `PlanLaws` says what a plan does.
 use mathlib.Core.Bool.{Bool, cond}
 use Prim.Native.Nat.{ℕ}
 use Rattle.task.specs.declared.Kind.{Kind}
