@@ -38,7 +38,12 @@ returns c =
     let c7 = c5 .before .before in
     let c10 = c7 .before .before .before in
     let c15 = c10 .before .before .before .before .before in
-    replay-agrees (c15 .args .job .now) (c15 .pre .0) (c15 .args .order .now) (c15 .args .cells .now) (c5 .places-of .result) (c4 .interval-of .result) (c10 .read-registers .last .1 .0) (c7 .read-words .last .1 .0) (c .before .replay .result .no) (c .before .replay .result .machine .state) (c15 .pre .1) (c5 .places-of .ensures) (c4 .interval-of .ensures) (c10 .read-registers .ensures) (c7 .read-words .ensures) (c .before .replay .ensures .0) (c .before .replay .ensures .1 .0)
+    let a = c15 .args in
+    let answer = c .before .replay in
+    replay-agrees (a .job .now) (c15 .pre .0) (a .order .now) (a .cells .now) (c5 .places-of .result) (c4 .interval-of .result)
+    (c10 .read-registers .last .1 .0) (c7 .read-words .last .1 .0) (answer .result .no) (answer .result .machine .state)
+    (c15 .pre .1) (c5 .places-of .ensures) (c4 .interval-of .ensures) (c10 .read-registers .ensures) (c7 .read-words .ensures)
+    (answer .ensures .0) (answer .ensures .1 .0)
 
 pub carry-out-spec : {M : Type 1} → statement M
 carry-out-spec =

@@ -32,7 +32,9 @@ unfolding slotNo
 returns-3 c =
     let m = c .before .before .before .before .before .before .args .t1 in
     let n : length (m .tasks) ≡ 64 = search (needs, length-by) in
-    rw (lt-ltb _ _ (c .before .before .before .before .before .if1 .left), (ap isEnd (sym (c .before .before .before .end-at .ensures)) ∙ sym (c .before .before .has-ended .ensures) ∙ c .before .if2 .left), no-task-beyond m (c .before .before .before .before .before .before .args .slot) n (c .if3 .taken))
+    let below = c .before .before .before .before .before in
+    let not-ended = ap isEnd (sym (c .before .before .before .end-at .ensures)) ∙ sym (c .before .before .has-ended .ensures) ∙ c .before .if2 .left in
+    rw (lt-ltb _ _ (below .if1 .left), not-ended, no-task-beyond m (below .before .args .slot) n (c .if3 .taken))
 
 is-running-requires : tie.Need-is-running-requires
 is-running-requires c κs = search needs
