@@ -15,6 +15,7 @@
 # make soak-orders jobs on the model, every order against its plain evaluation: JOBS=.. SEED=..
 # make soak-replay jobs with orders of picks on both: make soak-replay JOBS=.. SEED=..
 # make limit       the work limit of 4,294,967,295 reached on the engine, about half a minute
+# make lanes       docs/lanes.md's table of the examples' rounds on 1 to 8 lanes, and docs/lanes.svg
 # make mutants     wrong definitions with code to match: which check catches each; minutes for each, hours for
 #                  all: make mutants MUTANTS='28 work_limit' AT_ONCE=2
 # make install     tpal.h, libtpal.a, libtpal.so, tpal.pc, tpal_run and tpasm below PREFIX, /usr/local:
@@ -51,6 +52,7 @@ archive = target/staticlib/libjob.a
 static = target/lib/libtpal.a
 shared = target/lib/libtpal.so.$(version)
 budgeted = target/c/run
+on_lanes = target/c/lanes
 assembler = rust/target/release/tpasm
 sources = crates.txt $(shell find crates -type f -not -path '*/must-fail/*')
 rust_sources = rust/Cargo.toml rust/Cargo.lock $(shell find rust/tpasm rust/model -type f)
@@ -59,14 +61,14 @@ in_rust = --release --offline --manifest-path rust/Cargo.toml
 # rt's checks share target/: one at a time.
 .NOTPARALLEL:
 .DELETE_ON_ERROR:
-.PHONY: all run lib test rust-test c-test bench soak soak-jobs soak-steps soak-orders soak-replay limit mutants install uninstall tools \
-        clean distclean help
+.PHONY: all run lib test rust-test c-test bench soak soak-jobs soak-steps soak-orders soak-replay limit lanes \
+        mutants install uninstall tools clean distclean help
 
 all: tools $(program) lib
 	cargo build $(in_rust)
 
-run: tools $(program) $(assembler) $(if $(BUDGET),$(budgeted))
-	@sh scripts/run.sh $(if $(BUDGET),-b '$(BUDGET)') "$$JOB" $(OPTIONS)
+run: tools $(program) $(assembler) $(if $(BUDGET),$(budgeted)) $(if $(LANES),$(on_lanes))
+	@sh scripts/run.sh $(if $(LANES),-l '$(LANES)') $(if $(BUDGET),-b '$(BUDGET)') "$$JOB" $(OPTIONS)
 run: export JOB := $(JOB)
 
 lib: $(static) $(shared)
@@ -102,6 +104,11 @@ soak-replay: tools $(archive)
 
 limit: tools $(archive)
 	cargo run $(in_rust) --bin limit
+
+# The page first: where a job breaks the bound, the plot is left as it was.
+lanes: tools $(archive)
+	cargo run $(in_rust) --bin lanes -- page docs/lanes.md
+	cargo run $(in_rust) --bin lanes -- plot >docs/lanes.svg
 
 mutants: tools $(archive)
 	@sh scripts/mutants.sh -j $(AT_ONCE) $(MUTANTS)
@@ -140,6 +147,10 @@ $(shared): $(archive) c/libtpal.map
 $(budgeted): c/run.c c/tpal.h $(static)
 	@mkdir -p $(@D)
 	$(CC) -std=c11 -Wall -Wextra $(CFLAGS) -Ic c/run.c $(static) -o $@
+
+$(on_lanes): c/lanes.c c/tpal.h $(static)
+	@mkdir -p $(@D)
+	$(CC) -std=c11 -Wall -Wextra $(CFLAGS) -Ic c/lanes.c $(static) -o $@
 
 $(assembler): $(rust_sources)
 	@cargo build --quiet $(in_rust) -p tpasm

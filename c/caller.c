@@ -1,5 +1,5 @@
-/* Calls the engine from C: the header's helpers, images, program buffers, replays, runs and jobs in
- * steps, mostly of program F. The last line is the total, 'N passed, M failed'. */
+/* Calls the engine from C: the header's helpers, images, program buffers, replays, runs, rounds on
+ * lanes and jobs in steps, mostly of program F. The last line is the total, 'N passed, M failed'. */
 
 #include "testing.h"
 

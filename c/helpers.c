@@ -18,6 +18,9 @@ _Static_assert(TPAL_SLOT_FORK(TPAL_MAX_FORKS) == TPAL_SLOT_REGISTER(0), "forks")
 _Static_assert(TPAL_SLOT_REGISTER(TPAL_REGISTER_COUNT) == TPAL_SLOT_NUMBERS, "slot");
 _Static_assert(8 * TPAL_REPORT_NUMBERS == TPAL_REPORT_BYTES, "report");
 _Static_assert(TPAL_REPORT_REGISTER(TPAL_REGISTER_COUNT) == TPAL_REPORT_NUMBERS, "registers");
+_Static_assert(8 * TPAL_ROUNDS_REPORT_NUMBERS == TPAL_ROUNDS_REPORT_BYTES, "report with rounds");
+_Static_assert(TPAL_REPORT_ROUNDS == TPAL_REPORT_NUMBERS, "rounds after a report's numbers");
+_Static_assert(TPAL_REPORT_ROUNDS + 1 == TPAL_ROUNDS_REPORT_NUMBERS, "rounds last");
 _Static_assert(8 * TPAL_REGISTER_COUNT == TPAL_REGISTERS_BYTES, "registers' bytes");
 _Static_assert(TPAL_IMAGE_BYTES(TPAL_MAX_BLOCKS, TPAL_MAX_INSTRUCTIONS) == TPAL_MAX_IMAGE_BYTES,
                "image");
@@ -168,16 +171,31 @@ static void try_jobs(void)
     try_make("and the longest image", &parts, sizeof largest, TPAL_REFUSED_LENGTH, largest, 0);
 }
 
+struct numbers {
+    unsigned first;
+    unsigned last;
+};
+
+static int among(unsigned number, const struct numbers *ranges, size_t count)
+{
+    size_t i;
+
+    for (i = 0; i < count; i++)
+        if (number >= ranges[i].first && number <= ranges[i].last)
+            return 1;
+    return 0;
+}
+
 /* Each number that has a name has words of its own, and no other number has any. */
-static void try_messages(const char *name, const char *(*message)(unsigned), unsigned first,
-                         unsigned last, unsigned gap_from, unsigned gap_to)
+static void try_messages(const char *name, const char *(*message)(unsigned),
+                         const struct numbers *ranges, size_t count)
 {
     const char *none = message(255);
     unsigned number;
     unsigned other;
 
     for (number = 0; number < 256; number++) {
-        int named = (number >= first && number <= last && (number < gap_from || number > gap_to));
+        int named = among(number, ranges, count);
         int right = (strcmp(message(number), none) != 0) == named;
 
         for (other = 0; named && other < number; other++)
@@ -189,12 +207,18 @@ static void try_messages(const char *name, const char *(*message)(unsigned), uns
 
 void try_helpers(void)
 {
+    static const struct numbers refusals[] = {
+        {TPAL_ACCEPTED, TPAL_REFUSED_BUFFER},
+        {TPAL_REFUSED_SHAPE, TPAL_REFUSED_WORK},
+        {TPAL_REFUSED_LANES, TPAL_REFUSED_LANES}
+    };
+    static const struct numbers faults[] = {{TPAL_FAULT_INTEGERS, TPAL_FAULT_OPEN_FORK}};
+
     try_version();
     try_numbers();
     try_state();
     try_jobs();
-    try_messages("words for a refusal", tpal_refusal_message, TPAL_ACCEPTED, TPAL_REFUSED_WORK,
-                 TPAL_REFUSED_BUFFER + 1, TPAL_REFUSED_SHAPE - 1);
-    try_messages("words for a fault", tpal_fault_message, TPAL_FAULT_INTEGERS, TPAL_FAULT_OPEN_FORK,
-                 256, 256);
+    try_messages("words for a refusal", tpal_refusal_message, refusals,
+                 sizeof refusals / sizeof *refusals);
+    try_messages("words for a fault", tpal_fault_message, faults, sizeof faults / sizeof *faults);
 }

@@ -1,7 +1,9 @@
-/* Runs with budgets, to a report and to a text: F's job, refused ones, and lengths of buffers. */
+/* Runs with budgets, to a report and to a text, and in rounds on lanes: F's job, refused ones, and
+ * lengths of buffers. */
 
 #include "testing.h"
 
+#include <inttypes.h>
 #include <stdio.h>
 #include <string.h>
 
@@ -77,6 +79,33 @@ static void try_text(const char *name, const uint8_t *job, size_t job_len, uint6
     expect(line, answer == length && right, (unsigned)length, (unsigned)answer);
 }
 
+/* `numbers` is what an accepted call reports before the rounds. */
+static void try_dispatch(const char *name, const uint8_t *job, size_t job_len, uint64_t lanes,
+                         uint64_t budget, size_t report_len, unsigned expected,
+                         const uint64_t *numbers, uint64_t rounds)
+{
+    uint8_t report[2 * TPAL_ROUNDS_REPORT_BYTES];
+    uint8_t untouched[sizeof report];
+    size_t written = expected == TPAL_ACCEPTED ? TPAL_ROUNDS_REPORT_BYTES : 0;
+    char line[160];
+    unsigned answer;
+    size_t index;
+    int right;
+
+    memset(report, FILL, sizeof report);
+    memset(untouched, FILL, sizeof untouched);
+    answer = tpal_job_dispatch(job, job_len, lanes, budget, report, report_len);
+    right = memcmp(report + written, untouched, sizeof report - written) == 0;
+    for (index = 0; index < written / 8; index++)
+        right = right
+            && tpal_number(report, index)
+                == (index == TPAL_REPORT_ROUNDS ? rounds : numbers[index]);
+    snprintf(line, sizeof line, "dispatch %s, lanes %" PRIu64 ", rounds %" PRIu64
+             ", into %zu bytes%s", name, lanes, budget, report_len,
+             right ? "" : " (wrong bytes in report)");
+    expect(line, answer == expected && right, expected, answer);
+}
+
 static void try_accepted(const char *name, const uint8_t *job, uint64_t budget,
                          const uint64_t *numbers, const char *text)
 {
@@ -93,6 +122,8 @@ static void try_refused(const char *name, const uint8_t *job, size_t job_len, un
     try_report(name, job, job_len, 0, 0, number, NULL);
     try_text(name, job, job_len, TPAL_RUN_BUDGET, TPAL_TEXT_BYTES, text);
     try_text(name, job, job_len, 0, TPAL_TEXT_BYTES, text);
+    try_dispatch(name, job, job_len, 2, TPAL_RUN_BUDGET, TPAL_ROUNDS_REPORT_BYTES, number, NULL, 0);
+    try_dispatch(name, job, job_len, TPAL_MAX_LANES + 1, 0, 0, number, NULL, 0);
 }
 
 static void try_budgets(uint8_t *job)
@@ -114,6 +145,60 @@ static void try_budgets(uint8_t *job)
     try_accepted("F with the largest budget", job, UINT64_MAX, f_report, f_text);
     job[PLACES_AT] = 1;
     try_accepted("F with P 1", job, TPAL_RUN_BUDGET, f_fault_report, f_fault_text);
+}
+
+/* A job that ends after `rounds`, of which `work` has what was carried out before each. */
+static void try_rounds(const char *name, const uint8_t *job, uint64_t lanes, const uint64_t *ended,
+                       const uint64_t *work, uint64_t rounds)
+{
+    uint64_t spent[TPAL_REPORT_NUMBERS] = {[TPAL_REPORT_END] = TPAL_END_SPENT};
+    const uint64_t enough[] = {rounds, rounds + 1, TPAL_RUN_BUDGET, UINT64_MAX};
+    uint64_t budget;
+    size_t i;
+
+    for (budget = 0; budget < rounds; budget++) {
+        spent[TPAL_REPORT_PICKS] = spent[TPAL_REPORT_WORK] = work[budget];
+        try_dispatch(name, job, JOB_LEN, lanes, budget, TPAL_ROUNDS_REPORT_BYTES, TPAL_ACCEPTED,
+                     spent, budget);
+    }
+    for (i = 0; i < sizeof enough / sizeof *enough; i++)
+        try_dispatch(name, job, JOB_LEN, lanes, enough[i], TPAL_ROUNDS_REPORT_BYTES, TPAL_ACCEPTED,
+                     ended, rounds);
+}
+
+/* F has two tasks at once in its third and fourth round, where there are lanes for both; more lanes
+ * than two change nothing. */
+static void try_lanes(uint8_t *job)
+{
+    static const uint64_t on_one[] = {0, 1, 2, 3, 4, 5, 6, 7, 8};
+    static const uint64_t on_two[] = {0, 1, 2, 4, 6, 7, 8};
+    static const uint64_t others[] = {
+        0, TPAL_MAX_LANES + 1, 255, 256 + 2, (UINT64_C(1) << 32) + 2, UINT64_MAX
+    };
+    static const size_t lengths[] = {
+        0, TPAL_REPORT_BYTES, TPAL_ROUNDS_REPORT_BYTES - 1, TPAL_ROUNDS_REPORT_BYTES + 1,
+        TPAL_ROUNDS_REPORT_BYTES + 8, 2 * TPAL_ROUNDS_REPORT_BYTES
+    };
+    uint64_t lanes;
+    size_t i;
+
+    try_rounds("F", job, 1, f_report, on_one, 9);
+    for (lanes = 2; lanes <= TPAL_MAX_LANES; lanes++)
+        try_rounds("F", job, lanes, f_report, on_two, 7);
+    for (i = 0; i < sizeof others / sizeof *others; i++) {
+        try_dispatch("F", job, JOB_LEN, others[i], TPAL_RUN_BUDGET, TPAL_ROUNDS_REPORT_BYTES,
+                     TPAL_REFUSED_LANES, NULL, 0);
+        try_dispatch("F", job, JOB_LEN, others[i], 0, TPAL_ROUNDS_REPORT_BYTES, TPAL_REFUSED_LANES,
+                     NULL, 0);
+    }
+    for (i = 0; i < sizeof lengths / sizeof *lengths; i++) {
+        try_dispatch("F", job, JOB_LEN, 2, TPAL_RUN_BUDGET, lengths[i], TPAL_REFUSED_BUFFER, NULL, 0);
+        try_dispatch("F", job, JOB_LEN, TPAL_MAX_LANES + 1, TPAL_RUN_BUDGET, lengths[i],
+                     TPAL_REFUSED_BUFFER, NULL, 0);
+    }
+    job[PLACES_AT] = 1;
+    try_rounds("F with P 1", job, 1, f_fault_report, on_one, 2);
+    try_rounds("F with P 1", job, 2, f_fault_report, on_one, 2);
 }
 
 /* F's job with one byte changed. */
@@ -180,5 +265,7 @@ void try_runs(void)
     try_text("F", job, JOB_LEN, TPAL_RUN_BUDGET, 0, "");
     try_text("F less a byte", job, JOB_LEN - 1, TPAL_RUN_BUDGET, 0, "");
     try_budgets(job);
+    make_job(job);
+    try_lanes(job);
     try_refusals();
 }

@@ -32,9 +32,9 @@ extern "C" {
 
 /* A major version changes names or meanings, a minor one adds to them. */
 #define TPAL_VERSION_MAJOR 1
-#define TPAL_VERSION_MINOR 0
+#define TPAL_VERSION_MINOR 1
 #define TPAL_VERSION_PATCH 0
-#define TPAL_VERSION_STRING "1.0.0"
+#define TPAL_VERSION_STRING "1.1.0"
 
 /* ---- Refusals and faults */
 
@@ -59,6 +59,8 @@ extern "C" {
 #define TPAL_REFUSED_REGISTERS 13    /* sixteen registers? */
 #define TPAL_REFUSED_WORDS 14        /* at most 4,096 words? */
 #define TPAL_REFUSED_BUFFER 15       /* every lent buffer of the right length? */
+/* The question about a dispatcher, put after 15 and before 20. */
+#define TPAL_REFUSED_LANES 41        /* 1 to 8 lanes? */
 /* Questions about a state, put last. */
 #define TPAL_REFUSED_SHAPE 20        /* bytes of a state that fits the program? (tpal_pick, below) */
 #define TPAL_REFUSED_SLOT 21         /* slot below P? */
@@ -88,6 +90,7 @@ extern "C" {
 #define TPAL_MAX_FORKS 6           /* open at once, of one task */
 #define TPAL_MAX_INTERVAL 65535
 #define TPAL_MAX_WORDS 4096
+#define TPAL_MAX_LANES 8           /* of a dispatcher */
 #define TPAL_MAX_WORK 4294967295u  /* a job that stands there is spent */
 #define TPAL_MAX_JOB_BYTES 46479   /* of a job that is accepted: the largest image, 4,096 words */
 /* Of a job that passes question 10, with an image of 65,535 bytes and 65,535 words; no such job is
@@ -247,7 +250,7 @@ uint8_t tpal_pick(const uint8_t *program, size_t program_len, const uint8_t *wor
 #define TPAL_REPORT_WORK 3
 #define TPAL_REPORT_SPAN 4
 #define TPAL_REPORT_REGISTER(i) (5 + TPAL_REGISTER_NUMBERS * (i)) /* register i, 0 to 15 */
-#define TPAL_END_SPENT 0 /* the budget's picks are carried out, or the work stands at its limit */
+#define TPAL_END_SPENT 0 /* the budget is used up, or the work stands at its limit */
 #define TPAL_END_HALT 1
 #define TPAL_END_FAULT 2
 
@@ -261,6 +264,21 @@ uint8_t tpal_pick(const uint8_t *program, size_t program_len, const uint8_t *wor
  * call: not every job ends. */
 uint8_t tpal_job_run(const uint8_t *job, size_t job_len, uint64_t budget, uint8_t *report,
                      size_t report_len);
+
+/* A report with rounds: 54 numbers of 64 bits, little-endian. The first 53 are a report's, above. */
+#define TPAL_ROUNDS_REPORT_BYTES 432
+#define TPAL_ROUNDS_REPORT_NUMBERS 54
+#define TPAL_REPORT_ROUNDS 53 /* begun by this call: one that the work's limit cuts short counts */
+
+/* Starts a job and runs it in rounds on so many lanes. A round takes the first tasks, in the order of
+ * their slots, that run when it begins, one a lane, until the lanes or the tasks are used up, and
+ * picks each once; a task that is made in a round, by a fork or a join, waits for the next. Goes on
+ * until the job has ended, `rounds` of them are done or the work stands at its limit; a job that ends
+ * in the last of them has ended. Then writes the report with rounds to `report`. Answers 0; or 10; or
+ * 1 to 9; or 11, 12 or 14; or 15 when report_len is not TPAL_ROUNDS_REPORT_BYTES; or 41 when `lanes`
+ * is not 1 to 8. Of a job that has ended, lanes * rounds <= work + (lanes - 1) * span. */
+uint8_t tpal_job_dispatch(const uint8_t *job, size_t job_len, uint64_t lanes, uint64_t rounds,
+                          uint8_t *report, size_t report_len);
 
 /* Runs a job on from a state, as tpal_job_run does from a fresh start: the passes begin at slot 0.
  * The new state is written over `state`, and the report to `report`: its picks are this call's, its
@@ -412,6 +430,8 @@ static inline const char *tpal_refusal_message(unsigned number)
         return "there are more than 4096 words";
     case TPAL_REFUSED_BUFFER:
         return "a buffer is not of the right length";
+    case TPAL_REFUSED_LANES:
+        return "the lanes are not 1 to 8";
     case TPAL_REFUSED_SHAPE:
         return "the bytes are no state that fits the program";
     case TPAL_REFUSED_SLOT:

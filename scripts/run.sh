@@ -2,21 +2,27 @@
 # Assembles a program's text, runs it, and prints the result with the names that the text has for its
 # registers:
 #
-#     scripts/run.sh [-b BUDGET] TEXT [OPTIONS of `tpasm job`]
+#     scripts/run.sh [-l LANES] [-b BUDGET] TEXT [OPTIONS of `tpasm job`]
 #
-# Without a budget the run program runs it; with one c/run.c, which makes the same call. The status
+# Without a budget the run program runs it; with one c/run.c, which makes the same call. With lanes
+# c/lanes.c runs it in rounds, of which the budget is then the number, and prints them too. The status
 # says how it ended: 0 halt, 1 refused, 2 fault, 3 spent; 4 when nothing was run or printed.
 set -u
 root=$(dirname "$0")/..
 assembler=$root/rust/target/release/tpasm
 
+lanes=''
+if [ "${1:-}" = -l ]; then
+    lanes=${2:-}
+    shift 2
+fi
 budget=''
 if [ "${1:-}" = -b ]; then
     budget=${2:-}
     shift 2
 fi
 if [ $# -eq 0 ]; then
-    echo 'usage: run.sh [-b BUDGET] TEXT [OPTIONS of tpasm job]' >&2
+    echo 'usage: run.sh [-l LANES] [-b BUDGET] TEXT [OPTIONS of tpasm job]' >&2
     exit 4
 fi
 text=$1
@@ -27,13 +33,21 @@ case $budget in
     exit 4
     ;;
 esac
+case $lanes in
+*[!0-9]*)
+    echo "lanes are a number from 1 to 8, found '$lanes'" >&2
+    exit 4
+    ;;
+esac
 
 room=$(mktemp -d) || exit 4
 trap 'rm -rf "$room"' EXIT
 trap 'exit 4' HUP INT TERM
 
 "$assembler" job "$text" "$@" -o "$room/job" || exit 4
-if [ -n "$budget" ]; then
+if [ -n "$lanes" ]; then
+    "$root/target/c/lanes" "$lanes" ${budget:+"$budget"} <"$room/job" >"$room/said" || exit 4
+elif [ -n "$budget" ]; then
     "$root/target/c/run" "$budget" <"$room/job" >"$room/said" || exit 4
 else
     "$root/target/bin/tpal_run" <"$room/job" >"$room/said" || exit 4

@@ -2,3 +2,4 @@
 pub mod Test
 pub mod Enough
 pub mod Starred
+pub mod Lanes

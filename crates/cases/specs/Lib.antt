@@ -4,3 +4,4 @@ pub mod Cases
 pub mod ProgramF
 pub mod Figure2
 pub mod Table
+pub mod Lanes

@@ -19,6 +19,10 @@ use Rattle.machine.specs.Starting.{startNoBy, fresh}
 use Rattle.drive.specs.Shape.{shape}
 use Rattle.drive.specs.Issue.{slotNo}
 use Rattle.machine.specs.Picking.{stateNoBy}
+use Rattle.machine.specs.Dispatching.{dispatchNoBy, dispatched}
+use Rattle.drive.specs.Rounds.{taken, rounds}
+use Rattle.job.specs.Dispatch.{dispatchJobNo}
+use Rattle.doors.specs.Lanes.{laneRows, roundRows}
 use Rattle.drive.specs.Courses.{follows}
 use Rattle.drive.specs.Passes.{firstRunning, nextPick, passes as passing}
 use Rattle.machine.specs.Running.{outcome}
@@ -93,6 +97,23 @@ faults-pass : every passes faultRows ≡ true
 unfolding faultRows operations others goingOn ending assembled bytesOf little rows buffer cellsIn operand asked belong fits promotes step
 faults-pass = refl
 
+lanes-pass : every passes laneRows ≡ true
+unfolding laneRows programF imageF jobF
+    orElse firstNo countsNo rising unjoined joined annotated blockNo register operandFits laidOut startsAt lastInBlock instructionNo
+    recordsNo little rows buffer cellsIn markIn headerNo imageNo programNo startNoBy dispatchNoBy dispatched
+    endsExactly jobNo dispatchJobNo
+    shape rank tiles hollow everySlot isTarget formed isVacant reads fresh
+    follows rounds taken operand asked belong fits promotes step copied join settle carry
+lanes-pass = refl
+
+rounds-pass : every passes roundRows ≡ true
+unfolding roundRows programF imageF
+    orElse firstNo countsNo rising unjoined joined annotated blockNo register operandFits laidOut startsAt lastInBlock instructionNo
+    recordsNo little rows buffer cellsIn programNo dispatchNoBy dispatched
+    shape rank tiles hollow everySlot isTarget formed isVacant reads fresh
+    follows rounds taken operand asked belong fits promotes step copied join settle carry
+rounds-pass = refl
+
 texts-pass : every passes textRows ≡ true
 unfolding textRows jobF imageF assembled bytesOf
     orElse firstNo countsNo rising unjoined joined annotated blockNo register operandFits laidOut startsAt lastInBlock instructionNo
@@ -117,7 +138,9 @@ all-pass =
     (every-append passes startRows _ starts-pass
     (every-append passes pickRows _ picks-pass
     (every-append passes jobRows _ jobs-pass
-    (every-append passes byteRows _ bytes-pass (every-append passes faultRows _ faults-pass texts-pass))))))
+    (every-append passes byteRows _ bytes-pass
+    (every-append passes faultRows _ faults-pass
+    (every-append passes laneRows _ lanes-pass (every-append passes roundRows _ rounds-pass texts-pass))))))))
 
 pub every-door : EveryDoor
 every-door x h = right x (every-at passes doors all-pass x h)

@@ -7,8 +7,9 @@ use lib.Dec.{eqb}
 use borrow.Author.Tests.{eqb-true}
 use Rattle.facts.proofs.Tests.{clash, both-true}
 use Rattle.machine.specs.Running.{outcome}
+use Rattle.machine.specs.Dispatching.{dispatched}
 use Rattle.job.specs.Run.{textIn}
-use Rattle.doors.specs.Doors.{answer, Said, refused, ended, spent, saidBy, printed, Row, _gives_, says, prints, Right}
+use Rattle.doors.specs.Doors.{answer, Said, refused, ended, spent, saidBy, dispatchSaidBy, printed, Row, _gives_, says, onLanes, prints, Right}
 
 abbrev pub sameBytes : List ℕ → List ℕ → Bool
 sameBytes [] [] = true
@@ -30,6 +31,7 @@ sameSaid (spent n) (spent k) = eqb n k
 abbrev pub passes : Row → Bool
 passes (call gives n) = eqb (answer call) n
 passes (says program words state budget said) = sameSaid (saidBy (outcome program words state budget)) said
+passes (onLanes program words state lanes budget said) = sameSaid (dispatchSaidBy (dispatched program words state lanes budget)) said
 passes (prints bytes budget lines) = sameBytes (textIn bytes budget) (printed lines)
 
 -- ---- It is enough
@@ -55,4 +57,5 @@ same-said (spent n) (spent k) e = ap spent (eqb-true n k e)
 pub right : (x : Row) → passes x ≡ true → Right x
 right (call gives n) e = eqb-true (answer call) n e
 right (says program words state budget said) e = same-said (saidBy (outcome program words state budget)) said e
+right (onLanes program words state lanes budget said) e = same-said (dispatchSaidBy (dispatched program words state lanes budget)) said e
 right (prints bytes budget lines) e = same-bytes (textIn bytes budget) (printed lines) e

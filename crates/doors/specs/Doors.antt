@@ -19,6 +19,9 @@ use Rattle.machine.specs.declared.Outcome.{Outcome}
 use Rattle.machine.specs.Starting.{startNo}
 use Rattle.machine.specs.Picking.{pickNo}
 use Rattle.machine.specs.Running.{outcome}
+use Rattle.machine.specs.declared.Dispatched.{Dispatched}
+use Rattle.machine.specs.Dispatching.{dispatched}
+use Rattle.job.specs.Dispatch.{dispatchJobNo}
 use Rattle.state.specs.State.{faultNumber}
 use Rattle.steps.specs.Calls as steps
 use Rattle.job.specs.Job.{jobNo}
@@ -44,10 +47,14 @@ pub data Call : Type 0 where
   pick : List ℕ → List ℤ → State → ℕ → Call
   -- run: a program buffer, words, a state and a budget
   run : List ℕ → List ℤ → State → ℕ → Call
+  -- the dispatcher: a program buffer, words, a state and lanes
+  dispatch : List ℕ → List ℤ → State → ℕ → Call
   -- the run program: a job
   job : List ℕ → Call
   -- the run and the replay of a job: a job, and the length of the buffer that is lent
   runJob replay : List ℕ → ℕ → Call
+  -- the dispatcher of a job: a job, lanes, and the length of the buffer that is lent
+  dispatchJob : List ℕ → ℕ → ℕ → Call
   -- the calls over bytes. The writer: a program, and the length of the lent image
   writeBytes : List ℕ → ℕ → Call
   -- start: a program, P, the interval, registers, words, and the length of the lent state
@@ -74,9 +81,11 @@ answer (write program lent) = writeNo program lent
 answer (start program places interval registers words) = startNo program places interval registers words
 answer (pick program words state slot) = pickNo program words state slot
 answer (run program words state budget) = outcome program words state budget .no
+answer (dispatch program words state lanes) = dispatched program words state lanes 0 .no
 answer (job bytes) = jobNo bytes
 answer (runJob bytes lent) = runNo bytes lent
 answer (replay bytes lent) = replayNo bytes lent
+answer (dispatchJob bytes lanes lent) = dispatchJobNo bytes lanes lent
 answer (writeBytes program lent) = steps.writtenNo program lent
 answer (startBytes program places interval registers words lent) = steps.startedNo program places interval registers words lent
 answer (pickBytes program words slot state) = steps.pickedNo program words slot state
@@ -93,6 +102,10 @@ pub data Said : Type 0 where
 
 abbrev pub saidBy : Outcome → Said
 saidBy o = cond (eqb (o .no) 0) (cond (o .ended) (ended (o .picks)) (spent (o .picks))) (refused (o .no))
+
+-- the dispatcher's number is that of the rounds
+abbrev pub dispatchSaidBy : Dispatched → Said
+dispatchSaidBy o = cond (eqb (o .no) 0) (cond (o .ended) (ended (o .rounds)) (spent (o .rounds))) (refused (o .no))
 
 -- ---- What the run program prints
 
@@ -112,12 +125,15 @@ pub data Row : Type 0 where
   _gives_ : Call → ℕ → Row
   -- a run of this program buffer, words, state and budget says this
   says : List ℕ → List ℤ → State → ℕ → Said → Row
+  -- the dispatcher of this program buffer, words, state, lanes and budget says this
+  onLanes : List ℕ → List ℤ → State → ℕ → ℕ → Said → Row
   -- the run program prints these lines for a job and a budget
   prints : List ℕ → ℕ → List String → Row
 
 abbrev pub Right : Row → Type 0
 Right (call gives n) = answer call ≡ n
 Right (says program words state budget said) = saidBy (outcome program words state budget) ≡ said
+Right (onLanes program words state lanes budget said) = dispatchSaidBy (dispatched program words state lanes budget) ≡ said
 Right (prints bytes budget lines) = textIn bytes budget ≡ printed lines
 
 -- ---- What several doors are asked

@@ -10,4 +10,5 @@ pub mod Jobs
 pub mod Bytes
 pub mod Faults
 pub mod Texts
+pub mod Lanes
 pub mod Table

@@ -1,5 +1,5 @@
 -- An accepted job, run: its fresh start is a state of the shape, and the loop from there is the run of the definition. And the text.
-use mathlib.Core.Path.{_≡_, sym, ap, _∙_, subst⁻¹}
+use mathlib.Core.Path.{_≡_, sym, ap, _∙_, subst⁻¹, subst}
 use mathlib.Core.Bool.{true, cond}
 use mathlib.Core.List.{List}
 use Prim.Native.Nat.{ℕ, _^_, _<_}
@@ -13,6 +13,9 @@ use Rattle.image.specs.Layout.{programCells, cellsIn, programOf}
 use Rattle.image.specs.Questions.{programNo}
 use Rattle.drive.specs.declared.State.{State}
 use Rattle.drive.specs.declared.Driven.{Driven}
+use Rattle.machine.specs.declared.Dispatched.{Dispatched}
+use Rattle.machine.specs.Dispatching.{lanesAllowed, dispatched}
+use Rattle.machine.proofs.DispatchLaws.{passed-dispatch, dispatch-accepted}
 use Rattle.machine.specs.Starting.{fresh, empty}
 use Rattle.drive.specs.Shape.{shape}
 use Rattle.turns.specs.declared.course.Course.the-variants.{Passes}
@@ -28,6 +31,7 @@ use Rattle.report.specs.Report.{reportOf}
 use Rattle.report.specs.Text.{textOf, refusedText, textRoom}
 use Rattle.job.specs.Job.{jobImage, jobPlaces, jobInterval, jobRegisters, jobWords, jobNo}
 use Rattle.job.specs.Replay.{jobIn}
+use Rattle.job.specs.Dispatch.{roundsIn}
 use Rattle.job.specs.Run.{reportIn, textIn, textLength, textStored}
 use Rattle.job.proofs.Replaying.{start-agrees}
 
@@ -61,6 +65,17 @@ module _ (bytes : List ℕ) (accepted : jobNo bytes ≡ 0) where
     run-agrees t order budget f g =
         let first : m ≡ startOn j (empty 0 0) = its-state ∙ sym (started-fresh (empty 0 0) (j .cells) (j .places) (j .interval) (j .registers) (j .words) (start-agrees bytes accepted)) in
         g ∙ ap (λ (o : Driven). reportOf (o .state) (o .picks)) (f ∙ (λ i. driven (p i) (t i) (first i) order (Passes 0 budget)))
+
+    -- in rounds: none of the dispatcher's questions is answered with no
+    pub rounds-agree : {words : List ℤ} (t : words ≡ jobWords bytes) (lanes budget : ℕ) → lanesAllowed lanes ≡ true → {d : Dispatched} {report : Report}
+        → d ≡ dispatched cells words m lanes budget → report ≡ reportOf (d .machine .state) (d .picks)
+        → let o = roundsIn bytes lanes budget in (report ≡ reportOf (o .state) (o .picks)) × (d .rounds ≡ o .kept .done)
+    rounds-agree t lanes budget allows f g =
+        let first : m ≡ startOn j (empty 0 0) = its-state ∙ sym (started-fresh (empty 0 0) (j .cells) (j .places) (j .interval) (j .registers) (j .words) (start-agrees bytes accepted)) in
+        let x : Fits (j .cells) (j .interval) (j .places) (startOn j (empty 0 0)) = subst (Fits (j .cells) (j .interval) (j .places)) (sym its-state ∙ first) (fresh-fits start) in
+        let passes = passed-dispatch (j .cells) (j .words) lanes (startOn j (empty 0 0)) (record { program = start .allowed .program; lent = start .lent }) allows (fits-shape (start .allowed) _ x) in
+        let same = f ∙ (λ i. dispatched (p i) (t i) (first i) lanes budget) ∙ dispatch-accepted (j .cells) (j .words) lanes (startOn j (empty 0 0)) budget passes in
+        (g ∙ ap (λ (o : Dispatched). reportOf (o .machine .state) (o .picks)) same, ap (λ (o : Dispatched). o .rounds) same)
 
 -- ---- the text
 

@@ -2,3 +2,4 @@
 pub mod Job
 pub mod Replay
 pub mod Run
+pub mod Dispatch

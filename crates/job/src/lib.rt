@@ -3,12 +3,15 @@ mod input;
 
 use drive::State;
 use image::layout::PROGRAM_CELLS;
+use machine::Machine;
 use machine::start::MOST_WORDS;
 use report::REPORT_BYTES;
+use report::ROUNDS_REPORT_BYTES;
 use report::Report;
 use report::TEXT_BYTES;
 use state::STATE_BYTES;
 ghost use mathlib.Core.Path.{_≡_};
+ghost use mathlib.Core.Bool.{true};
 ghost use lib.ListN.{length};
 ghost use Rattle.image.specs.Layout.{cellsIn};
 ghost use Rattle.image.specs.Doors.{imageNo, rewriteNo, unlessRefused};
@@ -16,10 +19,12 @@ ghost use Rattle.machine.specs.Starting.{empty};
 ghost use Rattle.orders.specs.Demand.{WhateverTheOrder, startOn};
 ghost use Rattle.state.specs.State.{stateBytes};
 ghost use Rattle.job.specs.Job.{jobImage, wordCount, jobNo};
-ghost use Rattle.report.specs.Report.{reportBytes};
+ghost use Rattle.report.specs.Report.{reportBytes, reportOf};
+ghost use Rattle.machine.specs.Dispatching.{lanesAllowed};
 ghost use Rattle.job.specs.Replay.{jobIn, replayNo, replayOf};
 ghost use Rattle.steps.specs.Calls.{readNo, programAfter, writtenNo, imageAfter, startedNo, stateAfterStart, pickedNo, stateAfterPick, ranNo, stateAfterRun, reportAfterRun};
 ghost use Rattle.job.specs.Run.{reportIn, runNo, textLength, textStored};
+ghost use Rattle.job.specs.Dispatch.{roundsIn, roundsReportIn, dispatchJobNo};
 
 // The words that fit into the small one of a job's two buffers.
 const FEW_WORDS: usize = 256;
@@ -132,6 +137,65 @@ pub extern "C" fn tpal_job_run(job: &[u8], budget: u64, out: &mut [u8]) -> u8
     }
     let r = run_accepted(job, &cells, budget);
     report::bytes::write_report(r, out);
+    0
+}
+
+// What the dispatcher comes to for a job: the report of the state that it leaves, and the rounds begun.
+pub struct RoundsReport {
+    pub report: Report,
+    pub rounds: u64,
+}
+
+// An accepted job's rounds, whose words go to the lent slice.
+fn dispatch_job(
+    job: &[u8],
+    cells: &[u64],
+    words: &mut [i64],
+    lanes: u64,
+    rounds: u64,
+) -> RoundsReport
+    requires { ⌜ (jobNo (now job) ≡ 0) × (now cells ≡ cellsIn (jobImage (now job))) × (length (now words) ≡ wordCount (now job)) × (lanesAllowed lanes ≡ true) ⌝ }
+    ensures { λ r. ⌜ (r .report ≡ reportOf (roundsIn (now (job .entry)) lanes rounds .state) (roundsIn (now (job .entry)) lanes rounds .picks))
+        × (r .rounds ≡ roundsIn (now (job .entry)) lanes rounds .kept .done) ⌝ }
+{
+    let mut registers = [0i64; 16];
+    input::read_registers(job, &mut registers);
+    input::read_words(job, words);
+    let places = input::places_of(job);
+    let interval = input::interval_of(job);
+    let fresh = machine::start::fresh_state(places, interval as u16, &registers);
+    let machine = Machine { state: fresh };
+    let dispatched = machine.dispatch(cells, words, lanes, rounds);
+    let last = dispatched.machine;
+    RoundsReport {
+        report: report::report_of(last.state, dispatched.picks),
+        rounds: dispatched.rounds,
+    }
+}
+
+// Runs a job, given by its bytes, in rounds on 1 to 8 lanes (41), at most so many, and writes its report and the rounds into `out`, which has
+// 432 bytes (15). A refusal leaves `out` as it was.
+#[no_mangle]
+pub extern "C" fn tpal_job_dispatch(job: &[u8], lanes: u64, rounds: u64, out: &mut [u8]) -> u8
+    ensures { λ r. ⌜ r ≡ dispatchJobNo (now (job .entry)) lanes (length (now (out .entry))) ⌝ }
+    ensures { λ r. ⌜ now (out .exit) ≡ unlessRefused r (roundsReportIn (now (job .entry)) lanes rounds) (now (out .entry)) ⌝ }
+{
+    let mut cells = [0u64; PROGRAM_CELLS];
+    let no = input::ask_job(job, &mut cells);
+    if no != 0 {
+        return no;
+    }
+    if out.len() != ROUNDS_REPORT_BYTES {
+        return 15;
+    }
+    if !machine::dispatch::allows_lanes(lanes) {
+        return 41;
+    }
+    let mut words = [0i64; MOST_WORDS];
+    let count = input::word_count(job);
+    let r = dispatch_job(job, &cells, &mut words[..count], lanes, rounds);
+    let report = r.report;
+    report::bytes::write_rounds_report(report, r.rounds, out);
     0
 }
 

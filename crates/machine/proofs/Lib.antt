@@ -4,3 +4,4 @@ pub mod Filling
 pub mod CodedSlots
 pub mod MeetsShape
 pub mod Picked
+pub mod DispatchLaws

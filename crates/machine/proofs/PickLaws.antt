@@ -26,7 +26,7 @@ use Rattle.drive.specs.Slots.{at, ticked, slotsOf}
 use Rattle.drive.specs.Ending.{jobEnded}
 use Rattle.drive.specs.Shape.{shape}
 use Rattle.drive.specs.Issue.{slotNo, issued}
-use Rattle.machine.specs.Picking.{stateNoBy, stateNo, pickNo, picked}
+use Rattle.machine.specs.Picking.{callNo, stateNoBy, stateNo, pickNo, picked}
 use Rattle.drive.proofs.Models.{modelOf, Allowed}
 use Rattle.drive.proofs.ShapeLaws.{Fits, fits-shape}
 use Rattle.drive.proofs.IssueLaws.{issued-work, issued-places, issued-interval}
@@ -57,6 +57,22 @@ pub record Passed (cells : List ℕ) (words : List ℤ) : Type 0 where
   pub program : programNo cells ≡ 0
   pub lent : Lent cells words
 
+-- question by question
+call-parts : (cells : List ℕ) (words : ℕ) → callNo cells words ≡ 0
+    → (programNo cells ≡ 0) × (leb words 4096 ≡ true) × (eqb (length cells) programCells ≡ true)
+call-parts cells words e =
+    let p = or-else-both (programNo cells) _ e in
+    let a = ask-yes (leb words 4096) 14 _ tt (p .1) in
+    let b = ask-yes (eqb (length cells) programCells) 15 0 tt (a .1) in
+    (p .0, a .0, b .0)
+
+pub call-lent : (cells : List ℕ) (words : ℕ) → callNo cells words ≡ 0 → (programNo cells ≡ 0) × (length cells ≡ programCells)
+call-lent cells words e = let x = call-parts cells words e in (x .0, eqb-true (length cells) programCells (x .2))
+
+pub call-passed : (cells : List ℕ) (words : List ℤ) → callNo cells (length words) ≡ 0 → Passed cells words
+call-passed cells words e =
+    let x = call-parts cells (length words) e in record { program = x .0; lent = record { few-words = x .1; whole = x .2 } }
+
 pub record StatePassed (cells : List ℕ) (words : List ℤ) (m : State) : Type 0 where
   pub passed : Passed cells words
   pub shaped : shape (programOf cells) m ≡ true
@@ -64,11 +80,9 @@ pub record StatePassed (cells : List ℕ) (words : List ℤ) (m : State) : Type 
 pub state-passed : (cells : List ℕ) (words : List ℤ) (m : State) → stateNo cells words m ≡ 0 → StatePassed cells words m
 unfolding stateNoBy
 state-passed cells words m e =
-    let p = or-else-both (programNo cells) _ e in
-    let a = ask-yes (leb (length words) 4096) 14 _ tt (p .1) in
-    let b = ask-yes (eqb (length cells) programCells) 15 _ tt (a .1) in
-    let c = ask-yes (shape (programOf cells) m) 20 0 tt (b .1) in
-    record { passed = record { program = p .0; lent = record { few-words = a .0; whole = b .0 } }; shaped = c .0 }
+    let p = or-else-both (callNo cells (length words)) _ e in
+    let c = ask-yes (shape (programOf cells) m) 20 0 tt (p .1) in
+    record { passed = call-passed cells words (p .0); shaped = c .0 }
 
 pub whole-length : {cells : List ℕ} {words : List ℤ} → Passed cells words → length cells ≡ programCells
 whole-length {cells} x = eqb-true (length cells) programCells (x .lent .whole)

@@ -2,3 +2,4 @@
 pub mod Starting
 pub mod Picking
 pub mod Running
+pub mod Dispatching

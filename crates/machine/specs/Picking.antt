@@ -12,11 +12,13 @@ use Rattle.drive.specs.Shape.{shape}
 use Rattle.drive.specs.Issue.{slotNo, issued}
 use Rattle.machine.specs.Starting.{mostWords}
 
--- The program's questions, 14 and 15, then: does the state meet the shape test? (20) Of the words only their number counts
+-- The program's questions, then 14 and 15, as start has them: every call on a state puts them. Of the words only their number counts
+abbrev pub callNo : List ℕ → ℕ → ℕ
+callNo cells words = orElse (programNo cells) (ask (leb words mostWords) 14 (ask (eqb (length cells) programCells) 15 0))
+
+-- then: does the state meet the shape test? (20)
 unfoldable pub stateNoBy : List ℕ → ℕ → State → ℕ
-stateNoBy cells words m =
-    orElse (programNo cells)
-    (ask (leb words mostWords) 14 (ask (eqb (length cells) programCells) 15 (ask (shape (programOf cells) m) 20 0)))
+stateNoBy cells words m = orElse (callNo cells words) (ask (shape (programOf cells) m) 20 0)
 
 abbrev pub stateNo : List ℕ → List ℤ → State → ℕ
 stateNo cells words m = stateNoBy cells (length words) m

@@ -1,4 +1,5 @@
-// The machine: start, pick and run, each a method that takes the state by value and hands the new one back.
+// The machine: start, pick, run and dispatch, each a method that takes the state by value and hands the new one back.
+pub mod dispatch;
 pub mod pick;
 mod run;
 pub mod start;
@@ -21,6 +22,16 @@ pub struct Answered {
 // spent.
 pub struct Outcome {
     pub machine: Machine,
+    pub picks: u64,
+    pub no: u8,
+    pub ended: bool,
+}
+
+// What the dispatcher hands back: the state, the rounds begun, the picks carried out, 0 or the number of a refusal, and whether the job has
+// ended or is spent.
+pub struct Dispatched {
+    pub machine: Machine,
+    pub rounds: u64,
     pub picks: u64,
     pub no: u8,
     pub ended: bool,

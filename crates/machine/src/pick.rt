@@ -20,7 +20,7 @@ ghost use Rattle.image.specs.Questions.{orElse, programNo};
 ghost use Rattle.task.specs.Frames.{noTask};
 ghost use Rattle.drive.specs.Shape.{shape};
 ghost use Rattle.drive.specs.Issue.{slotNo};
-ghost use Rattle.machine.specs.Picking.{stateNoBy, pickNo, picked};
+ghost use Rattle.machine.specs.Picking.{callNo, stateNoBy, pickNo, picked};
 
 // Questions 21 to 24; t is the task at slot % 64. A state of the shape has at most 64 places.
 fn ask_slot(m: State, t: Task, slot: u64) -> u8
@@ -49,7 +49,7 @@ fn ask_slot(m: State, t: Task, slot: u64) -> u8
 }
 
 // Question 20. The caller has put the program's questions, and the one on the buffer's length.
-fn meets_shape(cells: &[u64], m: State) -> bool
+pub fn meets_shape(cells: &[u64], m: State) -> bool
     requires { ⌜ (programNo (now cells) ≡ 0) × (length (now cells) ≡ programCells) ⌝ }
     ensures { λ r. ⌜ r ≡ shape (programOf (now (cells .entry))) m ⌝ }
 {
@@ -70,9 +70,9 @@ fn meets_shape(cells: &[u64], m: State) -> bool
     tasks::counts_fit(m.work, tasks)
 }
 
-// The questions of pick and run about program, words and state. Of the words only their number counts.
-pub fn ask_state(cells: &[u64], words: usize, m: State) -> u8
-    ensures { λ r. ⌜ r ≡ stateNoBy (now (cells .entry)) words m ⌝ }
+// The questions about program and words that every call on a state puts. Of the words only their number counts.
+pub fn ask_call(cells: &[u64], words: usize) -> u8
+    ensures { λ r. ⌜ r ≡ callNo (now (cells .entry)) words ⌝ }
 {
     let no = image::questions::ask_program(cells);
     if no != 0 {
@@ -83,6 +83,17 @@ pub fn ask_state(cells: &[u64], words: usize, m: State) -> u8
     }
     if cells.len() != image::layout::PROGRAM_CELLS {
         return 15;
+    }
+    0
+}
+
+// The questions of pick and run about program, words and state.
+pub fn ask_state(cells: &[u64], words: usize, m: State) -> u8
+    ensures { λ r. ⌜ r ≡ stateNoBy (now (cells .entry)) words m ⌝ }
+{
+    let no = ask_call(cells, words);
+    if no != 0 {
+        return no;
     }
     if !meets_shape(cells, m) {
         return 20;

@@ -1,6 +1,6 @@
 -- The report of a run, and its bytes: 53 numbers of 64 bits, little-endian.
 use mathlib.Core.Bool.{Bool, true, false}
-use mathlib.Core.List.{List, _∷_}
+use mathlib.Core.List.{List, _∷_, [], _++_}
 use Prim.Native.Nat.{ℕ}
 use lib.ListN.{getD}
 use Rattle.image.specs.Layout.{rows}
@@ -52,3 +52,11 @@ reportLength = 424
 
 abbrev pub reportBytes : Report → List ℕ
 reportBytes r = inBytes (reportNumbers r)
+
+-- ---- The report of rounds: the same, and then how many were begun
+
+abbrev pub roundsReportLength : ℕ
+roundsReportLength = 432
+
+abbrev pub roundsReportBytes : Report → ℕ → List ℕ
+roundsReportBytes r rounds = inBytes (reportNumbers r ++ (rounds ∷ []))

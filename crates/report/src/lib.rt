@@ -16,6 +16,8 @@ ghost use Rattle.report.specs.Report.{reportBy, reportOf};
 // The length of a report's bytes, and the room that its text is given.
 pub const REPORT_BYTES: usize = 424;
 
+pub const ROUNDS_REPORT_BYTES: usize = 432;
+
 pub const TEXT_BYTES: usize = 1024;
 
 // Of a spent job, one that has not ended, the span is 0 and the registers are 16 integers 0.

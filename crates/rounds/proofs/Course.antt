@@ -144,6 +144,14 @@ module _ {j : Job} (start : JobAccepted j) (lanes : ℕ) (some-lanes : 0 < lanes
       omega (arith, e, dispatch-grows b (round M lanes m), work-grows (roundOf M lanes m) m))
       (λ g. let e : dispatch M lanes (suc b) m .state .work ≡ m .work = rw (g, dispatch) in omega (arith, e))
 
+  pub dispatch-fits : (b : ℕ) (m : State) → FitsJob j m → FitsJob j (dispatch M lanes b m .state)
+  unfolding dispatch
+  dispatch-fits zero m x = x
+  dispatch-fits (suc b) m x =
+      by-test (goesOn M m)
+      (λ g. rw (g, dispatch) (dispatch-fits b (round M lanes m) (play-fits start (roundOf M lanes m) m x)))
+      (λ g. rw (g, dispatch) x)
+
   rounds-dispatched : (b : ℕ) (m : State) → FitsJob j m → (done picks : ℕ) → run (done + b) m [] done picks ≡ After m done picks (dispatch M lanes b m)
   unfolding dispatch
   rounds-dispatched zero m x done picks = stands-still m done picks (done + 0) (rounds-spent lanes m _ refl (omega arith))

@@ -2,3 +2,4 @@
 pub mod Machine
 pub mod Jobs
 pub mod Course
+pub mod Dispatcher

@@ -1,3 +1,4 @@
 -- The statements.
 pub mod Jobs
 pub mod Course
+pub mod Dispatcher

@@ -24,17 +24,20 @@ use Rattle.steps.specs.Buffers.{wholes, isWhole, cellsOf, integersOf, pr
 use Rattle.steps.specs.Calls.{lentNo, pickedNo, ranNo, runOutcome}
 
 -- a question asked a second time
-asked-again : (p x : ℕ) → orElse p (orElse p x) ≡ orElse p x
+asked-again : (p x y : ℕ) → orElse p (orElse (orElse p x) y) ≡ orElse (orElse p x) y
 unfolding orElse
-asked-again zero x = refl
-asked-again (suc p) x = or-else-no (suc p) _ (λ z. omega arith) ∙ sym (or-else-no (suc p) x (λ z. omega arith))
-
-asked-before : (p x y : ℕ) → orElse p (orElse (orElse p x) y) ≡ orElse (orElse p x) y
-unfolding orElse
-asked-before zero x y = refl
-asked-before (suc p) x y =
+asked-again zero x y = refl
+asked-again (suc p) x y =
     let first : orElse (suc p) x ≡ suc p = or-else-no (suc p) x (λ z. omega arith) in
     or-else-no (suc p) _ (λ z. omega arith) ∙ sym (ap (λ (a : ℕ). orElse a y) first ∙ or-else-no (suc p) y (λ z. omega arith))
+
+asked-before : (p x y z : ℕ) → orElse p (orElse (orElse (orElse p x) y) z) ≡ orElse (orElse (orElse p x) y) z
+unfolding orElse
+asked-before zero x y z = refl
+asked-before (suc p) x y z =
+    let first : orElse (suc p) x ≡ suc p = or-else-no (suc p) x (λ z. omega arith) in
+    let both : orElse (orElse (suc p) x) y ≡ suc p = ap (λ (a : ℕ). orElse a y) first ∙ or-else-no (suc p) y (λ z. omega arith) in
+    or-else-no (suc p) _ (λ z. omega arith) ∙ sym (ap (λ (a : ℕ). orElse a z) both ∙ or-else-no (suc p) z (λ z. omega arith))
 
 module _ (program words state : List ℕ) (others : Bool) where
   abbrev pub whole : Bool
@@ -101,7 +104,7 @@ module _ (program words state : List ℕ) (slot : ℕ) where
   unfolding pickedNo stateNoBy
   pick-ready r =
       ap (λ (a : ℕ). orElse a (pickNo (cellsOf program) (integersOf words) (stateIn state) slot)) (r .left)
-      ∙ asked-before (programNo (cellsOf program)) _ (slotNo (stateIn state) slot)
+      ∙ asked-before (programNo (cellsOf program)) _ _ (slotNo (stateIn state) slot)
 
 outcome-number : (cells : List ℕ) (words : List ℤ) (m : State) (budget : ℕ) → outcome cells words m budget .no ≡ stateNo cells words m
 unfolding outcome
@@ -122,7 +125,7 @@ module _ (program words state : List ℕ) (report : ℕ) where
   unfolding ranNo stateNoBy
   run-ready r =
       ap (λ (a : ℕ). orElse a (stateNo (cellsOf program) (integersOf words) (stateIn state))) (r .left)
-      ∙ asked-again (programNo (cellsOf program)) _
+      ∙ asked-again (programNo (cellsOf program)) _ _
 
   -- the outcome's number is the refusal's
   module _ (budget : ℕ) (r : Ready program words state (eqb (length state) stateLength && eqb report reportLength)) (answer : ℕ) (e : answer ≡ runOutcome program words budget state .no) where

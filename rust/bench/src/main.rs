@@ -12,6 +12,8 @@
 //!   new state's.
 //! - `run-serial`, `run-figure2`, `run-forks`, `run-waits`, `run-rest`: a whole run of a million picks,
 //!   from the job's bytes to the report. Both put question 10, the reader's and start's own once.
+//! - `dispatch`: the job of `run-figure2` in rounds over four lanes, as many as end it, from its bytes
+//!   to the report with the rounds.
 //! - `replay`: an order of 65,536 bytes on a job of four running tasks, from the job's bytes and the
 //!   order to the state's bytes. The model plays it in place.
 //! - `job`, `job-small`: a whole call, from the job's bytes to the text in a lent buffer, with the same
@@ -150,6 +152,37 @@ fn compare_runs(name: &str, what: &str, job: &[u8]) {
         report.picks,
         picks / times.model / 1e6,
         picks / times.engine / 1e6
+    );
+}
+
+/// Times dispatches of a job that ends, from its bytes to the report with the rounds.
+fn compare_dispatches(name: &str, what: &str, job: &[u8], lanes: u64) {
+    const ROUNDS: usize = 21;
+    let [mut models, mut engines] = [[0; engine::DISPATCH_BYTES]; 2];
+    let times = in_turns(
+        ROUNDS,
+        || {
+            let (job, report) = (black_box(job), black_box(&mut models));
+            timed(|| assert!(model::job::dispatch_into(job, lanes, BUDGET, report).is_ok()))
+        },
+        || {
+            let (job, report) = (black_box(job), black_box(&mut engines));
+            timed(|| assert!(engine::job_dispatch(job, lanes, BUDGET, report).is_ok()))
+        },
+    );
+    assert!(models == engines);
+    let number = |index| checks::numbers::number_at(&engines, index);
+    assert!(number(0) != report::SPENT, "the job ends");
+    let picks = number(report::WORK);
+    let nanoseconds = |time: f64| time / picks as f64 * 1e9;
+    print(name, what, &times);
+    println!(
+        "{:12} {} picks in {} rounds: model {:.2} ns, engine {:.2} ns a pick",
+        name,
+        picks,
+        number(report::ROUNDS),
+        nanoseconds(times.model),
+        nanoseconds(times.engine)
     );
 }
 
@@ -300,6 +333,12 @@ fn main() {
         "run-rest",
         "64 tasks, P 64: one loops, the others wait",
         &jobs::rest(picks),
+    );
+    compare_dispatches(
+        "dispatch",
+        "Figure 2 over four lanes, P 64, interval 64",
+        &jobs::figure2(picks, 64),
+        4,
     );
     let picks_in_order = 65_536;
     compare_replays(

@@ -53,7 +53,7 @@ pub fn case(seed: u64, number: u64) -> BudgetCase {
 }
 
 /// With some bytes changed, mostly so that it is refused.
-fn damaged(mut job: Vec<u8>, random: &mut Random) -> Vec<u8> {
+pub(crate) fn damaged(mut job: Vec<u8>, random: &mut Random) -> Vec<u8> {
     for _ in 0..random.pick(&[1, 1, 2, 4]) {
         let at = random.below(job.len());
         job[at] = match random.below(3) {
@@ -88,7 +88,7 @@ fn budget(job: &[u8], random: &mut Random) -> u64 {
 }
 
 /// The right length mostly.
-fn length(right: usize, random: &mut Random) -> usize {
+pub(crate) fn length(right: usize, random: &mut Random) -> usize {
     if random.one_in(16) {
         random.pick(&[0, 1, right - 8, right - 1, right + 1, right + 8, 2 * right])
     } else {

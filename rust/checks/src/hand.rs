@@ -56,6 +56,23 @@ pub fn endless() -> JobInput {
     JobInput::new(endless.image(), 1, 0)
 }
 
+/// A fork at P 2; both sides go to a block that jumps to itself.
+pub fn two_for_ever() -> JobInput {
+    const LOOP: u8 = 1;
+    const DONE: u8 = 2;
+    let target = Annotation::JoinTarget {
+        policy: 0,
+        combining: LOOP,
+        pairs: Vec::new(),
+    };
+    let mut two = Assembly::default();
+    let both = [jralloc(1, Lab(DONE)), fork(1, Lab(LOOP)), jump(Lab(LOOP))];
+    two.block(Annotation::None, &both);
+    two.block(Annotation::None, &[jump(Lab(LOOP))]);
+    two.block(target, &[halt()]);
+    JobInput::new(two.image(), 2, 0)
+}
+
 /// A job's bytes that are refused with each of the numbers that a job can get; all but the one
 /// thing is as in F.
 pub fn refused() -> Vec<(u8, Vec<u8>)> {

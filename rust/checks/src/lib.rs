@@ -4,7 +4,8 @@
 //! A case is named by a seed and a number, and made from these two alone, so that one that failed
 //! can be run again by itself: `cargo run --release --bin soak -- 1 SEED NUMBER` for an image,
 //! `--bin soak_orders` for a job on the model, `--bin soak_replay` for one with an order,
-//! `--bin soak_jobs` for one with a budget and `--bin soak_steps` for one in steps on both.
+//! `--bin soak_jobs` for one with a budget, `--bin soak_dispatch` for one in rounds and
+//! `--bin soak_steps` for one in steps on both.
 //!
 //! Every buffer that is lent lies beside a closed page, or between margins that are looked at: a call
 //! that reads or writes beyond it ends the process, or is seen.
@@ -24,6 +25,8 @@ pub mod compare;
 pub mod counts;
 pub mod coverage;
 pub mod damage;
+pub mod dispatch;
+pub mod dispatch_coverage;
 mod draft;
 pub mod generate;
 pub mod guarded;
@@ -40,6 +43,7 @@ pub mod random;
 pub mod replay;
 pub mod replay_coverage;
 pub mod report;
+pub mod rounds;
 pub mod run;
 pub mod run_program;
 pub mod shares;

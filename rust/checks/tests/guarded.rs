@@ -4,13 +4,14 @@
 //! What the process was doing then is the last line that this test printed: run it with `--nocapture`.
 
 use checks::budgets::{self, BudgetCase};
+use checks::dispatch::{self, Rounds};
 use checks::guarded::Guarded;
 use checks::lent::{salts, AT_END, AT_START};
 use checks::replay::{self, ReplayCase};
 use checks::steps::call::{Call, Door};
 use checks::steps::damage::damage;
 use checks::{compare, generate, jobs, random::Random};
-use engine::{PROGRAM_BYTES, REPORT_BYTES, STATE_BYTES, TEXT_BYTES};
+use engine::{DISPATCH_BYTES, PROGRAM_BYTES, REPORT_BYTES, STATE_BYTES, TEXT_BYTES};
 use std::os::unix::process::ExitStatusExt;
 use std::process::Command;
 use std::{env, ptr};
@@ -89,6 +90,30 @@ fn runs_and_texts_of_jobs() {
         case.text_len = [TEXT_BYTES, length][length % 2];
         for salt in places::<3>() {
             let _ = expect(length as u64, budgets::compare(&case, salt));
+        }
+    }
+}
+
+#[test]
+fn dispatches_of_jobs() {
+    for number in 0..CASES {
+        println!("dispatched job {}", number);
+        let case = dispatch::case(SEED, number);
+        for rounds in case.dispatches {
+            for salt in places::<2>() {
+                let _ = expect(number, dispatch::compare(&case.job, rounds, salt));
+            }
+        }
+    }
+    for length in 0..300 {
+        let job = checks::hand::f(2).bytes();
+        let job = &job[..length.min(job.len())];
+        let rounds = Rounds {
+            report_len: [DISPATCH_BYTES, length][length % 2],
+            ..Rounds::new(length as u64 % 10, 20)
+        };
+        for salt in places::<2>() {
+            let _ = expect(length as u64, dispatch::compare(job, rounds, salt));
         }
     }
 }

@@ -27,6 +27,14 @@ mod exports {
             report: *mut u8,
             report_len: usize,
         ) -> u8;
+        pub fn tpal_job_dispatch(
+            job: *const u8,
+            job_len: usize,
+            lanes: u64,
+            rounds: u64,
+            report: *mut u8,
+            report_len: usize,
+        ) -> u8;
         pub fn tpal_job_text(
             job: *const u8,
             job_len: usize,
@@ -89,6 +97,8 @@ pub const REGISTERS_BYTES: usize = 128;
 pub const STATE_BYTES: usize = 34_328;
 /// Length of a report: 53 numbers of 64 bits.
 pub const REPORT_BYTES: usize = 424;
+/// Length of a dispatch's report: those, and the rounds.
+pub const DISPATCH_BYTES: usize = 432;
 /// Length of a buffer for a text.
 pub const TEXT_BYTES: usize = 1_024;
 
@@ -140,6 +150,22 @@ pub fn job_run(job: &[u8], budget: u64, report: &mut [u8]) -> Result<(), u8> {
             job.as_ptr(),
             job.len(),
             budget,
+            report.as_mut_ptr(),
+            report.len(),
+        )
+    })
+}
+
+/// Dispatches a job from a fresh start over so many lanes, within this budget of rounds, and writes
+/// its report over `report`, which has `DISPATCH_BYTES`. A refusal leaves `report` as it was.
+pub fn job_dispatch(job: &[u8], lanes: u64, rounds: u64, report: &mut [u8]) -> Result<(), u8> {
+    // SAFETY: as above.
+    answer(unsafe {
+        exports::tpal_job_dispatch(
+            job.as_ptr(),
+            job.len(),
+            lanes,
+            rounds,
             report.as_mut_ptr(),
             report.len(),
         )

@@ -1,8 +1,9 @@
-//! The run program: a job's bytes, what a run of it comes to, and the text that it prints.
+//! The run program: a job's bytes, what a run of it comes to, and the text that it prints. And the
+//! dispatcher over the same bytes.
 
-use crate::machine::{Answer, Call, End, Machine};
+use crate::machine::{check_lanes, Answer, Call, Dispatched, End, Machine};
 use crate::task::{Registers, REGISTERS, ZEROS};
-use crate::{image, question, text, Program};
+use crate::{image, question, report, text, Program};
 
 /// The run program's budget.
 pub const BUDGET: u64 = 1_000_000;
@@ -147,6 +148,54 @@ pub fn run(input: &[u8], budget: u64) -> Result<Report, u8> {
     let call = Call::of_checked(&job.program, &job.words)?;
     let (answer, picks) = machine.run_in(call, budget);
     Ok(Report::of(&machine, answer, picks))
+}
+
+/// Dispatches a job from a fresh start over so many lanes, within a budget of rounds. The questions
+/// are a run's, then 41. Also hands back the rounds begun.
+pub fn dispatch(input: &[u8], lanes: u64, rounds: u64) -> Result<(Report, u64), u8> {
+    Fresh::of(input)?.dispatch(lanes, rounds)
+}
+
+/// The same, with the report's bytes written over `report`. Its length is asked for, by 15, before
+/// the lanes are; a refusal leaves it as it was.
+pub fn dispatch_into(input: &[u8], lanes: u64, rounds: u64, report: &mut [u8]) -> Result<(), u8> {
+    let fresh = Fresh::of(input)?;
+    if report.len() != report::DISPATCH_BYTES {
+        return Err(question::BUFFER);
+    }
+    let (outcome, rounds) = fresh.dispatch(lanes, rounds)?;
+    report::write_dispatched(&outcome, rounds, report);
+    Ok(())
+}
+
+/// A job that start has accepted, and its first state.
+struct Fresh {
+    job: Job,
+    machine: Machine,
+}
+
+impl Fresh {
+    fn of(input: &[u8]) -> Result<Self, u8> {
+        let job = Job::parse(input)?;
+        let machine = Machine::fresh(
+            job.places.into(),
+            job.interval.into(),
+            &job.registers,
+            &job.words,
+        )?;
+        Ok(Fresh { job, machine })
+    }
+
+    fn dispatch(mut self, lanes: u64, rounds: u64) -> Result<(Report, u64), u8> {
+        let call = Call::of_checked(&self.job.program, &self.job.words)?;
+        let lanes = check_lanes(lanes)?;
+        let Dispatched {
+            answer,
+            picks,
+            rounds,
+        } = self.machine.dispatch_in(call, lanes, rounds);
+        Ok((Report::of(&self.machine, answer, picks), rounds))
+    }
 }
 
 /// What the run program prints for this input.

@@ -27,5 +27,8 @@ pub use image::{
     HEADER_BYTES, INSTRUCTION_BYTES, MARK, MAX_BLOCKS, MAX_INSTRUCTIONS, MAX_PAIRS, VERSION,
 };
 pub use job::Job;
-pub use machine::{Answer, Call, End, Machine, Slot, Status, MAX_PLACES, MAX_WORDS, WORK_LIMIT};
+pub use machine::{
+    Answer, Call, Dispatched, End, Machine, Slot, Status, MAX_LANES, MAX_PLACES, MAX_WORDS,
+    WORK_LIMIT,
+};
 pub use task::{Record, Registers, Task, Value, REGISTERS};

@@ -1,4 +1,9 @@
-//! The machine: a job's state, start, pick, and the budgeted run.
+//! The machine: a job's state, start, pick, and the budgeted run. The dispatcher is beside it.
+
+mod dispatch;
+
+pub(crate) use dispatch::check_lanes;
+pub use dispatch::{Dispatched, MAX_LANES};
 
 use crate::image::{Block, Program};
 use crate::task::{Record, Step, Surroundings, Task, REGISTERS, ZEROS};
@@ -186,10 +191,16 @@ impl Machine {
     /// Puts the questions of pick and run up to 20.
     fn call<'a>(&self, program: &'a Program, words: &'a [i64]) -> Result<Call<'a>, u8> {
         let call = Call::new(program, words)?;
+        self.check_shape(program)?;
+        Ok(call)
+    }
+
+    /// Question 20.
+    fn check_shape(&self, program: &Program) -> Result<(), u8> {
         if !shape::meets(self, program) {
             return Err(question::SHAPE);
         }
-        Ok(call)
+        Ok(())
     }
 
     /// Carries out a pick of this slot. A refusal leaves the state as it was.

@@ -1,5 +1,5 @@
-//! The numbers of document 01's 'Questions at the door'. A refusal is the number of the first
-//! question that is answered with no.
+//! The numbers of document 01's 'Questions at the door', and of document 02's that came since. A
+//! refusal is the number of the first question that is answered with no.
 
 /// 8 bytes or more?
 pub const HEADER: u8 = 1;
@@ -41,3 +41,5 @@ pub const NOT_ENDED: u8 = 22;
 pub const RUNNING: u8 = 23;
 /// Work below 4,294,967,295?
 pub const WORK: u8 = 24;
+/// Lanes in 1 to 8? Put after 15 and before 20.
+pub const LANES: u8 = 41;

@@ -13,6 +13,8 @@ pub const NUMBERS: usize = REGISTERS_AT + REGISTER_NUMBERS;
 
 /// Length of a report.
 pub const BYTES: usize = numbers::BYTES * NUMBERS;
+/// Length of a dispatcher's: the rounds come last.
+pub const DISPATCH_BYTES: usize = BYTES + numbers::BYTES;
 
 /// Ends.
 pub const SPENT: u64 = 0;
@@ -36,6 +38,13 @@ pub fn write(report: &Report, out: &mut [u8]) {
     let (front, registers) = out.split_at_mut(numbers::BYTES * REGISTERS_AT);
     numbers::write(numbers, front);
     write_registers(&report.registers, registers);
+}
+
+/// Writes a dispatcher's report over `out`, which has `DISPATCH_BYTES`.
+pub fn write_dispatched(report: &Report, rounds: u64, out: &mut [u8]) {
+    let (front, last) = out.split_at_mut(BYTES);
+    write(report, front);
+    numbers::write([rounds], last);
 }
 
 /// Kind, then the integer, label or continuation, then the record's depth or 0.

@@ -1,8 +1,9 @@
 //! The true work limit on the engine, question 24's: one run of 4,294,967,294 picks, about half a
-//! minute, and then the last pick in two ways.
+//! minute, and then the last pick in two ways; and rounds of two picks up to the limit, as long again,
+//! of which it cuts the last short.
 
-use checks::hand::of_picks;
-use engine::{PROGRAM_BYTES, REPORT_BYTES, STATE_BYTES};
+use checks::hand::{of_picks, two_for_ever};
+use engine::{DISPATCH_BYTES, PROGRAM_BYTES, REPORT_BYTES, STATE_BYTES};
 use model::{question, Job, WORK_LIMIT};
 
 /// Places of numbers in a state and in a report, as c/tpal.h has them.
@@ -14,6 +15,7 @@ const RUNNING: u64 = 1;
 const REPORT_END: usize = 0;
 const REPORT_PICKS: usize = 2;
 const REPORT_WORK: usize = 3;
+const REPORT_ROUNDS: usize = 53;
 const SPENT: u64 = 0;
 
 fn number(bytes: &[u8], place: usize) -> u64 {
@@ -25,6 +27,28 @@ fn put(bytes: &mut [u8], place: usize, number: u64) {
 }
 
 fn main() {
+    picks();
+    rounds();
+}
+
+/// Two rounds of one pick make the second task. What is left is an odd number.
+fn rounds() {
+    let limit = u64::from(WORK_LIMIT);
+    let full = (limit - 2) / 2;
+    assert_eq!(2 + 2 * full, limit - 1);
+    let mut report = vec![0; DISPATCH_BYTES];
+    engine::job_dispatch(&two_for_ever().bytes(), 2, u64::MAX, &mut report).unwrap();
+    assert_eq!(number(&report, REPORT_END), SPENT);
+    assert_eq!(number(&report, REPORT_PICKS), limit);
+    assert_eq!(number(&report, REPORT_WORK), limit);
+    assert_eq!(number(&report, REPORT_ROUNDS), 2 + full + 1);
+    println!(
+        "and in rounds: the last of {} is cut short, and counted",
+        2 + full + 1
+    );
+}
+
+fn picks() {
     let limit = u64::from(WORK_LIMIT);
     let job = of_picks(limit).bytes();
     let parsed = Job::parse(&job).expect("the job is as laid out");

@@ -135,3 +135,48 @@ fn a_report_is_what_the_run_comes_to() {
     assert_eq!(run(&input, 0), Err(10));
     assert_eq!(text(&input, 0), "refused 10\n");
 }
+
+#[test]
+fn a_dispatch_is_what_the_rounds_come_to() {
+    let input = bytes(&write(&f()).unwrap(), 2, 0, &[]);
+    for (lanes, rounds) in [(1, 9), (2, 7), (3, 7), (8, 7)] {
+        let (report, begun) = dispatch(&input, lanes, u64::MAX).unwrap();
+        assert_eq!(begun, rounds);
+        assert_eq!(Ok(report), run(&input, BUDGET));
+        let (report, begun) = dispatch(&input, lanes, rounds - 1).unwrap();
+        assert_eq!((begun, report.end, report.work), (rounds - 1, None, 8));
+        assert_eq!((report.span, report.registers), (0, ZEROS));
+    }
+    let (report, begun) = dispatch(&input, 2, 0).unwrap();
+    assert_eq!((begun, report.end, report.work), (0, None, 0));
+}
+
+#[test]
+fn a_dispatch_asks_for_the_lanes_last_and_the_reports_length_before_them() {
+    let good = write(&f()).unwrap();
+    let many = [0; 4097];
+    let answer = |job: &[u8], lanes, length| {
+        let mut report = vec![0xa5; length];
+        let answer = dispatch_into(job, lanes, 1, &mut report);
+        if answer.is_err() {
+            assert!(report.iter().all(|&byte| byte == 0xa5));
+        }
+        answer
+    };
+    let accepted = bytes(&good, 4, 8, &[]);
+    for lanes in [0, 9, u64::MAX] {
+        for length in [0, 424, 431, 432, 433] {
+            assert_eq!(answer(&[], lanes, length), Err(10));
+            assert_eq!(answer(&bytes(&[], 3, 7, &many), lanes, length), Err(1));
+            assert_eq!(answer(&bytes(&good, 3, 7, &many), lanes, length), Err(11));
+            assert_eq!(answer(&bytes(&good, 4, 7, &many), lanes, length), Err(12));
+            assert_eq!(answer(&bytes(&good, 4, 8, &many), lanes, length), Err(14));
+            let expected = if length == 432 { 41 } else { 15 };
+            assert_eq!(answer(&accepted, lanes, length), Err(expected));
+        }
+        assert_eq!(dispatch(&bytes(&good, 4, 8, &many), lanes, 1), Err(14));
+        assert_eq!(dispatch(&accepted, lanes, 1), Err(41));
+    }
+    assert_eq!(answer(&accepted, 1, 433), Err(15));
+    assert_eq!(answer(&accepted, 1, 432), Ok(()));
+}

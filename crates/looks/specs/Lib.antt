@@ -1,0 +1,2 @@
+-- What the contracts of `looks` cite.
+pub mod Looking
