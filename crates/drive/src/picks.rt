@@ -14,6 +14,8 @@ use turns::course;
 use turns::course::Course;
 use turns::moves;
 use turns::records;
+use turns::rows;
+use turns::walk;
 ghost use mathlib.Core.Path.{_≡_};
 ghost use mathlib.Core.Bool.{true};
 ghost use lib.ListN.{length};
@@ -32,13 +34,7 @@ pub fn drive(cells: &[u64], words: &[i64], state: State, order: &[u8], course: C
 {
     let mut m = state;
     let first = m.work;
-    // the stretch, the slot that is looked at next, and the places gone by since the last pick
-    let mut begun = 0usize;
-    let mut until = first;
-    let mut reach: u64 = 0;
-    let mut k = 0usize;
-    let mut gone: u64 = 0;
-    let mut once = false;
+    let mut p = course::no_place(0, first);
     // the joins that may be due
     let mut due: u32 = 0;
     let mut side = 0usize;
@@ -72,7 +68,8 @@ pub fn drive(cells: &[u64], words: &[i64], state: State, order: &[u8], course: C
             // a walk, over the picks after which the task runs on
             let mut stopped = false;
             let mut e = task::results::go(0, 0);
-            while course::walks_on(stopped, m.work, until, gone, reach) {
+            while walk::walks_on(stopped, m.work, p) {
+                let k = p.slot;
                 let record = m.tasks[k];
                 let status = record.status;
                 if is_running(status) {
@@ -112,36 +109,46 @@ pub fn drive(cells: &[u64], words: &[i64], state: State, order: &[u8], course: C
                             m.bank[at_r] = moves::holding(value);
                         }
                         m.work = m.work + 1;
-                        k = course::slot_after(m.places, reach, gone, k, active.places);
-                        gone = course::gone_after(once, reach, gone, active.places);
+                        p = walk::picked_on(p, m.places, m.work, active.places);
                     } else {
                         stopped = true;
                     }
                 } else {
-                    let wide = course::width_of(record.places);
-                    gone = gone + wide;
-                    k = course::behind_slot(m.places, k, wide);
+                    p = walk::gone_by(p, m.places, walk::width_of(record.places));
                 }
             }
             if !stopped {
                 let first_task = m.tasks[0];
                 let first_status = first_task.status;
                 let ended = ending::has_ended(ending::end_at(first_task.depth, first_status));
-                let next = course::next_stretch(course, order, begun, m.places, m.work, ended);
+                // the row of slots that a round takes here
+                let mut row = rows::no_slots(course::lanes_of(course));
+                let mut look = 0usize;
+                while rows::looks_on(row, look, m.places) {
+                    let met = m.tasks[look];
+                    let met_status = met.status;
+                    if is_running(met_status) {
+                        row = rows::with_slot(row, look);
+                    }
+                    look = look + (walk::width_of(met.places) as usize);
+                }
+                let next = course::next_stretch(
+                    course,
+                    order,
+                    p.begun,
+                    m.places,
+                    m.work,
+                    ended,
+                    row.slots,
+                );
                 over = next.over;
-                begun = next.begun;
-                until = next.until;
-                reach = next.reach;
-                once = next.once;
-                k = next.slot;
-                gone = 0;
+                p = next.place;
                 continue;
             }
             // the pick that stopped it
+            let k = p.slot;
             let record = m.tasks[k];
             m.work = m.work + 1;
-            gone = course::gone_behind(once, gone, record.places);
-            let behind = course::behind_slot(m.places, k, record.places);
             let kind = e.kind;
             if let Kind::Forks(pc) = kind {
                 let value = e.value;
@@ -150,13 +157,13 @@ pub fn drive(cells: &[u64], words: &[i64], state: State, order: &[u8], course: C
                 m.tasks[k] = parent;
                 m.tasks[c] = records::begun_at(parent, pc);
                 plan = moves::fork_moves(k, c);
-                k = course::after_fork(once, c, behind);
+                p = walk::stopped_at(p, m.places, parent.places);
             } else {
                 m.tasks[k] = records::ended_task(record, kind);
                 plan = moves::end_moves(k, kind);
                 due = record.depth;
                 side = k;
-                k = behind;
+                p = walk::stopped_at(p, m.places, record.places);
             }
         }
         let from = plan.from;
@@ -191,6 +198,6 @@ pub fn drive(cells: &[u64], words: &[i64], state: State, order: &[u8], course: C
     Driven {
         state: m,
         picks,
-        rounds: course::rounds_of(course, begun),
+        rounds: course::rounds_of(course, p.begun),
     }
 }

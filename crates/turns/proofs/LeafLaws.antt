@@ -20,7 +20,7 @@ use Rattle.task.specs.declared.Value.the-variants.{Int}
 use Rattle.task.proofs.Kind.{the-type}
 use Rattle.turns.specs.declared.course.Stretch.{Stretch}
 use Rattle.turns.specs.declared.moves.Moves.{Moves}
-use Rattle.turns.specs.Walk.{stopAt, done, nextListed}
+use Rattle.turns.specs.Stretches.{stopAt, done, walkFrom, nextListed}
 use Rattle.turns.specs.Moving.{noMoves, faults, endMoves}
 
 -- ---- Moves
@@ -64,7 +64,7 @@ module _ (order : List ℕ) (at places work slot : ℕ) (inside : at < length or
 
   -- one that it has is the stretch
   pub slot-found : {r : Stretch} {until : ℕ} → slot < places → until ≡ stopAt work 1 → r ≡ nextListed (drop at order) at places work
-      → record { over = false; slot = slot; until = until; reach = 1; begun = at + 1; once = false } ≡ r
+      → walkFrom slot 1 until (at + 1) ≡ r
   unfolding nextListed
   slot-found h u e = sym (e ∙ slot-first ∙ rw (lt-ltb slot places h, nextListed, u))
 

@@ -1,4 +1,6 @@
 -- What the contracts of `turns` cite.
+pub mod Rows
+pub mod Stretches
 pub mod Walk
 pub mod Kinds
 pub mod Moving

@@ -3,3 +3,5 @@
 pub mod course;
 pub mod moves;
 pub mod records;
+pub mod rows;
+pub mod walk;

@@ -2,7 +2,7 @@
 use mathlib.Core.Path.{_≡_, refl}
 use Prim.Native.Nat.{_-_}
 use lib.ListN.{length, drop}
-use Rattle.turns.specs.Walk.{nextListed}
+use Rattle.turns.specs.Stretches.{nextListed}
 use Rattle.turns.proofs.LeafLaws.{slot-past, slot-found, slots-out}
 use borrow.Author.Needs.{needs}
 use native.Mathlib.Omega.{arith}

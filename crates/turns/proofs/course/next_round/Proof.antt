@@ -23,17 +23,17 @@ returns-3 : tie.Need-returns-3
 returns-3 c =
     rw (c .before .before .before .if1 .left, lt-leb _ _ (c .before .before .if2 .left), le-leb _ _ (c .before .if3 .taken)) (c .no-stretch3 .ensures)
 
-stop-at-requires : tie.Need-stop-at-requires
-stop-at-requires c κs = search needs
+slot-in-requires : tie.Need-slot-in-requires
+slot-in-requires c κs = search needs
 
-add-t10 : tie.Need-add-t10
-add-t10 c = search needs
+add-t9 : tie.Need-add-t9
+add-t9 c = search needs
 
 returns-4 : tie.Need-returns-4
 returns-4 c =
-    rw (c .before .before .before .if1 .left, lt-leb _ _ (c .before .before .if2 .left), lt-leb _ _ (c .before .if3 .left), c .stop-at .ensures)
+    rw (c .before .before .before .if1 .left, lt-leb _ _ (c .before .before .if2 .left), lt-leb _ _ (c .before .if3 .left), c .slot-in .ensures)
 
 pub next-round-spec : {M : Type 1} → statement M
 next-round-spec =
     tie.close
-    (tie.spec no-stretch-requires returns no-stretch-requires-2 returns-2 no-stretch-requires-3 returns-3 stop-at-requires add-t10 returns-4)
+    (tie.spec no-stretch-requires returns no-stretch-requires-2 returns-2 no-stretch-requires-3 returns-3 slot-in-requires add-t9 returns-4)

@@ -1,8 +1,8 @@
 -- `behind_slot` meets its contract.
 use borrow.Author.Tests.{lt-ltb, le-ltb}
 use borrow.Author.Needs.{needs}
-use Rattle.turns.proofs.course.behind_slot.Statement.{statement}
-use Rattle.turns.proofs.course.behind_slot.Tie as tie
+use Rattle.turns.proofs.walk.behind_slot.Statement.{statement}
+use Rattle.turns.proofs.walk.behind_slot.Tie as tie
 
 add-next : tie.Need-add-next
 add-next c = search needs

@@ -1,7 +1,7 @@
 -- `width_of` meets its contract.
 use borrow.Author.Tests.{lt-ltb, le-ltb}
-use Rattle.turns.proofs.course.width_of.Statement.{statement}
-use Rattle.turns.proofs.course.width_of.Tie as tie
+use Rattle.turns.proofs.walk.width_of.Statement.{statement}
+use Rattle.turns.proofs.walk.width_of.Tie as tie
 
 returns : tie.Need-returns
 returns c = rw (lt-ltb _ _ (c .if1 .taken))
