@@ -72,6 +72,9 @@ module _ {cells : List ℕ} {interval places : ℕ} (allowed : Allowed cells int
   pub width-inside : k + width (at m k .task .places) ≤ m .places
   width-inside = covers .inside
 
+  pub width-others : Quiet m (k + 1) (k + width (at m k .task .places))
+  width-others = covers .quiet
+
   -- where nothing runs at the slot, nothing runs in its places
   pub width-quiet : running (at m k) ≡ false → Quiet m k (k + width (at m k .task .places))
   width-quiet idle i p q =

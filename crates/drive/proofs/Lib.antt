@@ -11,10 +11,11 @@ pub mod Intervals
 pub mod CourseLaws
 pub mod Searching
 pub mod Seeking
-pub mod Positions
+pub mod Places
 pub mod Passing
 pub mod ListLaws
 pub mod Taking
+pub mod RowLaws
 pub mod RoundLaws
 pub mod Carrying
 pub mod Beyond

@@ -20,12 +20,14 @@ use Rattle.drive.specs.Ending.{jobEnded}
 use Rattle.drive.specs.Issue.{slotNo, issued}
 use Rattle.drive.specs.Courses.{Next, over, turn, Run, follows}
 use Rattle.drive.specs.Listing.{listed, listFrom}
-use Rattle.turns.specs.Walk.{walksOn, stopAt, nextListed}
+use Rattle.turns.specs.declared.course.Place.{Place}
+use Rattle.turns.specs.Stretches.{stopAt, nextListed}
+use Rattle.turns.specs.Walk.{walksOn, to, goneBy}
 use Rattle.drive.specs.Driving.{left}
 use Rattle.drive.proofs.CourseLaws.{stays, picks-turn}
 use Rattle.drive.proofs.IssueLaws.{issued-work}
 use Rattle.drive.proofs.SlotQuestions.{far-refused, idle-refused, full-refused}
-use Rattle.drive.proofs.Positions.{Position, to, goneBy, Walks, Goes, goes, rests, no-picks-left, Comes, comes-none, comes-one, stop-most}
+use Rattle.drive.proofs.Places.{Walks, Goes, goes, rests, no-picks-left, Comes, comes-none, comes-one, stop-most}
 
 -- ---- the chooser
 
@@ -90,34 +92,35 @@ module _ (cells : List ℕ) (words : List ℤ) where
   -- ---- where the loop stands
 
   -- at the stretch's only look, before it or behind it
-  pub record Looks (order : List ℕ) (m : State) (p : Position) (rest : List ℕ) : Type 0 where
+  pub record Looks (order : List ℕ) (m : State) (p : Place) (rest : List ℕ) : Type 0 where
     pub ahead : rest ≡ p .slot ∷ drop (p .begun) order
-    pub none-gone : p .gone ≡ 0
     pub one-pick : p .until ≡ stopAt (m .work) 1
-    pub one-look : p .reach ≡ 1
+    pub one-look : p .ahead ≡ 1
 
-  pub record Looked (order : List ℕ) (m : State) (p : Position) (rest : List ℕ) : Type 0 where
+  pub record Looked (order : List ℕ) (m : State) (p : Place) (rest : List ℕ) : Type 0 where
     pub behind-it : rest ≡ drop (p .begun) order
-    pub no-more : walksOn false (m .work) (p .until) (p .gone) (p .reach) ≡ false
+    pub no-more : walksOn false (m .work) p ≡ false
 
-  pub record Listing (order : List ℕ) (whole : Driven) (m : State) (p : Position) (picks : ℕ) : Type 0 where
+  pub record Listing (order : List ℕ) (whole : Driven) (m : State) (p : Place) (picks : ℕ) : Type 0 where
     pub rest : List ℕ
     pub fuel : ℕ
     pub enough : length rest ≤ fuel
     pub same : whole ≡ along fuel m rest picks
+    pub no-row : p .row ≡ 0
     pub stands : Looks order m p rest ⊎ Looked order m p rest
 
   -- before the first
-  pub list-begins : (order : List ℕ) (m : State) (p : Position) → p .begun ≡ 0 → p .until ≤ m .work → Listing order (left (listFrom cells words m order)) m p 0
-  list-begins order m p none spent = record {
+  pub list-begins : (order : List ℕ) (m : State) (p : Place) → p .begun ≡ 0 → p .until ≤ m .work → p .row ≡ 0 → Listing order (left (listFrom cells words m order)) m p 0
+  list-begins order m p none spent rowless = record {
     rest = order;
     fuel = length order;
     enough = omega arith;
     same = refl;
+    no-row = rowless;
     stands = inr (record { behind-it = ap (λ n. drop n order) (sym none); no-more = no-picks-left m p spent });
   }
 
-  module _ {order : List ℕ} {whole : Driven} {m : State} {p : Position} {picks : ℕ} (x : Listing order whole m p picks) where
+  module _ {order : List ℕ} {whole : Driven} {m : State} {p : Place} {picks : ℕ} (x : Listing order whole m p picks) where
     -- where the walk goes on, the look is ahead
     looks : Walks m p → Looks order m p (x .rest)
     looks w = go (x .stands)
@@ -127,7 +130,7 @@ module _ (cells : List ℕ) (words : List ℤ) where
         go (inr l) = clash w (l .no-more)
 
     -- nothing runs at the slot
-    pub list-goes-by : Walks m p → running (at m (p .slot)) ≡ false → (w : ℕ) → 0 < w → Listing order whole m (goneBy m w p) picks
+    pub list-goes-by : Walks m p → running (at m (p .slot)) ≡ false → (w : ℕ) → 0 < w → Listing order whole m (goneBy (m .places) w p) picks
     list-goes-by walks idle w some =
         let l = looks walks in
         let n : length (x .rest) ≡ suc (length (drop (p .begun) order)) = ap length (l .ahead) in
@@ -136,16 +139,17 @@ module _ (cells : List ℕ) (words : List ℤ) where
           fuel = x .fuel;
           enough = omega (arith, x .enough, n);
           same = x .same ∙ ap (λ ks. along (x .fuel) m ks picks) (l .ahead) ∙ skips (x .fuel) m (p .slot) _ picks (idle-refused m (p .slot) idle);
+          no-row = x .no-row;
           stands = inr (record {
             behind-it = refl;
-            no-more = rw (le-ltb (p .gone + w) (p .reach) (omega (arith, l .one-look))) (and-false (ltb (m .work) (p .until)));
+            no-more = rw (le-ltb 0 (p .ahead - w) (omega (arith, l .one-look))) (and-false (ltb (m .work) (p .until)));
           });
         }
 
     -- its task is picked
     pub list-picked : Walks m p → eqb (slotNo m (p .slot)) 0 ≡ true → {m′ : State} → m′ ≡ issued cells words m (p .slot)
-        → (slot gone : ℕ) → Listing order whole m′ (to slot gone p) (picks + 1)
-    list-picked walks ready {m′} is slot gone =
+        → {q : Place} → q .until ≡ p .until → q .begun ≡ p .begun → q .row ≡ p .row → Listing order whole m′ q (picks + 1)
+    list-picked walks ready {m′} is {q} until begun row =
         let l = looks walks in
         let n : length (x .rest) ≡ suc (length (drop (p .begun) order)) = ap length (l .ahead) in
         let more : m′ .work ≡ m .work + 1 = ap (λ (o : State). o .work) is ∙ issued-work cells words m (p .slot) in
@@ -156,9 +160,10 @@ module _ (cells : List ℕ) (words : List ℤ) where
           same = x .same ∙ ap (λ ks. along (x .fuel) m ks picks) (l .ahead)
               ∙ takes (x .fuel) m (p .slot) _ picks (omega (arith, x .enough, n)) ready
               ∙ ap (λ (o : State). along (x .fuel - 1) o (drop (p .begun) order) (picks + 1)) (sym is);
+          no-row = row ∙ x .no-row;
           stands = inr (record {
-            behind-it = refl;
-            no-more = no-picks-left m′ (to slot gone p) (omega (arith, l .one-pick, stop-next (m .work)));
+            behind-it = ap (λ n. drop n order) (sym begun);
+            no-more = no-picks-left m′ q (omega (arith, until, l .one-pick, stop-next (m .work)));
           });
         }
       where
@@ -167,7 +172,7 @@ module _ (cells : List ℕ) (words : List ℤ) where
             (λ h. rw (lt-ltb 1 (workLimit - work) h) (omega arith)) (λ h. rw (le-ltb 1 (workLimit - work) h) (omega arith))
 
     -- where the walk does not go on, the slots behind the look are left
-    list-rests : walksOn false (m .work) (p .until) (p .gone) (p .reach) ≡ false
+    list-rests : walksOn false (m .work) p ≡ false
         → (whole ≡ along (x .fuel) m (drop (p .begun) order) picks) × (length (drop (p .begun) order) ≤ x .fuel)
     list-rests h = go (x .stands)
       where
@@ -177,7 +182,7 @@ module _ (cells : List ℕ) (words : List ℤ) where
             (λ b. let e : stopAt work 1 ≡ workLimit = rw (le-ltb 1 (workLimit - work) b) in omega arith)
 
         at-limit : Looks order m p (x .rest) → workLimit ≤ m .work
-        at-limit l = rests m p h (λ s. full (m .work) (omega (arith, l .one-pick))) (λ a b. absurd (omega (arith, l .none-gone, l .one-look)))
+        at-limit l = rests m p h (λ s. full (m .work) (omega (arith, l .one-pick))) (λ a b. absurd (omega (arith, l .one-look)))
 
         go : Looks order m p (x .rest) ⊎ Looked order m p (x .rest)
             → (whole ≡ along (x .fuel) m (drop (p .begun) order) picks) × (length (drop (p .begun) order) ≤ x .fuel)
@@ -205,7 +210,7 @@ module _ (cells : List ℕ) (words : List ℤ) where
         begun-more = omega (arith, f .begun-more);
         begun-most = f .begun-most;
         slot-below = f .slot-below;
-        reach-most = f .reach-most;
+        ahead-most = f .ahead-most;
         until-most = f .until-most;
       }) s
 
@@ -215,7 +220,7 @@ module _ (cells : List ℕ) (words : List ℤ) where
             begun-more = omega arith;
             begun-most = omega (arith, drop-some order b k ks d);
             slot-below = below;
-            reach-most = omega arith;
+            ahead-most = omega arith;
             until-most = stop-most (m .work) 1;
           })
           (record {
@@ -223,15 +228,16 @@ module _ (cells : List ℕ) (words : List ℤ) where
             fuel = fuel;
             enough = n;
             same = e;
-            stands = inl (record { ahead = ap (λ l. k ∷ l) (drop-next order b k ks d); none-gone = refl; one-pick = refl; one-look = refl });
+            no-row = refl;
+            stands = inl (record { ahead = ap (λ l. k ∷ l) (drop-next order b k ks d); one-pick = refl; one-look = refl });
           }))
 
       further : m .places ≤ k → Comes whole m picks (b + 1) (length order) (λ _. 0) (λ p. Listing order whole m p picks) (nextListed ks (b + 1) (m .places) (m .work))
           → Comes whole m picks b (length order) (λ _. 0) (λ p. Listing order whole m p picks) (nextListed (k ∷ ks) b (m .places) (m .work))
       further beyond rest = rw (nextListed, le-ltb k (m .places) beyond) (later rest)
 
-  pub list-next : {order : List ℕ} {whole : Driven} {m : State} {p : Position} {picks : ℕ} → Listing order whole m p picks
-      → walksOn false (m .work) (p .until) (p .gone) (p .reach) ≡ false
+  pub list-next : {order : List ℕ} {whole : Driven} {m : State} {p : Place} {picks : ℕ} → Listing order whole m p picks
+      → walksOn false (m .work) p ≡ false
       → Comes whole m picks (p .begun) (length order) (λ _. 0) (λ q. Listing order whole m q picks) (nextListed (drop (p .begun) order) (p .begun) (m .places) (m .work))
   list-next {order} {whole} {m} {p} {picks} x h =
       let r = list-rests x h in next-of order whole m picks (x .fuel) (drop (p .begun) order) (p .begun) refl (r .0) (r .1)

@@ -16,14 +16,16 @@ use Rattle.drive.specs.Ending.{jobEnded}
 use Rattle.drive.specs.Issue.{issued}
 use Rattle.drive.specs.Courses.{over, turn, Run, begun, pickedAt, follows}
 use Rattle.drive.specs.Passes.{nextPick, stops, passes, runs, runFrom}
-use Rattle.turns.specs.Walk.{walksOn, stopAt, behind}
+use Rattle.turns.specs.declared.course.Place.{Place}
+use Rattle.turns.specs.Stretches.{stopAt, walkFrom}
+use Rattle.turns.specs.Walk.{walksOn, behind, to, goneBy}
 use Rattle.drive.specs.Driving.{left}
 use Rattle.drive.proofs.CourseLaws.{stays, picks-turn}
 use Rattle.drive.proofs.Models.{Allowed}
 use Rattle.drive.proofs.ShapeLaws.{Fits}
 use Rattle.drive.proofs.IssueLaws.{issued-work}
 use Rattle.drive.proofs.Quiet.{running-open, quiet-ended}
-use Rattle.drive.proofs.Positions.{Position, to, goneBy, rests}
+use Rattle.drive.proofs.Places.{rests}
 use Rattle.drive.proofs.Seeking.{Seeks, Quiet, Alone, finds, none-runs, goes-by, begins, begins-behind, comes-back}
 
 -- ---- the run
@@ -80,28 +82,27 @@ module _ (cells : List ℕ) (words : List ℤ) where
 
   -- ---- where the loop stands
 
-  pub record Passing (whole : Driven) (m : State) (p : Position) (picks : ℕ) : Type 0 where
+  pub record Passing (whole : Driven) (m : State) (p : Place) (picks : ℕ) : Type 0 where
     pub from : ℕ
     pub passed : ℕ
-    pub counted : p .gone ≤ passed
+    pub counted : m .places ≤ passed + p .ahead
+    pub ahead-most : p .ahead ≤ m .places
     pub seeks : Seeks m from passed (p .slot)
-    pub reach-all : p .reach ≡ m .places
     pub is-begun : p .begun ≡ 0 → ⊥
-    pub not-once : p .once ≡ false
+    pub no-row : p .row ≡ 0
     pub same : whole ≡ left (runs cells words (p .until - m .work) (record { state = m; kept = from; picks = picks }))
 
   -- at the first slot of the stretch
   pub pass-begins : (m : State) (slot budget : ℕ) → slot < m .places
-      → Passing (left (runFrom cells words m slot budget)) m
-      (record { slot = slot; gone = 0; until = stopAt (m .work) budget; reach = m .places; begun = 1; once = false }) 0
+      → Passing (left (runFrom cells words m slot budget)) m (walkFrom slot (m .places) (stopAt (m .work) budget) 1 .place) 0
   pass-begins m slot budget below = record {
     from = slot;
     passed = 0;
     counted = omega arith;
+    ahead-most = omega arith;
     seeks = begins m slot below;
-    reach-all = refl;
     is-begun = λ z. absurd (omega arith);
-    not-once = refl;
+    no-row = refl;
     same = ap left (by-below budget (workLimit - m .work)
         (λ h. let n : stopAt (m .work) budget - m .work ≡ budget = rw (lt-ltb budget (workLimit - m .work) h) (omega arith) in
         ap (λ n. runs cells words n (begun m slot)) (sym n))
@@ -109,17 +110,17 @@ module _ (cells : List ℕ) (words : List ℤ) where
         enough budget (begun m slot) (omega arith) ∙ ap (λ n. runs cells words (n - m .work) (begun m slot)) (sym n)));
   }
 
-  module _ {whole : Driven} {m : State} {p : Position} {picks : ℕ} (x : Passing whole m p picks) where
+  module _ {whole : Driven} {m : State} {p : Place} {picks : ℕ} (x : Passing whole m p picks) where
     -- places in which nothing runs
-    pub pass-goes-by : (w : ℕ) → p .slot + w ≤ m .places → Quiet m (p .slot) (p .slot + w) → Passing whole m (goneBy m w p) picks
+    pub pass-goes-by : (w : ℕ) → p .slot + w ≤ m .places → Quiet m (p .slot) (p .slot + w) → Passing whole m (goneBy (m .places) w p) picks
     pass-goes-by w fits quiet = record {
       from = x .from;
       passed = x .passed + w;
       counted = omega (arith, x .counted);
+      ahead-most = omega (arith, x .ahead-most);
       seeks = goes-by (x .seeks) w fits quiet;
-      reach-all = x .reach-all;
       is-begun = x .is-begun;
-      not-once = x .not-once;
+      no-row = x .no-row;
       same = x .same;
     }
 
@@ -128,16 +129,16 @@ module _ (cells : List ℕ) (words : List ℤ) where
       here = record { state = m; kept = x .from; picks = picks }
 
       -- where the walk does not go on, the run has stopped
-      pub pass-rests : walksOn false (m .work) (p .until) (p .gone) (p .reach) ≡ false → whole ≡ record { state = m; picks = picks; rounds = 0 }
+      pub pass-rests : walksOn false (m .work) p ≡ false → whole ≡ record { state = m; picks = picks; rounds = 0 }
       unfolding follows
       pass-rests h = x .same ∙ ap left (rests m p h spent idle)
         where
           spent : p .until ≤ m .work → runs cells words (p .until - m .work) here ≡ here
           spent none = let z : p .until - m .work ≡ 0 = omega arith in ap (λ n. runs cells words n here) z
 
-          idle : m .work < p .until → p .reach ≤ p .gone → runs cells words (p .until - m .work) here ≡ here
+          idle : m .work < p .until → p .ahead ≡ 0 → runs cells words (p .until - m .work) here ≡ here
           idle some all =
-              let quiet = none-runs (x .seeks) (omega (arith, x .counted, x .reach-all)) in
+              let quiet = none-runs (x .seeks) (omega (arith, x .counted)) in
               run-rests (p .until - m .work) here (rw (quiet-ended allowed words m fits (λ k b. quiet k (omega arith) b)))
 
       -- slot k's task is picked
@@ -161,28 +162,28 @@ module _ (cells : List ℕ) (words : List ℤ) where
 
         -- and the walk goes on behind w places, in the others of which nothing runs
         pub pass-behind : (w : ℕ) → m′ .places ≡ m .places → 0 < w → k + w ≤ m .places → Quiet m′ (k + 1) (k + w)
-            → Passing whole m′ (to (behind (m .places) k w) 0 p) (picks + 1)
+            → Passing whole m′ (to (behind (m .places) k w) (m .places) p) (picks + 1)
         pass-behind w same-places some-places inside quiet = record {
           from = k + 1;
           passed = w - 1;
           counted = omega arith;
+          ahead-most = omega arith;
           seeks = rw (sym same-places) (begins-behind m′ k w some-places (omega arith) quiet);
-          reach-all = x .reach-all ∙ sym same-places;
           is-begun = x .is-begun;
-          not-once = x .not-once;
+          no-row = x .no-row;
           same = same-on;
         }
 
         -- or it comes back at once
-        pub pass-again : (gone : ℕ) → m′ .places ≡ m .places → gone < p .reach → Alone m′ k → Passing whole m′ (to k gone p) (picks + 1)
-        pass-again gone same-places few others = record {
+        pub pass-again : m′ .places ≡ m .places → 0 < p .ahead → Alone m′ k → Passing whole m′ p (picks + 1)
+        pass-again same-places some-ahead others = record {
           from = k + 1;
           passed = m′ .places - 1;
-          counted = omega (arith, x .reach-all);
+          counted = omega arith;
+          ahead-most = omega (arith, x .ahead-most);
           seeks = comes-back m′ k (omega arith) others;
-          reach-all = x .reach-all ∙ sym same-places;
           is-begun = x .is-begun;
-          not-once = x .not-once;
+          no-row = x .no-row;
           same = same-on;
         }
 

@@ -1,17 +1,21 @@
--- Rounds, as the loop goes through them. A walk in slot order that goes on behind each task's places meets exactly the tasks that ran at the
--- round's start: so from where it stands, the run along the slots that are left is the whole run.
+-- Rounds, as the loop goes through them: along a row of slots, those that the round takes. A pick changes at no slot behind its task's places
+-- whether a task runs there, so the slots that are left stay those of the round; and while every task picked runs on, the next round takes the
+-- same row.
 use mathlib.Core.Path.{_≡_, refl, sym, ap, _∙_}
 use mathlib.Core.Logic.{_⊎_, inl, inr}
-use mathlib.Core.Bool.{Bool, true, false, not}
+use mathlib.Core.Bool.{Bool, true, false, cond, not}
 use mathlib.Core.List.{List, [], _∷_}
-use Prim.Native.Nat.{ℕ, zero, suc, _+_, _-_, _<_, _≤_}
+use Prim.Native.Nat.{ℕ, zero, suc, _+_, _-_, _/_, _<_, _≤_}
 use native.Mathlib.Omega.{arith}
 use lib.Dec.{ltb, leb}
 use lib.IntN.{ℤ}
-use borrow.Author.Tests.{lt-ltb, le-ltb, lt-leb, le-leb}
-use Rattle.facts.proofs.Tests.{clash, by-test, by-below}
+use borrow.Author.Tests.{ltb-true, lt-ltb, le-ltb, lt-leb, le-leb}
+use Rattle.facts.proofs.Tests.{both-true, clash, by-test, by-below}
 use Rattle.task.specs.Frames.{running, workLimit}
-use Rattle.turns.specs.Walk.{walksOn, behind, stopAt, nextRound}
+use Rattle.turns.specs.declared.course.Place.{Place}
+use Rattle.turns.specs.Rows.{packed, slotIn}
+use Rattle.turns.specs.Stretches.{done, roundFrom, nextRound}
+use Rattle.turns.specs.Walk.{walksOn, taking, goesAgain, roundOn, leftOf}
 use Rattle.drive.specs.declared.State.{State}
 use Rattle.drive.specs.declared.Driven.{Driven}
 use Rattle.drive.specs.Slots.{at}
@@ -26,10 +30,11 @@ use Rattle.drive.proofs.IssueLaws.{issued-work, issued-places}
 use Rattle.drive.proofs.Models.{Allowed}
 use Rattle.drive.proofs.ShapeLaws.{Fits}
 use Rattle.drive.proofs.Quiet.{quiet-ended, running-open}
-use Rattle.drive.proofs.Seeking.{Quiet, behind-inside}
-use Rattle.drive.proofs.Taking.{taken-none, taken-out, taken-past, taken-first, taken-same, taken-some}
+use Rattle.drive.proofs.Seeking.{Quiet}
+use Rattle.drive.proofs.Taking.{taken-past, taken-same, taken-some, Found, taken-found}
+use Rattle.drive.proofs.RowLaws.{slot-in-first, others-packed, packed-none, none-packed}
 use Rattle.drive.proofs.Passing.{stops-not, stops-full}
-use Rattle.drive.proofs.Positions.{Position, firstOf, to, goneBy, Walks, goes, rests, Fresh, Comes, comes-none, comes-one, stop-most}
+use Rattle.drive.proofs.Places.{Walks, goes, rests, Comes, comes-none, comes-one}
 
 -- ---- the chooser
 
@@ -60,156 +65,7 @@ module _ (cells : List ℕ) (words : List ℤ) (lanes budget : ℕ) where
   abbrev pub leavesFrom : State → List ℕ → ℕ → ℕ → Driven
   leavesFrom m ks done picks = leftRounds (roundRun (workLimit - m .work) m ks done picks)
 
-  -- ---- where the loop stands
-
-  -- the slots ahead of it that this many lanes take
-  abbrev ahead : State → Position → ℕ → List ℕ
-  ahead m p l = taken m l (m .places - p .gone) (p .gone)
-
-  -- between two rounds
-  pub record Between (whole : Driven) (m : State) (p : Position) (picks : ℕ) : Type 0 where
-    pub some-lanes : 0 < lanes
-    pub no-picks : p .until ≤ m .work
-    pub same : whole ≡ leavesFrom m [] (p .begun) picks
-
-  -- in a round
-  pub record InRound (whole : Driven) (m : State) (p : Position) (picks : ℕ) : Type 0 where
-    pub some-lanes : 0 < lanes
-    pub is-once : p .once ≡ true
-    pub reach-all : p .reach ≡ m .places
-    pub at-gone : p .gone < p .reach → p .slot ≡ p .gone
-    pub lanes-left : ℕ
-    pub stops-there : p .until ≡ stopAt (m .work) lanes-left
-    pub same : whole ≡ leavesFrom m (ahead m p lanes-left) (p .begun) picks
-
-  module _ {whole : Driven} {m : State} {p : Position} {picks : ℕ} (x : InRound whole m p picks) where
-    -- places in which nothing runs
-    pub round-goes-by : Walks m p → (w : ℕ) → p .slot + w ≤ m .places → Quiet m (p .slot) (p .slot + w) → InRound whole m (goneBy m w p) picks
-    round-goes-by walks w inside quiet =
-        let here = x .at-gone (goes {m = m} {p = p} walks .places-left) in
-        let n : m .places - p .gone ≡ w + (m .places - (p .gone + w)) = omega arith in
-        let past : taken m (x .lanes-left) (m .places - p .gone) (p .gone) ≡ taken m (x .lanes-left) (m .places - (p .gone + w)) (p .gone + w) =
-        ap (λ i. taken m (x .lanes-left) i (p .gone)) n
-        ∙ taken-past m (x .lanes-left) w (m .places - (p .gone + w)) (p .gone) (λ i a b. quiet i (omega arith) (omega arith)) in
-        record {
-          some-lanes = x .some-lanes;
-          is-once = x .is-once;
-          reach-all = x .reach-all;
-          at-gone = λ h. behind-inside (m .places) (p .slot) w (omega (arith, here, x .reach-all)) ∙ ap (λ i. i + w) here;
-          lanes-left = x .lanes-left;
-          stops-there = x .stops-there;
-          same = x .same ∙ ap (λ ks. leavesFrom m ks (p .begun) picks) past;
-        }
-
-    -- the task at the slot is picked, and its w places are gone by
-    module _ {interval places : ℕ} (allowed : Allowed cells interval places) (fits : Fits cells interval places m) (walks : Walks m p)
-        (below : p .slot < m .places) (runs-there : running (at m (p .slot)) ≡ true) (most : p .until ≤ workLimit)
-        {m′ : State} (is : m′ ≡ issued cells words m (p .slot)) where
-      abbrev k : ℕ
-      k = p .slot
-
-      abbrev l : ℕ
-      l = x .lanes-left
-
-      room : m .work < workLimit
-      room = omega (arith, goes {m = m} {p = p} walks .picks-left, most)
-
-      lane-left : 0 < l
-      lane-left = by-below 0 l (λ h. h) none
-        where
-          none : l ≤ 0 → 0 < l
-          none h =
-              let z : l ≡ 0 = omega arith in
-              let now : stopAt (m .work) l ≡ m .work = rw (z, lt-ltb 0 (workLimit - m .work) (omega (arith, room))) (omega arith) in
-              absurd (omega (arith, now, x .stops-there, goes {m = m} {p = p} walks .picks-left))
-
-      more : m′ .work ≡ m .work + 1
-      more = ap (λ (n : State). n .work) is ∙ issued-work cells words m k
-
-      stops-same : p .until ≡ stopAt (m′ .work) (l - 1)
-      stops-same = x .stops-there ∙ by-below l (workLimit - m .work)
-          (λ h. let h′ : l - 1 < workLimit - m′ .work = omega (arith, more, lane-left) in
-          rw (lt-ltb l (workLimit - m .work) h, lt-ltb (l - 1) (workLimit - m′ .work) h′) (omega (arith, more, lane-left)))
-          (λ h. let h′ : workLimit - m′ .work ≤ l - 1 = omega (arith, more, lane-left) in
-          rw (le-ltb l (workLimit - m .work) h, le-ltb (l - 1) (workLimit - m′ .work) h′))
-
-      pub round-picked : (w slot : ℕ) → m′ .places ≡ m .places → 0 < w → k + w ≤ m .places → Quiet m (k + 1) (k + w)
-          → ((i : ℕ) → k + w ≤ i → running (at m′ i) ≡ running (at m i)) → (p .gone + w < p .reach → slot ≡ p .gone + w)
-          → InRound whole m′ (to slot (p .gone + w) p) (picks + 1)
-      round-picked w slot same-places some inside quiet beyond next = record {
-        some-lanes = x .some-lanes;
-        is-once = x .is-once;
-        reach-all = x .reach-all ∙ sym same-places;
-        at-gone = next;
-        lanes-left = l - 1;
-        stops-there = stops-same;
-        same = x .same ∙ ap leftRounds go-on;
-      }
-        where
-          here : k ≡ p .gone
-          here = x .at-gone (goes {m = m} {p = p} walks .places-left)
-
-          -- the slots behind the task's places, as they were and as they are
-          rest : taken m (l - 1) (m .places - p .gone - 1) (p .gone + 1) ≡ taken m′ (l - 1) (m′ .places - (p .gone + w)) (p .gone + w)
-          rest =
-              let n : m .places - p .gone - 1 ≡ (w - 1) + (m′ .places - (p .gone + w)) = omega (arith, same-places, here, inside) in
-              let z : p .gone + 1 + (w - 1) ≡ p .gone + w = omega arith in
-              ap (λ i. taken m (l - 1) i (p .gone + 1)) n
-              ∙ taken-past m (l - 1) (w - 1) (m′ .places - (p .gone + w)) (p .gone + 1) (λ i a b. quiet i (omega (arith, here)) (omega (arith, here)))
-              ∙ ap (λ i. taken m (l - 1) (m′ .places - (p .gone + w)) i) z
-              ∙ taken-same m m′ (l - 1) (m′ .places - (p .gone + w)) (p .gone + w) (λ i h. beyond i (omega (arith, here)))
-
-          first : taken m l (m .places - p .gone) (p .gone) ≡ k ∷ taken m′ (l - 1) (m′ .places - (p .gone + w)) (p .gone + w)
-          first =
-              let a : l ≡ suc (l - 1) = omega (arith, lane-left) in
-              let b : m .places - p .gone ≡ suc (m .places - p .gone - 1) = omega (arith, here) in
-              ap (λ i. taken m i (m .places - p .gone) (p .gone)) a
-              ∙ ap (λ i. taken m (suc (l - 1)) i (p .gone)) b
-              ∙ taken-first m (l - 1) (m .places - p .gone - 1) (p .gone) (rw (sym here) runs-there)
-              ∙ ap (λ ks. p .gone ∷ ks) rest
-              ∙ ap (λ i. i ∷ taken m′ (l - 1) (m′ .places - (p .gone + w)) (p .gone + w)) (sym here)
-
-          go-on : roundRun (workLimit - m .work) m (taken m l (m .places - p .gone) (p .gone)) (p .begun) picks
-              ≡ roundRun (workLimit - m′ .work) m′ (taken m′ (l - 1) (m′ .places - (p .gone + w)) (p .gone + w)) (p .begun) (picks + 1)
-          go-on =
-              let goes′ = stops-not m (running-open allowed words m fits k below runs-there) room in
-              let n : workLimit - m .work ≡ suc (workLimit - m′ .work) = omega (arith, more, room) in
-              ap (λ i. roundRun i m (taken m l (m .places - p .gone) (p .gone)) (p .begun) picks) n
-              ∙ picks-turn cells words (rounds lanes) (workLimit - m′ .work) _ k _ (rounds-go lanes m _ k _ goes′ first)
-              ∙ ap (λ (s : State). roundRun (workLimit - m′ .work) s (taken m′ (l - 1) (m′ .places - (p .gone + w)) (p .gone + w)) (p .begun) (picks + 1)) (sym is)
-
-    -- where the walk does not go on, none is left of the round, or no room for a pick
-    module _ (h : walksOn false (m .work) (p .until) (p .gone) (p .reach) ≡ false) where
-      abbrev Ends : Type 0
-      Ends = leavesFrom m (ahead m p (x .lanes-left)) (p .begun) picks ≡ leavesFrom m [] (p .begun) picks
-
-      full : workLimit ≤ m .work → Ends
-      unfolding follows
-      full all = let z : workLimit - m .work ≡ 0 = omega arith in rw z
-
-      none : ahead m p (x .lanes-left) ≡ [] → Ends
-      none e = ap (λ ks. leavesFrom m ks (p .begun) picks) e
-
-      no-lane : p .until ≤ m .work → m .work < workLimit → x .lanes-left ≡ 0
-      no-lane u b = by-below (x .lanes-left) (workLimit - m .work)
-          (λ h. let e : stopAt (m .work) (x .lanes-left) ≡ m .work + x .lanes-left = rw (lt-ltb (x .lanes-left) (workLimit - m .work) h) in
-          omega (arith, e, x .stops-there))
-          (λ h. let e : stopAt (m .work) (x .lanes-left) ≡ workLimit = rw (le-ltb (x .lanes-left) (workLimit - m .work) h) in
-          absurd (omega (arith, e, x .stops-there)))
-
-      spent : p .until ≤ m .work → Ends
-      spent u = by-below (m .work) workLimit
-          (λ b. none (ap (λ i. taken m i (m .places - p .gone) (p .gone)) (no-lane u b) ∙ taken-none m (m .places - p .gone) (p .gone))) full
-
-      idle : m .work < p .until → p .reach ≤ p .gone → Ends
-      idle some all =
-          let z : m .places - p .gone ≡ 0 = omega (arith, x .reach-all) in
-          none (ap (λ i. taken m (x .lanes-left) i (p .gone)) z ∙ taken-out m (x .lanes-left) (p .gone))
-
-      pub round-ends : whole ≡ leavesFrom m [] (p .begun) picks
-      round-ends = x .same ∙ rests m p h spent idle
-
-  -- ---- the next round, or the end
+  -- ---- a round begins
 
   -- a round that begins is the run with its slots left
   module _ (some-lanes : 0 < lanes) (m : State) {interval places : ℕ} (allowed : Allowed cells interval places) (fits : Fits cells interval places m)
@@ -238,8 +94,206 @@ module _ (cells : List ℕ) (words : List ℤ) (lanes budget : ℕ) where
     pub begins-round : roundRun (workLimit - m .work) m [] done picks ≡ roundRun (workLimit - m .work) m (roundOf lanes m) (done + 1) picks
     begins-round = by-slots (roundOf lanes m) refl
 
-  module _ (some-lanes : 0 < lanes) (m : State) (p : Position) {interval places : ℕ} (allowed : Allowed cells interval places) (fits : Fits cells interval places m)
-      (some : 0 < m .places) (few : m .places ≤ 64) (picks : ℕ) {whole : Driven} (same : whole ≡ leavesFrom m [] (p .begun) picks) where
+  -- ---- where the loop stands
+
+  -- the slots from `from` on that so many lanes take
+  abbrev slotsLeft : State → ℕ → ℕ → List ℕ
+  slotsLeft m l from = taken m l (m .places - from) from
+
+  -- before the first round
+  pub record Between (whole : Driven) (m : State) (p : Place) (picks : ℕ) : Type 0 where
+    pub some-lanes : 0 < lanes
+    pub no-picks : p .until ≤ m .work
+    pub same : whole ≡ leavesFrom m [] (p .begun) picks
+
+  -- these slots are left, and the loop stands at the first
+  pub record InTurn (p : Place) (ks : List ℕ) : Type 0 where
+    pub rest-is : p .rest ≡ packed ks
+    pub some-rest : 0 < p .rest
+    pub slot-is : p .slot ≡ slotIn (p .rest)
+
+  -- in a round
+  pub record InRound (whole : Driven) (m : State) (p : Place) (picks : ℕ) : Type 0 where
+    pub some-lanes : 0 < lanes
+    pub has-row : p .row ≡ 0 → ⊥
+    pub to-limit : p .until ≡ workLimit
+    pub last-most : p .last ≤ budget
+    pub row-again : p .begun < p .last → p .row ≡ packed (roundOf lanes m)
+    pub from : ℕ
+    pub lanes-left : ℕ
+    pub in-turn : 0 < p .ahead → InTurn p (slotsLeft m lanes-left from)
+    pub none-left : p .ahead ≡ 0 → slotsLeft m lanes-left from ≡ []
+    pub same : whole ≡ leavesFrom m (slotsLeft m lanes-left from) (p .begun) picks
+
+  -- the slot that the loop stands at, and those behind it
+  record Heads (m : State) (p : Place) (l from : ℕ) : Type 0 where
+    rest : List ℕ
+    is : slotsLeft m l from ≡ p .slot ∷ rest
+    found : Found m l (m .places - from) from (p .slot) rest
+    below : p .slot < m .places
+    others : p .rest / 128 ≡ packed rest
+
+  heads : (m : State) (p : Place) (l from : ℕ) → m .places ≤ 64 → InTurn p (slotsLeft m l from) → Heads m p l from
+  heads m p l from few t = go (slotsLeft m l from) refl
+    where
+      go : (ks : List ℕ) → slotsLeft m l from ≡ ks → Heads m p l from
+      go [] e = absurd (omega (arith, t .rest-is ∙ ap packed e ∙ none-packed, t .some-rest))
+      go (k ∷ ks) e =
+          let f = taken-found m l (m .places - from) from k ks e in
+          let row : p .rest ≡ packed (k ∷ ks) = t .rest-is ∙ ap packed e in
+          let small : k < 64 = omega (arith, f .inside, f .from-least) in
+          let slot : p .slot ≡ k = t .slot-is ∙ ap slotIn row ∙ slot-in-first k ks (omega arith) in
+          record {
+            rest = ks;
+            is = e ∙ ap (λ i. i ∷ ks) (sym slot);
+            found = rw slot f;
+            below = omega (arith, f .inside, f .from-least, slot);
+            others = ap (λ n. n / 128) row ∙ others-packed k ks (omega arith);
+          }
+
+  module _ {whole : Driven} {m : State} {p : Place} {picks : ℕ} (x : InRound whole m p picks) (few : m .places ≤ 64) where
+    pub round-below : 0 < p .ahead → p .slot < m .places
+    round-below some = heads m p (x .lanes-left) (x .from) few (x .in-turn some) .below
+
+    -- a task runs at the slot
+    pub round-runs : Walks m p → running (at m (p .slot)) ≡ true
+    round-runs walks = heads m p (x .lanes-left) (x .from) few (x .in-turn (goes {m = m} {p = p} walks .places-left)) .found .runs
+
+    -- the task at the slot is picked
+    module _ {interval places : ℕ} (allowed : Allowed cells interval places) (fits : Fits cells interval places m) (walks : Walks m p)
+        (runs-there : running (at m (p .slot)) ≡ true) {m′ : State} (is : m′ ≡ issued cells words m (p .slot)) (same-places : m′ .places ≡ m .places)
+        (w : ℕ) (wide : 0 < w) (inside : p .slot + w ≤ m .places) (quiet : Quiet m (p .slot + 1) (p .slot + w))
+        (beyond : (i : ℕ) → p .slot + w ≤ i → running (at m′ i) ≡ running (at m i)) where
+      abbrev k : ℕ
+      k = p .slot
+
+      abbrev l : ℕ
+      l = x .lanes-left
+
+      head : Heads m p l (x .from)
+      head = heads m p l (x .from) few (x .in-turn (goes {m = m} {p = p} walks .places-left))
+
+      room : m .work < workLimit
+      room = omega (arith, goes {m = m} {p = p} walks .picks-left, x .to-limit)
+
+      more : m′ .work ≡ m .work + 1
+      more = ap (λ (n : State). n .work) is ∙ issued-work cells words m k
+
+      -- the slots behind the task's places, as they were and as they are
+      left-there : slotsLeft m′ (l - 1) (k + w) ≡ head .rest
+      left-there =
+          let f = head .found in
+          let n : x .from + (m .places - x .from) - (k + 1) ≡ (w - 1) + (m′ .places - (k + w)) = omega (arith, same-places, inside, f .from-least, f .inside) in
+          let z : k + 1 + (w - 1) ≡ k + w = omega arith in
+          sym (f .others
+          ∙ ap (λ i. taken m (l - 1) i (k + 1)) n
+          ∙ taken-past m (l - 1) (w - 1) (m′ .places - (k + w)) (k + 1) (λ i a b. quiet i a (omega arith))
+          ∙ ap (λ i. taken m (l - 1) (m′ .places - (k + w)) i) z
+          ∙ taken-same m m′ (l - 1) (m′ .places - (k + w)) (k + w) beyond)
+
+      -- the run goes on with them
+      same-on : whole ≡ leavesFrom m′ (head .rest) (p .begun) (picks + 1)
+      same-on =
+          let goes′ = stops-not m (running-open allowed words m fits k (head .below) runs-there) room in
+          let n : workLimit - m .work ≡ suc (workLimit - m′ .work) = omega (arith, more, room) in
+          x .same ∙ ap leftRounds
+          (ap (λ i. roundRun i m (slotsLeft m l (x .from)) (p .begun) picks) n
+          ∙ picks-turn cells words (rounds lanes) (workLimit - m′ .work) _ k _ (rounds-go lanes m _ k _ goes′ (head .is))
+          ∙ ap (λ (s : State). roundRun (workLimit - m′ .work) s (head .rest) (p .begun) (picks + 1)) (sym is))
+
+      module _ (last : ℕ) (last-most : last ≤ budget) (row-again : p .begun < last → p .row ≡ packed (roundOf lanes m′)) where
+        -- at the next slot that is left
+        to-next : 0 < p .rest / 128 → InRound whole m′ (taking (p .rest / 128) (p .begun) last p) (picks + 1)
+        to-next some = record {
+          some-lanes = x .some-lanes;
+          has-row = x .has-row;
+          to-limit = x .to-limit;
+          last-most = last-most;
+          row-again = row-again;
+          from = k + w;
+          lanes-left = l - 1;
+          in-turn = λ h. record { rest-is = head .others ∙ ap packed (sym left-there); some-rest = some; slot-is = refl };
+          none-left = λ z. absurd (omega (arith, goes {m = m} {p = p} walks .places-left));
+          same = same-on ∙ ap (λ ks. leavesFrom m′ ks (p .begun) (picks + 1)) (sym left-there);
+        }
+
+        -- behind the last
+        to-none : p .rest / 128 ≤ 0
+            → InRound whole m′ (record { slot = k; ahead = 0; until = p .until; begun = p .begun; row = p .row; rest = p .rest; last = last }) (picks + 1)
+        to-none none = record {
+          some-lanes = x .some-lanes;
+          has-row = x .has-row;
+          to-limit = x .to-limit;
+          last-most = last-most;
+          row-again = row-again;
+          from = k + w;
+          lanes-left = l - 1;
+          in-turn = λ h. absurd (omega arith);
+          none-left = λ z. left-there ∙ packed-none (head .rest) (omega (arith, head .others));
+          same = same-on ∙ ap (λ ks. leavesFrom m′ ks (p .begun) (picks + 1)) (sym left-there);
+        }
+
+      -- the task has forked or ended its side: later rounds take other tasks
+      pub round-stopped : InRound whole m′ (cond (ltb 0 (p .rest / 128)) (taking (p .rest / 128) (p .begun) 0 p) (leftOf k p)) (picks + 1)
+      round-stopped = by-below 0 (p .rest / 128)
+          (λ h. rw (lt-ltb 0 (p .rest / 128) h) (to-next 0 (omega arith) (λ z. absurd (omega arith)) h))
+          (λ h. rw (le-ltb 0 (p .rest / 128) h) (to-none 0 (omega arith) (λ z. absurd (omega arith)) h))
+
+      -- it runs on, and all others as before
+      module _ (fits′ : Fits cells interval places m′) (all-same : (i : ℕ) → running (at m′ i) ≡ running (at m i)) where
+        row-still : p .begun < p .last → p .row ≡ packed (roundOf lanes m′)
+        row-still h = x .row-again h
+            ∙ ap packed (taken-same m m′ lanes (m .places) 0 (λ i z. all-same i) ∙ ap (λ n. taken m′ lanes n 0) (sym same-places))
+
+        -- the next round begins at the row's first slot
+        to-first : p .rest / 128 ≤ 0 → goesAgain (m′ .work) p ≡ true → InRound whole m′ (taking (p .row) (p .begun + 1) (p .last) p) (picks + 1)
+        to-first none again =
+            let b = both-true (ltb (p .begun) (p .last)) (ltb (m′ .work) (p .until)) again in
+            let before = ltb-true (p .begun) (p .last) (b .0) in
+            let room′ : m′ .work < workLimit = omega (arith, ltb-true (m′ .work) (p .until) (b .1), x .to-limit) in
+            let below′ : k < m′ .places = omega (arith, head .below, same-places) in
+            let goes′ = stops-not m′ (running-open allowed words m′ fits′ k below′ (all-same k ∙ runs-there)) room′ in
+            let z : m′ .places - 0 ≡ m′ .places = omega arith in
+            let row-all : p .row ≡ packed (slotsLeft m′ lanes 0) = row-still before ∙ ap (λ n. packed (taken m′ lanes n 0)) (sym z) in
+            record {
+              some-lanes = x .some-lanes;
+              has-row = x .has-row;
+              to-limit = x .to-limit;
+              last-most = x .last-most;
+              row-again = λ h. row-still before;
+              from = 0;
+              lanes-left = lanes;
+              in-turn = λ h. record { rest-is = row-all; some-rest = by-below 0 (p .row) (λ h. h) (λ h. absurd (x .has-row (omega arith))); slot-is = refl };
+              none-left = λ h. absurd (omega (arith, goes {m = m} {p = p} walks .places-left));
+              same = same-on ∙ ap (λ ks. leavesFrom m′ ks (p .begun) (picks + 1)) (packed-none (head .rest) (omega (arith, head .others)))
+                  ∙ ap leftRounds (begins-round (x .some-lanes) m′ allowed fits′ goes′ room′ (p .begun) (picks + 1) (omega (arith, before, x .last-most)))
+                  ∙ ap (λ n. leavesFrom m′ (taken m′ lanes n 0) (p .begun + 1) (picks + 1)) (sym z);
+            }
+
+        pub round-on : InRound whole m′ (roundOn (m′ .work) p) (picks + 1)
+        round-on = by-below 0 (p .rest / 128)
+            (λ h. rw (lt-ltb 0 (p .rest / 128) h) (to-next (p .last) (x .last-most) row-still h))
+            (λ h. rw (le-ltb 0 (p .rest / 128) h) (by-test (goesAgain (m′ .work) p)
+            (λ a. rw a (to-first h a)) (λ a. rw a (to-none (p .last) (x .last-most) row-still h))))
+
+        -- another round is begun only where the budget has one
+        pub round-begun : roundOn (m′ .work) p .begun ≤ budget ⊎ (roundOn (m′ .work) p .begun ≡ p .begun)
+        round-begun = by-test (ltb 0 (p .rest / 128)) (λ a. rw a (inr refl)) (λ a. rw a (by-test (goesAgain (m′ .work) p)
+            (λ b. rw b (inl (let t = both-true (ltb (p .begun) (p .last)) (ltb (m′ .work) (p .until)) b in omega (arith, ltb-true (p .begun) (p .last) (t .0), x .last-most))))
+            (λ b. rw b (inr refl))))
+
+    -- where the walk does not go on, none is left of the round, or no room for a pick
+    pub round-ends : walksOn false (m .work) p ≡ false → whole ≡ leavesFrom m [] (p .begun) picks
+    unfolding follows
+    round-ends h = x .same ∙ rests m p h full (λ some none. ap (λ ks. leavesFrom m ks (p .begun) picks) (x .none-left none))
+      where
+        full : p .until ≤ m .work → leavesFrom m (slotsLeft m (x .lanes-left) (x .from)) (p .begun) picks ≡ leavesFrom m [] (p .begun) picks
+        full all = let z : workLimit - m .work ≡ 0 = omega (arith, x .to-limit) in rw z
+
+  -- ---- the next round, or the end
+
+  module _ (some-lanes : 0 < lanes) (m : State) (p : Place) {interval places : ℕ} (allowed : Allowed cells interval places) (fits : Fits cells interval places m)
+      (few : m .places ≤ 64) (picks : ℕ) {whole : Driven} (same : whole ≡ leavesFrom m [] (p .begun) picks) {row : ℕ} (is-row : row ≡ packed (roundOf lanes m)) where
     abbrev kept : Rounding
     kept = record { slots = []; done = p .begun; budget = budget }
 
@@ -248,34 +302,44 @@ module _ (cells : List ℕ) (words : List ℤ) (lanes budget : ℕ) where
     rests-here e = same ∙ ap leftRounds (stays cells words (rounds lanes) (workLimit - m .work) (record { state = m; kept = kept; picks = picks }) e)
 
     module _ (goes-on : stops m ≡ false) (room : m .work < workLimit) (more : p .begun < budget) where
-      first-round : InRound whole m (record { slot = 0; gone = 0; until = stopAt (m .work) lanes; reach = m .places; begun = p .begun + 1; once = true }) picks
-      first-round = record {
+      -- in a state of the shape a task runs where the job has not ended
+      some-row : row ≡ 0 → ⊥
+      some-row z = clash (rw (quiet-ended allowed words m fits (none-idle some-lanes m allowed fits goes-on room (p .begun) picks more (packed-none (roundOf lanes m) (sym is-row ∙ z))))) goes-on
+
+      first-round : InRound whole m (roundFrom row (p .begun + 1) budget) picks
+      first-round = let z : m .places - 0 ≡ m .places = omega arith in record {
         some-lanes = some-lanes;
-        is-once = refl;
-        reach-all = refl;
-        at-gone = λ h. refl;
+        has-row = some-row;
+        to-limit = refl;
+        last-most = omega arith;
+        row-again = λ h. is-row;
+        from = 0;
         lanes-left = lanes;
-        stops-there = refl;
-        same = let z : m .places - 0 ≡ m .places = omega arith in
-            same ∙ ap leftRounds (begins-round some-lanes m allowed fits goes-on room (p .begun) picks more)
+        in-turn = λ h. record {
+          rest-is = is-row ∙ ap (λ n. packed (taken m lanes n 0)) (sym z);
+          some-rest = by-below 0 row (λ h. h) (λ h. absurd (some-row (omega arith)));
+          slot-is = refl;
+        };
+        none-left = λ h. absurd (omega arith);
+        same = same ∙ ap leftRounds (begins-round some-lanes m allowed fits goes-on room (p .begun) picks more)
             ∙ ap (λ i. leavesFrom m (taken m lanes i 0) (p .begun + 1) picks) (sym z);
       }
 
     pub round-next : Comes whole m picks (p .begun) budget (λ n. n) (λ q. Between whole m q picks ⊎ InRound whole m q picks)
-        (nextRound lanes budget (p .begun) (m .places) (m .work) (jobEnded m))
+        (nextRound budget (p .begun) (m .work) (jobEnded m) row)
     round-next =
         by-test (jobEnded m)
         (λ e. rw e (none (rounds-stop lanes m kept (rw e))))
         (λ e. by-below (m .work) workLimit
         (λ room. by-below (p .begun) budget
         (λ more. rw (e, lt-leb workLimit (m .work) room, lt-leb budget (p .begun) more)
-        (comes-one refl
-        (record { begun-more = omega arith; begun-most = omega arith; slot-below = some; reach-most = few; until-most = stop-most (m .work) lanes })
-        (inr (first-round (stops-not m e room) room more))))
+        (let first = first-round (stops-not m e room) room more in
+        comes-one refl
+        (record { begun-more = omega arith; begun-most = omega arith; slot-below = round-below first few (omega arith); ahead-most = omega arith; until-most = omega arith })
+        (inr first)))
         (λ all. rw (e, lt-leb workLimit (m .work) room, le-leb budget (p .begun) all) (none (rounds-spent lanes m kept refl all))))
         (λ full. rw (e, le-leb workLimit (m .work) full) (none (rounds-stop lanes m kept (stops-full m full)))))
       where
         none : rounds lanes m kept ≡ over
-            → Comes whole m picks (p .begun) budget (λ n. n) (λ q. Between whole m q picks ⊎ InRound whole m q picks)
-            (record { over = true; slot = 0; until = 0; reach = 0; begun = p .begun; once = false })
+            → Comes whole m picks (p .begun) budget (λ n. n) (λ q. Between whole m q picks ⊎ InRound whole m q picks) (done (p .begun))
         none e = comes-none refl (omega arith) refl refl (rests-here e)

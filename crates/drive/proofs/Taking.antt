@@ -2,7 +2,7 @@
 use mathlib.Core.Path.{_≡_, refl, sym, ap, _∙_}
 use mathlib.Core.Bool.{true, false}
 use mathlib.Core.List.{List, [], _∷_}
-use Prim.Native.Nat.{ℕ, zero, suc, _+_, _≤_}
+use Prim.Native.Nat.{ℕ, zero, suc, _+_, _-_, _<_, _≤_}
 use native.Mathlib.Omega.{arith}
 use Rattle.facts.proofs.Tests.{by-test, by-order}
 use Rattle.task.specs.Frames.{running}
@@ -61,3 +61,55 @@ taken-some m lanes (suc n) k e i a b =
   where
     no-slot : {A : Type 0} {j : ℕ} {js : List ℕ} → j ∷ js ≡ [] → A
     no-slot z = let c : _≡_ {A = ℕ} 1 0 = cc in absurd (omega arith)
+
+-- ---- the first of them
+
+pub record Found (m : State) (lanes n from k : ℕ) (ks : List ℕ) : Type 0 where
+  pub some-lanes : 0 < lanes
+  pub from-least : from ≤ k
+  pub inside : k < from + n
+  pub runs : running (at m k) ≡ true
+  pub others : ks ≡ taken m (lanes - 1) (from + n - (k + 1)) (k + 1)
+
+abbrev headOf : List ℕ → ℕ
+headOf [] = 0
+headOf (k ∷ ks) = k
+
+abbrev tailOf : List ℕ → List ℕ
+tailOf [] = []
+tailOf (k ∷ ks) = ks
+
+none-first : {A : Type 0} {k : ℕ} {ks : List ℕ} → [] ≡ k ∷ ks → A
+none-first z = let c : _≡_ {A = ℕ} 0 1 = cc in absurd (omega arith)
+
+pub taken-found : (m : State) (lanes n from k : ℕ) (ks : List ℕ) → taken m lanes n from ≡ k ∷ ks → Found m lanes n from k ks
+unfolding taken
+taken-found m zero n from k ks e = none-first e
+taken-found m (suc lanes) zero from k ks e = none-first e
+taken-found m (suc lanes) (suc n) from k ks e = by-test (running (at m from)) (λ r. here r (rw (r, taken) at e)) (λ r. later r (rw (r, taken) at e))
+  where
+    here : running (at m from) ≡ true → from ∷ taken m lanes n (from + 1) ≡ k ∷ ks → Found m (suc lanes) (suc n) from k ks
+    here r h =
+        let first : from ≡ k = ap headOf h in
+        let i : suc lanes - 1 ≡ lanes = omega arith in
+        let j : from + suc n - (k + 1) ≡ n = omega arith in
+        record {
+          some-lanes = omega arith;
+          from-least = omega arith;
+          inside = omega arith;
+          runs = ap (λ i. running (at m i)) (sym first) ∙ r;
+          others = sym (ap tailOf h) ∙ ap (λ i. taken m lanes n (i + 1)) first ∙ ap (λ l. taken m l n (k + 1)) (sym i)
+              ∙ ap (λ z. taken m (suc lanes - 1) z (k + 1)) (sym j);
+        }
+
+    later : running (at m from) ≡ false → taken m (suc lanes) n (from + 1) ≡ k ∷ ks → Found m (suc lanes) (suc n) from k ks
+    later r h =
+        let f = taken-found m (suc lanes) n (from + 1) k ks h in
+        let j : from + 1 + n - (k + 1) ≡ from + suc n - (k + 1) = omega arith in
+        record {
+          some-lanes = omega arith;
+          from-least = omega (arith, f .from-least);
+          inside = omega (arith, f .inside);
+          runs = f .runs;
+          others = f .others ∙ ap (λ z. taken m (suc lanes - 1) z (k + 1)) j;
+        }

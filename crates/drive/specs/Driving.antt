@@ -1,8 +1,8 @@
 -- What the loop over the slots leaves of a state, along each course.
-use mathlib.Core.Bool.{Bool, true}
+use mathlib.Core.Bool.{Bool, true, _&&_}
 use mathlib.Core.List.{List}
 use Prim.Native.Nat.{ℕ}
-use lib.Dec.{ltb}
+use lib.Dec.{ltb, leb}
 use lib.IntN.{ℤ}
 use Rattle.turns.specs.declared.course.Course.{Course}
 use Rattle.turns.specs.declared.course.Course.the-variants.{Passes, Listed, Rounds}
@@ -13,11 +13,11 @@ use Rattle.drive.specs.Passes.{runFrom}
 use Rattle.drive.specs.Listing.{listFrom}
 use Rattle.drive.specs.Rounds.{Rounding, roundsFrom}
 
--- passes begin at a slot of the state, and a round has a lane
+-- passes begin at a slot of the state, and a round has 1 to 8 lanes
 abbrev pub startsIn : Course → State → Bool
 startsIn (Passes slot picks) m = ltb slot (m .places)
 startsIn Listed m = true
-startsIn (Rounds lanes budget) m = ltb 0 lanes
+startsIn (Rounds lanes budget) m = ltb 0 lanes && leb lanes 8
 
 abbrev pub left : {C : Type 0} → Run C → Driven
 left r = record { state = r .state; picks = r .picks; rounds = 0 }
