@@ -143,16 +143,16 @@ pub fn drive(cells: &[u64], words: &[i64], state: State, order: &[u8], course: C
             gone = course::gone_behind(once, gone, record.places);
             let behind = course::behind_slot(m.places, k, record.places);
             let kind = e.kind;
-            if let Kind::Forks(pc) = kind {
+            if let Kind::Forks = kind {
                 let value = e.value;
                 let parent = records::side_task(record, records::record_of(value), e.pc, e.counter);
                 let c = k + (parent.places as usize);
                 m.tasks[k] = parent;
-                m.tasks[c] = records::begun_at(parent, pc);
+                m.tasks[c] = records::begun_at(parent, e.child);
                 plan = moves::fork_moves(k, c);
                 k = course::after_fork(once, c, behind);
             } else {
-                m.tasks[k] = records::ended_task(record, kind);
+                m.tasks[k] = records::ended_task(record, kind, e.fault);
                 plan = moves::end_moves(k, kind);
                 due = record.depth;
                 side = k;
