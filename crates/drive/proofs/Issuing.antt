@@ -54,16 +54,16 @@ stores-kind Stores h = refl
 stores-kind Goes h = clash h refl
 stores-kind Waits h = clash h refl
 stores-kind Halts h = clash h refl
-stores-kind (Faults n) h = clash h refl
-stores-kind (Forks pc) h = clash h refl
+stores-kind Faults h = clash h refl
+stores-kind Forks h = clash h refl
 
 goes-kind : (kind : Kind) → runsOn kind ≡ true → storesIt kind ≡ false → kind ≡ Goes
 goes-kind Stores h s = clash refl s
 goes-kind Goes h s = refl
 goes-kind Waits h s = clash h refl
 goes-kind Halts h s = clash h refl
-goes-kind (Faults n) h s = clash h refl
-goes-kind (Forks pc) h s = clash h refl
+goes-kind Faults h s = clash h refl
+goes-kind Forks h s = clash h refl
 
 -- what was read, and what came of it
 pub record Fetched (cells : List ℕ) (words : List ℤ) (m : State) (k : ℕ) (x : Instruction) (s v : Value) (e : Executed) : Type 0 where
@@ -114,7 +114,7 @@ module _ {cells : List ℕ} {words : List ℤ} {m : State} {k : ℕ} {x : Instru
 
   -- the frame that it leaves
   abbrev pub endFrame : Frame
-  endFrame = record { task = ended (statusOf (e .kind)) (counted (f .task)); registers = cond (ltb 0 (faults (e .kind))) zeros (f .registers) }
+  endFrame = record { task = ended (statusOf (e .kind) (e .fault)) (counted (f .task)); registers = cond (ltb 0 (faults (e .kind))) zeros (f .registers) }
 
   pub ends-steps : runsOn (e .kind) ≡ false → OneOf (0 ∷ 1 ∷ 2 ∷ 3 ∷ 4 ∷ []) (tagOf the-type (e .kind))
       → step (programOf cells) words (chosen (m .interval)) f ≡ one endFrame
@@ -122,16 +122,17 @@ module _ {cells : List ℕ} {words : List ℤ} {m : State} {k : ℕ} {x : Instru
     where
       go : (kind : Kind) → runsOn kind ≡ false → OneOf (0 ∷ 1 ∷ 2 ∷ 3 ∷ 4 ∷ []) (tagOf the-type kind)
           → madeBy kind f (x .r) e
-          ≡ one (record { task = ended (statusOf kind) (counted (f .task)); registers = cond (ltb 0 (faults kind)) zeros (f .registers) })
+          ≡ one (record { task = ended (statusOf kind (e .fault)) (counted (f .task)); registers = cond (ltb 0 (faults kind)) zeros (f .registers) })
       go Stores h o = clash refl h
       go Goes h o = clash refl h
       go Waits h o = refl
       go Halts h o = refl
-      go (Faults n) h o = refl
-      go (Forks pc) h o = absurd (miss (0 ∷ 1 ∷ 2 ∷ 3 ∷ 4 ∷ []) 5 tt o)
+      go Faults h o = refl
+      go Forks h o = absurd (miss (0 ∷ 1 ∷ 2 ∷ 3 ∷ 4 ∷ []) 5 tt o)
 
   -- its record written and its moves made, that frame is put back
-  pub end-put : {t : Task} → t ≡ ended (statusOf (e .kind)) (counted (f .task)) → moved (endMoves k (e .kind)) (ticked (withTaskAt m k t)) ≡ ticked (put m k endFrame)
+  pub end-put : {t : Task} → t ≡ ended (statusOf (e .kind) (e .fault)) (counted (f .task))
+      → moved (endMoves k (e .kind)) (ticked (withTaskAt m k t)) ≡ ticked (put m k endFrame)
   end-put {t} p =
       end-moved (ticked (withTaskAt m k t)) k (e .kind) ∙ by (ltb 0 (faults (e .kind)))
       ∙ ap (λ (o : Task). ticked (put m k (record { task = o; registers = cond (ltb 0 (faults (e .kind))) zeros (f .registers) }))) p
@@ -144,28 +145,28 @@ module _ {cells : List ℕ} {words : List ℤ} {m : State} {k : ℕ} {x : Instru
   -- ---- it has forked
 
   -- both sides' records
-  abbrev pub forkedAt : Fork → ℕ → State
-  forkedAt under pc = record {
+  abbrev pub forkedAt : Fork → State
+  forkedAt under = record {
     places = m .places;
     interval = m .interval;
     work = m .work + 1;
     bank = m .bank;
-    tasks = set (set (m .tasks) k (sideOf (f .task) under (e .pc) (e .counter))) (k + f .task .places / 2) (movedTo pc 0 (sideOf (f .task) under (e .pc) (e .counter)));
+    tasks = set (set (m .tasks) k (sideOf (f .task) under (e .pc) (e .counter))) (k + f .task .places / 2) (movedTo (e .child) 0 (sideOf (f .task) under (e .pc) (e .counter)));
   }
 
   -- these written and the moves made
-  pub forks-issued : (pc : ℕ) {under : Fork} → e .kind ≡ Forks pc → under ≡ recordOf (e .value)
-      → moved (forkMoves k (k + f .task .places / 2)) (forkedAt under pc) ≡ issued cells words m k
-  forks-issued pc {under} h is =
+  pub forks-issued : {under : Fork} → e .kind ≡ Forks → under ≡ recordOf (e .value)
+      → moved (forkMoves k (k + f .task .places / 2)) (forkedAt under) ≡ issued cells words m k
+  forks-issued {under} h is =
       let half = f .task .places / 2 in
       let on : Running ≡ f .task .status = sym (running-is (f .task .status) runs) in
       let parent : sideOf (f .task) under (e .pc) (e .counter) ≡ parentSide e (f .task) = λ i. side-by (on i) (is i) in
-      fork-moved (forkedAt under pc) k (k + half)
-      ∙ ap (λ (o : State). ticked (put o (k + half) (withTask (movedTo pc 0 (sideOf (f .task) under (e .pc) (e .counter))) f)))
+      fork-moved (forkedAt under) k (k + half)
+      ∙ ap (λ (o : State). ticked (put o (k + half) (withTask (movedTo (e .child) 0 (sideOf (f .task) under (e .pc) (e .counter))) f)))
       (sym (put-task m k (sideOf (f .task) under (e .pc) (e .counter))))
-      ∙ ap (λ (p : Task). ticked (put (put m k (withTask p f)) (k + half) (withTask (movedTo pc 0 p) f))) parent
+      ∙ ap (λ (p : Task). ticked (put (put m k (withTask p f)) (k + half) (withTask (movedTo (e .child) 0 p) f))) parent
       ∙ ap ticked (sym (carry-two (slotsOf (programOf cells)) (step (programOf cells) words (chosen (m .interval))) m k
-      (withTask (parentSide e (f .task)) f) (withTask (childSide pc e (f .task)) f) (steps-by (Forks pc) h)))
+      (withTask (parentSide e (f .task)) f) (withTask (childSide (e .child) e (f .task)) f) (steps-by Forks h)))
     where
       side-by : Status → Fork → Task
       side-by s u = record {
@@ -179,11 +180,11 @@ module _ {cells : List ℕ} {words : List ℤ} {m : State} {k : ℕ} {x : Instru
       }
 
   -- there is room for an open fork more, and each side gets a place
-  pub forks-room : (pc : ℕ) → e .kind ≡ Forks pc → (f .task .depth < 6) × (2 ≤ f .task .places)
-  forks-room pc h =
+  pub forks-room : e .kind ≡ Forks → (f .task .depth < 6) × (2 ≤ f .task .places)
+  forks-room h =
       let laws = laws-hold allowed words in
       let s = stand allowed words m k fits below runs in
-      let t = laws .step-two (s .height) f _ _ (s .formed) runs (steps-by (Forks pc) h) in
+      let t = laws .step-two (s .height) f _ _ (s .formed) runs (steps-by Forks h) in
       let wide : 2 ^ s .height ≡ 2 ^ t .0 * 2 = ap (λ n. 2 ^ n) (t .1) ∙ pow-suc 2 (t .0) in (
         omega (arith, t .1, s .formed .has-depth, rank-small (m .places) (allowed .places-allowed)),
         omega (arith, wide, pow-pos (t .0), s .formed .has-places),

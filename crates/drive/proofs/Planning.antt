@@ -134,7 +134,7 @@ module _ (g : Given) (allowed : GivenAllowed g) where
     less-on : (n : State) (slot gone o : ℕ) → n .work ≡ m .work + 1 → o ≤ 6 → ahead g n (to slot gone p) o < ahead g m p 0
     less-on n slot gone o more few = let x = goes {m = m} {p = p} (s .walks) in omega (arith, x .picks-left, x .places-left, a .reach-most)
 
-    pub end-planned : OneOf (0 ∷ 1 ∷ 2 ∷ 3 ∷ 4 ∷ []) (tagOf the-type (e .kind)) → {t : Task} → t ≡ ended (statusOf (e .kind)) (counted (at m k .task))
+    pub end-planned : OneOf (0 ∷ 1 ∷ 2 ∷ 3 ∷ 4 ∷ []) (tagOf the-type (e .kind)) → {t : Task} → t ≡ ended (statusOf (e .kind) (e .fault)) (counted (at m k .task))
         → {n : State} → n ≡ ticked (withTaskAt m k t) → {plan : Moves} → plan ≡ endMoves k (e .kind)
         → Planned g (ahead g m p 0) n plan (pickedBehind m (at m k .task .places) p) (at m k .task .depth) k
     end-planned no-fork {t} is-ended {n} written {plan} planned =
@@ -149,19 +149,19 @@ module _ (g : Given) (allowed : GivenAllowed g) where
               (omega (arith, a .all-picks), omega (arith, goes {m = m} {p = p} (s .walks) .picks-left, a .until-most));
         }
 
-    module _ (pc : ℕ) (kind-is : e .kind ≡ Forks pc) where
+    module _ (kind-is : e .kind ≡ Forks) where
       abbrev half : ℕ
       half = at m k .task .places / 2
 
       -- the child's slot is in the state
       pub fork-room : (0 < half) × (k + half < m .places) × (at m k .task .depth < 6)
       fork-room =
-          let r = forks-room allowed-there fits-there (a .slot-below) (s .runs-there) (s .fetched) pc kind-is in
+          let r = forks-room allowed-there fits-there (a .slot-below) (s .runs-there) (s .fetched) kind-is in
           let t = tile g allowed a (s .runs-there) in
           (omega (arith, r .1), omega (arith, r .1, t .inside), r .0)
 
       pub fork-planned : {under : Fork} → under ≡ recordOf (e .value)
-          → {n : State} → n ≡ forkedAt allowed-there fits-there (a .slot-below) (s .runs-there) (s .fetched) under pc
+          → {n : State} → n ≡ forkedAt allowed-there fits-there (a .slot-below) (s .runs-there) (s .fetched) under
           → {plan : Moves} → plan ≡ forkMoves k (k + half) → (side : ℕ) → side < 64
           → Planned g (ahead g m p 0) n plan (pickedFork m half (at m k .task .places) p) 0 side
       fork-planned {under} is-under {n} written {plan} planned side below =
@@ -177,10 +177,10 @@ module _ (g : Given) (allowed : GivenAllowed g) where
           on : (m′ : State) → m′ ≡ moved plan n → At g m′ (pickedFork m half (at m k .task .places) p)
           on m′ is =
               let issued-is = is ∙ ap₂ moved planned written
-              ∙ forks-issued allowed-there fits-there (a .slot-below) (s .runs-there) (s .fetched) pc kind-is is-under in
+              ∙ forks-issued allowed-there fits-there (a .slot-below) (s .runs-there) (s .fetched) kind-is is-under in
               let r = fork-room in
               let l = m .tasks in
-              let f = forkedAt allowed-there fits-there (a .slot-below) (s .runs-there) (s .fetched) under pc in
+              let f = forkedAt allowed-there fits-there (a .slot-below) (s .runs-there) (s .fetched) under in
               let kept : m′ .tasks ≡ f .tasks = ap (λ (o : State). o .tasks) is ∙ moved-tasks plan n ∙ ap (λ (o : State). o .tasks) written in
               let mine : getD (m′ .tasks) k noTask ≡ _ = ap (λ (l : List Task). getD l k noTask) kept
               ∙ getD-set-other (set l k _) (k + half) k _ noTask (λ z. absurd (omega (arith, r .0)))

@@ -150,16 +150,16 @@ pub fn drive(cells: &[u64], words: &[i64], state: State, order: &[u8], course: C
             let record = m.tasks[k];
             m.work = m.work + 1;
             let kind = e.kind;
-            if let Kind::Forks(pc) = kind {
+            if let Kind::Forks = kind {
                 let value = e.value;
                 let parent = records::side_task(record, records::record_of(value), e.pc, e.counter);
                 let c = k + (parent.places as usize);
                 m.tasks[k] = parent;
-                m.tasks[c] = records::begun_at(parent, pc);
+                m.tasks[c] = records::begun_at(parent, e.child);
                 plan = moves::fork_moves(k, c);
                 p = walk::stopped_at(p, m.places, parent.places);
             } else {
-                m.tasks[k] = records::ended_task(record, kind);
+                m.tasks[k] = records::ended_task(record, kind, e.fault);
                 plan = moves::end_moves(k, kind);
                 due = record.depth;
                 side = k;

@@ -48,27 +48,27 @@ module _ (l : List Fork) (k : Fork) (d i : ℕ) where
 -- ---- fork
 
 module _ (words : List ℤ) (choices : Choices) (cells : List ℕ) (s v : Value) (t : Active) (l : List Fork) where
-  pub fork-other : NotRecord s → ending (Faults 36) ≡ answered (programOf cells) words choices s v t l fork
+  pub fork-other : NotRecord s → ending Faults 36 ≡ answered (programOf cells) words choices s v t l fork
   unfolding asked
   fork-other k =
-      not-record (λ (w : Value). ending (Faults 36) ≡ answered (programOf cells) words choices w v t l fork) (λ z. refl) (λ b. refl) s k
+      not-record (λ (w : Value). ending Faults 36 ≡ answered (programOf cells) words choices w v t l fork) (λ z. refl) (λ b. refl) s k
 
   module _ {c d : ℕ} {z : Bool} (p : s ≡ Record c d) (e : z ≡ fits (record { continuation = c; depth = d }) (t .depth) l) where
-    pub fork-unfit : z ≡ false → ending (Faults 36) ≡ answered (programOf cells) words choices s v t l fork
+    pub fork-unfit : z ≡ false → ending Faults 36 ≡ answered (programOf cells) words choices s v t l fork
     unfolding asked
     fork-unfit k = rw (p, ← e, k)
 
     module _ (k : z ≡ true) where
-      pub fork-no-target : NotLabel v → ending (Faults 34) ≡ answered (programOf cells) words choices s v t l fork
+      pub fork-no-target : NotLabel v → ending Faults 34 ≡ answered (programOf cells) words choices s v t l fork
       unfolding asked
       fork-no-target n =
           rw p
-          (not-label (λ (w : Value). ending (Faults 34) ≡ answered (programOf cells) words choices (Record c d) w t l fork)
+          (not-label (λ (w : Value). ending Faults 34 ≡ answered (programOf cells) words choices (Record c d) w t l fork)
           (λ z. rw (← e, k))
           (λ b d. rw (← e, k)) v n)
 
       module _ {b : ℕ} (q : v ≡ Label b) where
-        pub fork-no-places : t .places < 2 → ending (Faults 37) ≡ answered (programOf cells) words choices s v t l fork
+        pub fork-no-places : t .places < 2 → ending Faults 37 ≡ answered (programOf cells) words choices s v t l fork
         unfolding asked
         fork-no-places h = rw (p, ← e, k, q, lt-leb 2 (t .places) h)
 
@@ -80,13 +80,13 @@ module _ (words : List ℤ) (choices : Choices) (cells : List ℕ) (s v : Value)
 -- ---- join
 
 module _ (words : List ℤ) (s : Value) (cells : List ℕ) (interval : ℕ) (v : Value) (t : Active) (l : List Fork) where
-  pub meet-other : NotRecord v → ending (Faults 36) ≡ answered (programOf cells) words (chosen interval) s v t l meet
+  pub meet-other : NotRecord v → ending Faults 36 ≡ answered (programOf cells) words (chosen interval) s v t l meet
   unfolding asked
   meet-other k =
-      not-record (λ (w : Value). ending (Faults 36) ≡ answered (programOf cells) words (chosen interval) s w t l meet) (λ z. refl) (λ b. refl) v k
+      not-record (λ (w : Value). ending Faults 36 ≡ answered (programOf cells) words (chosen interval) s w t l meet) (λ z. refl) (λ b. refl) v k
 
   module _ {c d : ℕ} {z : Bool} (p : v ≡ Record c d) (e : z ≡ fits (record { continuation = c; depth = d }) (t .depth) l) where
-    pub meet-unfit : z ≡ false → ending (Faults 36) ≡ answered (programOf cells) words (chosen interval) s v t l meet
+    pub meet-unfit : z ≡ false → ending Faults 36 ≡ answered (programOf cells) words (chosen interval) s v t l meet
     unfolding asked
     meet-unfit k = rw (p, ← e, k)
 
@@ -95,6 +95,6 @@ module _ (words : List ℤ) (s : Value) (cells : List ℕ) (interval : ℕ) (v :
     unfolding asked
     meets-there k h = rw (p, ← e, k, eq-eqb d (t .depth) h)
 
-    pub waits-on : z ≡ true → (d ≡ t .depth → ⊥) → ending Waits ≡ answered (programOf cells) words (chosen interval) s v t l meet
+    pub waits-on : z ≡ true → (d ≡ t .depth → ⊥) → ending Waits 0 ≡ answered (programOf cells) words (chosen interval) s v t l meet
     unfolding asked
     waits-on k h = rw (p, ← e, k, ne-eqb d (t .depth) h)

@@ -59,14 +59,14 @@ given {r} h e = ap Int (toZ-ofZ w64 r (record { sfits = h }) ∙ e)
 
 module _ (program : Program) (choices : Choices) (t : Active) (s v : Value) where
   -- the left operand is no integer, or the right one
-  pub left-other : (after : ℤ → Effect) → NotInt s → ending (Faults 31) ≡ handed program choices t (integer s 31 after)
+  pub left-other : (after : ℤ → Effect) → NotInt s → ending Faults 31 ≡ handed program choices t (integer s 31 after)
   left-other after k =
-      not-int (λ (w : Value). ending (Faults 31) ≡ handed program choices t (integer w 31 after)) (λ b. refl) (λ b d. refl) s k
+      not-int (λ (w : Value). ending Faults 31 ≡ handed program choices t (integer w 31 after)) (λ b. refl) (λ b d. refl) s k
 
   pub right-other : (after : ℤ → ℤ → Effect) {a : ℤ} → s ≡ Int a → NotInt v
-      → ending (Faults 31) ≡ handed program choices t (integer s 31 λ x. integer v 31 (after x))
+      → ending Faults 31 ≡ handed program choices t (integer s 31 λ x. integer v 31 (after x))
   right-other after {a} p k =
-      rw p (not-int (λ (w : Value). ending (Faults 31) ≡ handed program choices t (integer w 31 (after a))) (λ b. refl) (λ b d. refl) v k)
+      rw p (not-int (λ (w : Value). ending Faults 31 ≡ handed program choices t (integer w 31 (after a))) (λ b. refl) (λ b d. refl) v k)
 
   module _ {a b : ℤ} (p : s ≡ Int a) (q : v ≡ Int b) (f : SFits w64 a) (g : SFits w64 b) where
     pub gives : (op : ℤ → ℤ → Value) {w : Value} → w ≡ op (toZ w64 (ofZ w64 a)) (toZ w64 (ofZ w64 b))
@@ -76,7 +76,7 @@ module _ (program : Program) (choices : Choices) (t : Active) (s v : Value) wher
 
     -- a divisor of 0
     pub no-divisor : (op : ℤ → ℤ → ℤ) {z : Bool} → z ≡ eqZ (toZ w64 (ofZ w64 b)) (pos 0) → z ≡ true
-        → ending (Faults 32) ≡ handed program choices t (divides op s v)
+        → ending Faults 32 ≡ handed program choices t (divides op s v)
     unfolding asked
     no-divisor op e k = rw (p, q, asked, ← toZ-ofZ w64 b g, ← e, k)
 
@@ -108,17 +108,17 @@ pub index-fits : (a : ℤ) → SFits w64 a → ltZ (toZ w64 (ofZ w64 a)) (pos 0)
 index-fits a f e = rw (natural a f e) (tt, ofZ-fits w64 a f)
 
 module _ (program : Program) (choices : Choices) (words : List ℤ) (s v : Value) (t : Active) (opened : List Fork) where
-  pub no-index : NotInt v → ending (Faults 31) ≡ answered program words choices s v t opened word
+  pub no-index : NotInt v → ending Faults 31 ≡ answered program words choices s v t opened word
   unfolding asked
-  no-index k = not-int (λ (w : Value). ending (Faults 31) ≡ answered program words choices s w t opened word) (λ b. refl) (λ b d. refl) v k
+  no-index k = not-int (λ (w : Value). ending Faults 31 ≡ answered program words choices s w t opened word) (λ b. refl) (λ b d. refl) v k
 
   module _ {a : ℤ} (p : v ≡ Int a) (f : SFits w64 a) where
-    pub index-negative : ltZ (toZ w64 (ofZ w64 a)) (pos 0) ≡ true → ending (Faults 33) ≡ answered program words choices s v t opened word
+    pub index-negative : ltZ (toZ w64 (ofZ w64 a)) (pos 0) ≡ true → ending Faults 33 ≡ answered program words choices s v t opened word
     unfolding asked
     index-negative e = rw (p, asked, is-negative a (rw (toZ-ofZ w64 a f) at e))
 
     pub index-past : ltZ (toZ w64 (ofZ w64 a)) (pos 0) ≡ false → length words ≤ natAbs (toZ w64 (ofZ w64 a))
-        → ending (Faults 33) ≡ answered program words choices s v t opened word
+        → ending Faults 33 ≡ answered program words choices s v t opened word
     unfolding asked
     index-past e h =
         rw (p, asked, not-negative a (rw (toZ-ofZ w64 a f) at e), le-ltb (natAbs a) (length words) (rw (toZ-ofZ w64 a f) at h))

@@ -33,7 +33,7 @@ module _ (program : Program) (words : List ℤ) (choices : Choices) (x : Instruc
   sends m k = rw (e, k)
 
   -- any other number than 1 to 15
-  pub sends-nowhere : (1 ≤ x .opcode → 15 < x .opcode) → ending (Faults 8) ≡ executed program words choices x s v t l
+  pub sends-nowhere : (1 ≤ x .opcode → 15 < x .opcode) → ending Faults 8 ≡ executed program words choices x s v t l
   unfolding executed
   sends-nowhere h = rw (other (x .opcode) h)
     where

@@ -45,10 +45,10 @@ module _ (cells : List ℕ) (interval b : ℕ) (t : Active) {z : Bool} {pc : ℕ
 -- ---- jump and if-jump
 
 module _ (cells : List ℕ) (words : List ℤ) (interval : ℕ) (v : Value) (t : Active) (opened : List Fork) where
-  pub no-target : (s : Value) → NotLabel v → ending (Faults 34) ≡ answered (programOf cells) words (chosen interval) s v t opened jump
+  pub no-target : (s : Value) → NotLabel v → ending Faults 34 ≡ answered (programOf cells) words (chosen interval) s v t opened jump
   unfolding asked
   no-target s k =
-      not-label (λ (w : Value). ending (Faults 34) ≡ answered (programOf cells) words (chosen interval) s w t opened jump) (λ z. refl) (λ b d. refl) v k
+      not-label (λ (w : Value). ending Faults 34 ≡ answered (programOf cells) words (chosen interval) s w t opened jump) (λ z. refl) (λ b d. refl) v k
 
   pub jumps-there : (s : Value) {b : ℕ} → v ≡ Label b
       → entering (programOf cells) (chosen interval) b t ≡ answered (programOf cells) words (chosen interval) s v t opened jump
@@ -56,10 +56,10 @@ module _ (cells : List ℕ) (words : List ℤ) (interval : ℕ) (v : Value) (t :
   jumps-there s p = rw p
 
   module _ (s : Value) where
-    pub tests-other : NotInt s → ending (Faults 31) ≡ answered (programOf cells) words (chosen interval) s v t opened ifJump
+    pub tests-other : NotInt s → ending Faults 31 ≡ answered (programOf cells) words (chosen interval) s v t opened ifJump
     unfolding asked
     tests-other k =
-        not-int (λ (w : Value). ending (Faults 31) ≡ answered (programOf cells) words (chosen interval) w v t opened ifJump) (λ b. refl) (λ b d. refl) s k
+        not-int (λ (w : Value). ending Faults 31 ≡ answered (programOf cells) words (chosen interval) w v t opened ifJump) (λ b. refl) (λ b d. refl) s k
 
     module _ {a : ℤ} {z : Bool} (p : s ≡ Int a) (f : SFits w64 a) (e : z ≡ eqZ (toZ w64 (ofZ w64 a)) (pos 0)) where
       is-zero : {y : Bool} → z ≡ y → eqZ a (pos 0) ≡ y
@@ -77,13 +77,13 @@ module _ (cells : List ℕ) (words : List ℤ) (interval : ℕ) (v : Value) (t :
 -- ---- jralloc
 
 module _ (words : List ℤ) (choices : Choices) (cells : List ℕ) (s v : Value) (t : Active) (opened : List Fork) where
-  pub no-label : NotLabel v → ending (Faults 35) ≡ answered (programOf cells) words choices s v t opened jralloc
+  pub no-label : NotLabel v → ending Faults 35 ≡ answered (programOf cells) words choices s v t opened jralloc
   unfolding asked
   no-label k =
-      not-label (λ (w : Value). ending (Faults 35) ≡ answered (programOf cells) words choices s w t opened jralloc) (λ z. refl) (λ b d. refl) v k
+      not-label (λ (w : Value). ending Faults 35 ≡ answered (programOf cells) words choices s w t opened jralloc) (λ z. refl) (λ b d. refl) v k
 
   pub no-join-target : {b : ℕ} → v ≡ Label b → (blockOf cells b .annotation ≡ 2 → ⊥)
-      → ending (Faults 35) ≡ answered (programOf cells) words choices s v t opened jralloc
+      → ending Faults 35 ≡ answered (programOf cells) words choices s v t opened jralloc
   unfolding asked
   no-join-target {b} p k = rw (p, ne-eqb (blockOf cells b .annotation) 2 k)
 

@@ -44,8 +44,8 @@ madeBy Stores f r e = one (record { task = after e (f .task); registers = set (f
 madeBy Goes f r e = one (withTask (after e (f .task)) f)
 madeBy Waits f r e = one (withTask (ended Waiting (counted (f .task))) f)
 madeBy Halts f r e = one (withTask (ended Halted (counted (f .task))) f)
-madeBy (Faults n) f r e = one (record { task = ended (Faulted n) (counted (f .task)); registers = zeros })
-madeBy (Forks pc) f r e = two (withTask (parentSide e (f .task)) f) (withTask (childSide pc e (f .task)) f)
+madeBy Faults f r e = one (record { task = ended (Faulted (e .fault)) (counted (f .task)); registers = zeros })
+madeBy Forks f r e = two (withTask (parentSide e (f .task)) f) (withTask (childSide (e .child) e (f .task)) f)
 
 abbrev pub made : Frame → Instruction → Executed → Stepped Frame
 made f x e = madeBy (e .kind) f (x .r) e

@@ -40,19 +40,19 @@ countedActive t = record { places = t .places; pc = t .pc; counter = t .counter 
 
 -- the task goes on at pc, its registers as they are
 abbrev pub going : ℕ → ℕ → Executed
-going pc counter = record { kind = Goes; value = Int (pos 0); pc = pc; counter = counter }
+going pc counter = record { kind = Goes; value = Int (pos 0); pc = pc; counter = counter; fault = 0; child = 0 }
 
 -- it goes on to the next instruction, with this value in r
 abbrev pub storing : Value → Active → Executed
-storing v t = record { kind = Stores; value = v; pc = t .pc + 1; counter = t .counter }
+storing v t = record { kind = Stores; value = v; pc = t .pc + 1; counter = t .counter; fault = 0; child = 0 }
 
--- it waits, has halted or has faulted
-abbrev pub ending : Kind → Executed
-ending kind = record { kind = kind; value = Int (pos 0); pc = 0; counter = 0 }
+-- it waits, has halted or has faulted, with the fault's number, else 0
+abbrev pub ending : Kind → ℕ → Executed
+ending kind fault = record { kind = kind; value = Int (pos 0); pc = 0; counter = 0; fault = fault; child = 0 }
 
--- it goes on as the parent's side of a fork under the record v; the child starts at pc
+-- it goes on as the parent's side of a fork under the record v; the child starts at instruction `child`
 abbrev pub forking : Value → ℕ → Active → Executed
-forking v pc t = record { kind = Forks pc; value = v; pc = t .pc + 1; counter = t .counter }
+forking v child t = record { kind = Forks; value = v; pc = t .pc + 1; counter = t .counter; fault = 0; child = child }
 
 module _ (program : Program) (choices : Choices) where
   abbrev pub enteringBy : Bool → ℕ → Active → Executed
@@ -68,9 +68,9 @@ module _ (program : Program) (choices : Choices) where
   handed t continues = going (t .pc + 1) (t .counter)
   handed t (enters b) = entering b t
   handed t (forks k b) = forking (Record (k .continuation) (k .depth)) (program .block b .first) t
-  handed t waits = ending Waits
-  handed t halts = ending Halts
-  handed t (faults n) = ending (Faults n)
+  handed t waits = ending Waits 0
+  handed t halts = ending Halts 0
+  handed t (faults n) = ending Faults n
 
 module _ (program : Program) (words : List ℤ) (choices : Choices) where
   abbrev pub answered : Value → Value → Active → List Fork → Op → Executed

@@ -106,5 +106,5 @@ pub fn halt(t: Active) -> Executed
     if t.depth != 0 {
         return fault(38);
     }
-    end(Kind::Halts)
+    end(Kind::Halts, 0)
 }

@@ -74,10 +74,12 @@ pub fn fork(cells: &[u64], s: Value, v: Value, t: Active, forks: [Fork; 6]) -> E
     }
     let pc = first_of(cells, b as usize);
     Executed {
-        kind: Kind::Forks(pc),
+        kind: Kind::Forks,
         value: s,
         pc: t.pc + 1,
         counter: t.counter,
+        fault: 0,
+        child: pc,
     }
 }
 
@@ -99,5 +101,5 @@ pub fn meet(cells: &[u64], interval: u64, v: Value, t: Active, forks: [Fork; 6])
     if depth == t.depth {
         return enter(cells, interval, continuation, t);
     }
-    end(Kind::Waits)
+    end(Kind::Waits, 0)
 }

@@ -64,23 +64,26 @@ pub struct Active {
     pub depth: u32,
 }
 
-// What becomes of a task that has carried out an instruction. `Faults` holds the fault's number, `Forks` the child's first instruction.
+// What becomes of a task that has carried out an instruction. A kind holds nothing, so that it is one small number: what a fault or a fork has
+// to say besides stands in `Executed`.
 pub enum Kind {
     Stores,
     Goes,
     Waits,
     Halts,
-    Faults(u8),
-    Forks(u16),
+    Faults,
+    Forks,
 }
 
-// One instruction carried out: the new pc and counter, 0 where the task does not run on; and the value for r, or the record that a fork is
-// opened under, else the integer 0.
+// One instruction carried out: the new pc and counter, 0 where the task does not run on; the value for r, or the record that a fork is opened
+// under, else the integer 0; the fault's number, 0 where the task has not faulted; and the child's first instruction, 0 where it does not fork.
 pub struct Executed {
     pub kind: Kind,
     pub value: Value,
     pub pc: u16,
     pub counter: u32,
+    pub fault: u8,
+    pub child: u16,
 }
 
 // What two ended sides of a fork come to: the joined task, and the pairs that are copied from the child's registers to the parent's. A

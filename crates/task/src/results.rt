@@ -30,6 +30,8 @@ pub fn store(v: Value, t: Active) -> Executed
         value: v,
         pc: t.pc + 1,
         counter: t.counter,
+        fault: 0,
+        child: 0,
     }
 }
 
@@ -41,23 +43,27 @@ pub fn go(pc: u16, counter: u32) -> Executed
         value: Value::Int(0),
         pc,
         counter,
+        fault: 0,
+        child: 0,
     }
 }
 
-// The task does not run on.
-pub fn end(kind: Kind) -> Executed
-    ensures { λ r. ⌜ r ≡ ending kind ⌝ }
+// The task does not run on: it waits, has halted, or has faulted with this number, which is 0 for the others.
+pub fn end(kind: Kind, fault: u8) -> Executed
+    ensures { λ r. ⌜ r ≡ ending kind fault ⌝ }
 {
     Executed {
         kind,
         value: Value::Int(0),
         pc: 0,
         counter: 0,
+        fault,
+        child: 0,
     }
 }
 
 pub fn fault(number: u8) -> Executed
-    ensures { λ r. ⌜ r ≡ ending (Faults number) ⌝ }
+    ensures { λ r. ⌜ r ≡ ending Faults number ⌝ }
 {
-    end(Kind::Faults(number))
+    end(Kind::Faults, number)
 }

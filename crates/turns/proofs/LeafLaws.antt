@@ -31,8 +31,8 @@ no-fault Stores h = refl
 no-fault Goes h = refl
 no-fault Waits h = refl
 no-fault Halts h = refl
-no-fault (Faults n) h = absurd (miss (0 ∷ 1 ∷ 2 ∷ 3 ∷ 5 ∷ []) 4 tt h)
-no-fault (Forks pc) h = refl
+no-fault Faults h = absurd (miss (0 ∷ 1 ∷ 2 ∷ 3 ∷ 5 ∷ []) 4 tt h)
+no-fault Forks h = refl
 
 -- none, but from slot k, and clearing it where the kind is a fault
 pub end-moved : (k clears : ℕ) (kind : Kind) {n : Moves} → n ≡ noMoves → clears ≡ faults kind

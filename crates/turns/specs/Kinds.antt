@@ -14,24 +14,25 @@ runsOn Stores = true
 runsOn Goes = true
 runsOn Waits = false
 runsOn Halts = false
-runsOn (Faults n) = false
-runsOn (Forks pc) = false
+runsOn Faults = false
+runsOn Forks = false
 
 abbrev pub storesIt : Kind → Bool
 storesIt Stores = true
 storesIt Goes = false
 storesIt Waits = false
 storesIt Halts = false
-storesIt (Faults n) = false
-storesIt (Forks pc) = false
+storesIt Faults = false
+storesIt Forks = false
 
-abbrev pub statusOf : Kind → Status
-statusOf Stores = Running
-statusOf Goes = Running
-statusOf Waits = Waiting
-statusOf Halts = Halted
-statusOf (Faults n) = Faulted n
-statusOf (Forks pc) = Running
+-- where it has faulted, with the fault's number n
+abbrev pub statusOf : Kind → ℕ → Status
+statusOf Stores n = Running
+statusOf Goes n = Running
+statusOf Waits n = Waiting
+statusOf Halts n = Halted
+statusOf Faults n = Faulted n
+statusOf Forks n = Running
 
 -- the parent's side of a fork
 abbrev pub sideOf : Task → Fork → ℕ → ℕ → Task

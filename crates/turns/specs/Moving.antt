@@ -16,8 +16,8 @@ faults Stores = 0
 faults Goes = 0
 faults Waits = 0
 faults Halts = 0
-faults (Faults n) = 1
-faults (Forks pc) = 0
+faults Faults = 1
+faults Forks = 0
 
 abbrev pub endMoves : ℕ → Kind → Moves
 endMoves k kind = record { from = k; to = 0; pairs = 0; packed = 0; clears = faults kind; whole = 0 }

@@ -50,7 +50,7 @@ pub fn end_moves(k: usize, kind: Kind) -> Moves
 {
     let mut n = no_moves();
     n.from = k;
-    if let Kind::Faults(_) = kind {
+    if let Kind::Faults = kind {
         n.clears = 1;
     }
     n

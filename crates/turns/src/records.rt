@@ -20,8 +20,8 @@ pub fn runs_on(kind: Kind) -> bool
         Kind::Goes => true,
         Kind::Waits => false,
         Kind::Halts => false,
-        Kind::Faults(_) => false,
-        Kind::Forks(_) => false,
+        Kind::Faults => false,
+        Kind::Forks => false,
     }
 }
 
@@ -33,22 +33,22 @@ pub fn does_store(kind: Kind) -> bool
         Kind::Goes => false,
         Kind::Waits => false,
         Kind::Halts => false,
-        Kind::Faults(_) => false,
-        Kind::Forks(_) => false,
+        Kind::Faults => false,
+        Kind::Forks => false,
     }
 }
 
-// The status of a task that an instruction has ended.
-fn status_of(kind: Kind) -> Status
-    ensures { λ r. ⌜ r ≡ statusOf kind ⌝ }
+// The status of a task that an instruction has ended. The fault's number is 0 where it has not faulted.
+fn status_of(kind: Kind, fault: u8) -> Status
+    ensures { λ r. ⌜ r ≡ statusOf kind fault ⌝ }
 {
     match kind {
         Kind::Stores => Status::Running,
         Kind::Goes => Status::Running,
         Kind::Waits => Status::Waiting,
         Kind::Halts => Status::Halted,
-        Kind::Faults(n) => Status::Faulted(n),
-        Kind::Forks(_) => Status::Running,
+        Kind::Faults => Status::Faulted(fault),
+        Kind::Forks => Status::Running,
     }
 }
 
@@ -85,11 +85,11 @@ pub fn record_of(v: Value) -> Fork
 }
 
 // A task whose side an instruction has ended. The caller has found the work below its limit.
-pub fn ended_task(t: Task, kind: Kind) -> Task
+pub fn ended_task(t: Task, kind: Kind, fault: u8) -> Task
     requires { ⌜ t .span < workLimit ⌝ }
-    ensures { λ r. ⌜ r ≡ ended (statusOf kind) (counted t) ⌝ }
+    ensures { λ r. ⌜ r ≡ ended (statusOf kind fault) (counted t) ⌝ }
 {
-    let status = status_of(kind);
+    let status = status_of(kind, fault);
     let forks = t.forks;
     Task {
         status,

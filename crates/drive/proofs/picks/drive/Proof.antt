@@ -438,23 +438,23 @@ halt-gone c =
 
 -- a fork: the child's slot is in the state
 abbrev Forking : Type 0
-Forking = Here tie.After-known-told
+Forking = Here tie.After-enum-told
 
-fork-at : (c : Forking) → let w = walk-h (c .before .before .before .before .before .before) in
+fork-at : (c : Forking) → let w = walk-h (c .before .before .before .before .before) in
     let places = at (w .loop2 .m) (w .loop2 .k) .task .places in
     (0 < places / 2) × (w .loop2 .k + places / 2 < w .loop2 .m .places) × (at (w .loop2 .m) (w .loop2 .k) .task .depth < 6)
 fork-at c =
-    let w = walk-h (c .before .before .before .before .before .before) in
+    let w = walk-h (c .before .before .before .before .before) in
     let h = head-of (turn-w w) in
-    fork-room (given-of h) (allowed-of h) (at-w w) (stopped-at (c .before .before .before .before .before .before)) (c .before .kind .given .0 .0) (c .before .kind .given .1)
+    fork-room (given-of h) (allowed-of h) (at-w w) (stopped-at (c .before .before .before .before .before)) (c .enum-told .given .1)
 
 -- both sides' slots, and their numbers
-fork-slots : (c : Forking) → let w = walk-h (c .before .before .before .before .before .before) in
+fork-slots : (c : Forking) → let w = walk-h (c .before .before .before .before .before) in
     let t = at (w .loop2 .m) (w .loop2 .k) .task in
     (w .loop2 .k + t .places / 2 < 64) × (t .depth < 6) × (w .loop2 .k < 64)
 fork-slots c =
     let f = fork-at c in
-    let w = walk-h (c .before .before .before .before .before .before) in
+    let w = walk-h (c .before .before .before .before .before) in
     (omega (arith, f .1, few-places w), f .2, slot-inside w)
 
 -- ---- what a turn has planned
@@ -495,15 +495,15 @@ planned-at c = elim (c .if1 .came) [
         let h = head-of (c .before) in
         let m = w .loop2 .m in
         let k = w .loop2 .k in
-        let pc = t .10 .given .0 .0 in
-        let parent = t .13 .ensures in
-        let written = t .17 ∙ ap₂ (λ (p q : Task). sidesWritten m k p q) parent (t .14 .ensures ∙ ap (movedTo pc 0) parent) in
+        let pc = w .loop2 .e .child in
+        let parent = t .12 .ensures in
+        let written = t .16 ∙ ap₂ (λ (p q : Task). sidesWritten m k p q) parent (t .13 .ensures ∙ ap (movedTo pc 0) parent) in
         let child = ap (λ (p : Task). k + p .places) parent in
-        let next = t .18 ∙ t .16 .ensures ∙ ap₂ (afterFork (h .loop .once)) child (t .8 .ensures) in
-        planned-as (place-w w) next (t .19 ∙ t .7 .ensures) (t .20 ∙ none-due-w w) (t .21)
+        let next = t .17 ∙ t .15 .ensures ∙ ap₂ (afterFork (h .loop .once)) child (t .8 .ensures) in
+        planned-as (place-w w) next (t .18 ∙ t .7 .ensures) (t .19 ∙ none-due-w w) (t .20)
         (planned-below (omega (arith, w .loop2 .inv .0 .shorter, none-due-w w))
-        (fork-planned (given-of h) (allowed-of h) (at-w w) (stopped-at x) pc (t .10 .given .1) (t .12 .ensures) written
-        (t .22 ∙ t .15 .ensures ∙ ap (forkMoves k) child) (h .loop .side) (turns-at (c .before) .side-below)))
+        (fork-planned (given-of h) (allowed-of h) (at-w w) (stopped-at x) (t .10 .given .1) (t .11 .ensures) written
+        (t .21 ∙ t .14 .ensures ∙ ap (forkMoves k) child) (h .loop .side) (turns-at (c .before) .side-below)))
     | inr t ↦
         let w : Walk = record { before = record { before = record { before = c .before; if1 = t .0 }; go = t .1 }; loop2 = t .2 } in
         let x : Halting = record { before = record { before = record { before = w; walks-on = t .3 }; if4 = t .4 }; if8 = t .5 } in
@@ -638,8 +638,8 @@ joined-requires c κs =
     due-joinable (given-of h .cells) (h .loop .m) (q-of j) (w-of j) (h .loop .due) (start-of h .pre .0) (turns-at (turn-j j) .safe)
     (j .before .before .before .before .if1 .taken) (sides (c .before) ∙ not-false (c .before .both-ended .result) (c .if3 .left))
 
-mul-t68 : Here tie.Need-mul-t68
-mul-t68 c = omega (arith, inside (c .before .before .before .before .before .before .before))
+mul-t67 : Here tie.Need-mul-t67
+mul-t67 c = omega (arith, inside (c .before .before .before .before .before .before .before))
 
 element-set-from-m : Here tie.Need-element-set-from-m
 element-set-from-m c = omega (arith, inside (c .before .before .before .before .before .before .before))
@@ -719,8 +719,8 @@ execute-requires c κs =
 ran-on-requires : Here tie.Need-ran-on-requires
 ran-on-requires c κs = span-at (runs-of (c .before .before))
 
-mul-t99 : Here tie.Need-mul-t99
-mul-t99 c = omega (arith, slot-inside (walk-d (c .before .before .before)))
+mul-t98 : Here tie.Need-mul-t98
+mul-t98 c = omega (arith, slot-inside (walk-d (c .before .before .before)))
 
 element-set-from-m-2 : Here tie.Need-element-set-from-m-2
 element-set-from-m-2 c = omega (arith, slot-inside (walk-d (c .before .before .before)))
@@ -728,8 +728,8 @@ element-set-from-m-2 c = omega (arith, slot-inside (walk-d (c .before .before .b
 add-at-r : Here tie.Need-add-at-r
 add-at-r c = omega (arith, slot-inside (walk-d (c .before .before .before .before .before)), r-inside (c .before .before .before .before .before .before .before .before .before .before))
 
-mul-t103 : Here tie.Need-mul-t103
-mul-t103 c = let d = c .before .before .before .before .before .before in omega (arith, slot-inside (walk-d d), r-inside (d .before .before .before .before .before))
+mul-t102 : Here tie.Need-mul-t102
+mul-t102 c = let d = c .before .before .before .before .before .before in omega (arith, slot-inside (walk-d d), r-inside (d .before .before .before .before .before))
 
 element-set-from-m-3 : Here tie.Need-element-set-from-m-3
 element-set-from-m-3 c = let d = c .before .before .before .before .before .before in omega (arith, slot-inside (walk-d d), r-inside (d .before .before .before .before .before))
@@ -834,7 +834,7 @@ behind-slot-requires-2 : Here tie.Need-behind-slot-requires-2
 behind-slot-requires-2 c κs = (slot-inside (walk-h (c .before .before)), halt-few (c .before .before))
 
 side-task-requires : Here tie.Need-side-task-requires
-side-task-requires c κs = (halt-span (c .before .before .before .before .before .before .before), fork-at (c .before) .2)
+side-task-requires c κs = (halt-span (c .before .before .before .before .before .before), fork-at (c .before) .2)
 
 add-c-2 : Here tie.Need-add-c-2
 add-c-2 c = omega (arith, fork-slots (c .before .before), ap (λ (t : Task). t .places) (c .side-task .ensures))
@@ -845,8 +845,8 @@ mul-parent-2 c = omega (arith, fork-slots (c .before .before), ap (λ (t : Task)
 element-set-from-parent : Here tie.Need-element-set-from-parent
 element-set-from-parent c = omega (arith, fork-slots (c .before .before), ap (λ (t : Task). t .places) (c .side-task .ensures))
 
-mul-t126 : Here tie.Need-mul-t126
-mul-t126 c = omega (arith, fork-slots (c .before .before .before), ap (λ (t : Task). t .places) (c .before .side-task .ensures))
+mul-t125 : Here tie.Need-mul-t125
+mul-t125 c = omega (arith, fork-slots (c .before .before .before), ap (λ (t : Task). t .places) (c .before .side-task .ensures))
 
 element-set-from-m-4 : Here tie.Need-element-set-from-m-4
 element-set-from-m-4 c = omega (arith, fork-slots (c .before .before .before), ap (λ (t : Task). t .places) (c .before .side-task .ensures))
@@ -854,8 +854,8 @@ element-set-from-m-4 c = omega (arith, fork-slots (c .before .before .before), a
 ended-task-requires : Here tie.Need-ended-task-requires
 ended-task-requires c κs = halt-span (c .before .before .before .before)
 
-mul-t133 : Here tie.Need-mul-t133
-mul-t133 c = omega (arith, slot-inside (walk-h (c .before .before .before .before .before)))
+mul-t132 : Here tie.Need-mul-t132
+mul-t132 c = omega (arith, slot-inside (walk-h (c .before .before .before .before .before)))
 
 element-set-from-m-5 : Here tie.Need-element-set-from-m-5
 element-set-from-m-5 c = omega (arith, slot-inside (walk-h (c .before .before .before .before .before)))
@@ -919,14 +919,14 @@ loop3-again c =
 loop4-holds : Here tie.Need-loop4-holds
 loop4-holds c = (omega arith, filling-none _ _ zeros)
 
-mul-t149 : Here tie.Need-mul-t149
-mul-t149 c = omega (arith, planned-at (c .before .before .before .before .before .before .before) .plan-fits .from-below, c .before .loop4-test .taken)
+mul-t148 : Here tie.Need-mul-t148
+mul-t148 c = omega (arith, planned-at (c .before .before .before .before .before .before .before) .plan-fits .from-below, c .before .loop4-test .taken)
 
-add-t150 : Here tie.Need-add-t150
-add-t150 c = omega (arith, planned-at (c .before .before .before .before .before .before .before) .plan-fits .from-below, c .before .loop4-test .taken)
+add-t149 : Here tie.Need-add-t149
+add-t149 c = omega (arith, planned-at (c .before .before .before .before .before .before .before) .plan-fits .from-below, c .before .loop4-test .taken)
 
-mul-t151 : Here tie.Need-mul-t151
-mul-t151 c = omega (arith, planned-at (c .before .before .before .before .before .before .before) .plan-fits .from-below, c .before .loop4-test .taken)
+mul-t150 : Here tie.Need-mul-t150
+mul-t150 c = omega (arith, planned-at (c .before .before .before .before .before .before .before) .plan-fits .from-below, c .before .loop4-test .taken)
 
 element-set-from-m-6 : Here tie.Need-element-set-from-m-6
 element-set-from-m-6 c = omega (arith, planned-at (c .before .before .before .before .before .before .before) .plan-fits .from-below, c .before .loop4-test .taken)
@@ -1046,7 +1046,7 @@ drive-spec =
     loop-again-2
     joined-requires
     (λ c κs. search needs)
-    mul-t68
+    mul-t67
     element-set-from-m
     mul-whole
     element-set-from-whole
@@ -1076,12 +1076,12 @@ drive-spec =
     -- it runs on
     (λ c κs. search needs)
     ran-on-requires
-    mul-t99
+    mul-t98
     element-set-from-m-2
     (λ c κs. search needs)
     add-at-r
     (λ c κs. search needs)
-    mul-t103
+    mul-t102
     element-set-from-m-3
     add-m
     slot-after-requires
@@ -1117,13 +1117,13 @@ drive-spec =
     mul-parent-2
     element-set-from-parent
     (λ c κs. search needs)
-    mul-t126
+    mul-t125
     element-set-from-m-4
     (λ c κs. search needs)
     (λ c κs. search needs)
     -- an ended side
     ended-task-requires
-    mul-t133
+    mul-t132
     element-set-from-m-5
     (λ c κs. search needs)
     -- pairs
@@ -1142,9 +1142,9 @@ drive-spec =
     -- registers cleared
     loop4-holds
     (λ c κs. search needs)
-    mul-t149
-    add-t150
-    mul-t151
+    mul-t148
+    add-t149
+    mul-t150
     element-set-from-m-6
     add-i
     loop4-less

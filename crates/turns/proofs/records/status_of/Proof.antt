@@ -1,5 +1,6 @@
 -- `status_of` meets its contract.
 use mathlib.Core.Path.{sym, ap}
+use Rattle.task.specs.declared.Kind.{Kind}
 use Rattle.turns.specs.Kinds.{statusOf}
 use borrow.Author.Needs.{needs}
 use Rattle.turns.proofs.records.status_of.Statement.{statement}
@@ -17,11 +18,11 @@ enum-told-3 c = search needs
 enum-told-4 : tie.Need-enum-told-4
 enum-told-4 c = search needs
 
-enum-known-kind : tie.Need-enum-known-kind
-enum-known-kind c = search needs
-
 enum-told-5 : tie.Need-enum-told-5
 enum-told-5 c = search needs
+
+enum-told-6 : tie.Need-enum-told-6
+enum-told-6 c = search needs
 
 returns : tie.Need-returns
 returns c = search needs
@@ -36,10 +37,10 @@ returns-4 : tie.Need-returns-4
 returns-4 c = search needs
 
 returns-5 : tie.Need-returns-5
-returns-5 c = ap statusOf (sym (c .before .kind .given .1))
+returns-5 c = ap (λ (k : Kind). statusOf k (c .before .before .args .fault)) (sym (c .enum-told5 .given .1))
 
 returns-6 : tie.Need-returns-6
 returns-6 c = search needs
 
 pub status-of-spec : {M : Type 1} → statement M
-status-of-spec = tie.close (tie.spec enum-told enum-told-2 enum-told-3 enum-told-4 enum-known-kind enum-told-5 returns returns-2 returns-3 returns-4 returns-5 returns-6)
+status-of-spec = tie.close (tie.spec enum-told enum-told-2 enum-told-3 enum-told-4 enum-told-5 enum-told-6 returns returns-2 returns-3 returns-4 returns-5 returns-6)
