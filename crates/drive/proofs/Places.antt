@@ -66,6 +66,10 @@ module _ (places w : ℕ) (p : Place) (few : places ≤ 64) (most : p .ahead ≤
       (λ a. rw a (record { until-same = refl; begun-least = omega arith; ahead-most = most }))
       (λ a. rw a (record { until-same = refl; begun-least = omega arith; ahead-most = omega arith }))))
 
+pub stopped-begun : (places w : ℕ) (p : Place) → stoppedAt places w p .begun ≡ p .begun
+stopped-begun places w p =
+    by-test (eqb (p .row) 0) (λ r. rw r) (λ r. rw r (by-test (ltb 0 (p .rest / 128)) (λ a. rw a) (λ a. rw a)))
+
 -- passes and lists have the same stretch after a pick
 pub record SameStretch (p q : Place) : Type 0 where
   pub until : q .until ≡ p .until

@@ -25,11 +25,13 @@ use Rattle.task.specs.Execute.{jointOf}
 use Rattle.task.proofs.Kind.{the-type}
 use Rattle.drive.specs.declared.State.{State}
 use Rattle.turns.specs.declared.moves.Moves.{Moves}
+use Rattle.turns.specs.declared.course.Place.{Place}
 use Rattle.turns.specs.declared.course.Stretch.{Stretch}
 use Rattle.drive.specs.Slots.{at, ticked, slotsOf}
 use Rattle.turns.specs.Moving.{forkMoves, endMoves, joinMoves}
 use Rattle.turns.specs.Kinds.{statusOf}
-use Rattle.turns.specs.Walk.{goneBehind, roundsOf}
+use Rattle.turns.specs.Stretches.{roundsOf}
+use Rattle.turns.specs.Walk.{stoppedAt}
 use Rattle.drive.proofs.Models.{Allowed}
 use Rattle.drive.proofs.ShapeLaws.{Fits}
 use Rattle.drive.proofs.Owning.{own-allowed, own-fits, places-most}
@@ -37,14 +39,14 @@ use Rattle.drive.proofs.SettleSafety.{fits-safe}
 use Rattle.drive.proofs.InPlace.{withTaskAt}
 use Rattle.drive.proofs.PlanLaws.{moved, pairedAt, clearedAt, PlanFits, tasksJoined, join-moved, join-fits, end-fits, fork-fits}
 use Rattle.drive.proofs.Issuing.{ends-steps, end-put, endFrame, forkedAt, forks-issued, forks-room}
-use Rattle.drive.proofs.Positions.{Position, firstOf, to, pickedBehind, pickedFork, goes, Comes, comes-none, comes-one}
+use Rattle.drive.proofs.Places.{goes, stopped-kept, stopped-begun, Comes, comes-none, comes-one}
 use Rattle.drive.proofs.Walking.{Given, GivenAllowed, result, mostStretches, At, tile, rise-is}
 use Rattle.drive.proofs.Turning.{Turns, none-due, joins, ends, forks, Stopped}
 
 -- what is ahead of the loop, as a number that every turn makes smaller: stretches, picks and looks of this one, and looks at joins
-abbrev pub ahead : Given → State → Position → ℕ → ℕ
+abbrev pub ahead : Given → State → Place → ℕ → ℕ
 ahead g m p o =
-    281474976710656 * (mostStretches (g .course) (g .order) - p .begun) + 200 * (65 * (p .until - m .work) + (p .reach - p .gone)) + 2 * o
+    281474976710656 * (mostStretches (g .course) (g .order) - p .begun) + 200 * (65 * (p .until - m .work) + p .ahead) + 2 * o
 
 moved-work : (plan : Moves) (m : State) → moved plan m .work ≡ m .work
 moved-work plan m =
@@ -60,19 +62,19 @@ moved-tasks plan m =
     cleared-tasks : (n : State) → clearedAt plan n .tasks ≡ n .tasks
     cleared-tasks n = by-test (ltb 0 (plan .clears)) (λ b. rw b) (λ b. rw b)
 
-pub record Planned (g : Given) (before : ℕ) (m : State) (plan : Moves) (p : Position) (o side : ℕ) : Type 0 where
+pub record Planned (g : Given) (before : ℕ) (m : State) (plan : Moves) (p : Place) (o side : ℕ) : Type 0 where
   pub plan-fits : PlanFits plan
   pub then-turns : {m′ : State} → m′ ≡ moved plan m → Turns g m′ p o side
   pub less : ahead g m p o < before
   pub grows : (g .state .work ≤ m .work) × (m .work ≤ workLimit)
 
-pub then-less : {g : Given} {before : ℕ} {m : State} {plan : Moves} {p : Position} {o side : ℕ} → Planned g before m plan p o side
+pub then-less : {g : Given} {before : ℕ} {m : State} {plan : Moves} {p : Place} {o side : ℕ} → Planned g before m plan p o side
     → {m′ : State} → m′ ≡ moved plan m → ahead g m′ p o < before
 then-less {g} {before} {m} {plan} {p} {o} x {m′} is =
     let same : m′ .work ≡ m .work = ap (λ (n : State). n .work) is ∙ moved-work plan m in
     omega (arith, x .less)
 
-pub then-grows : {g : Given} {before : ℕ} {m : State} {plan : Moves} {p : Position} {o side : ℕ} → Planned g before m plan p o side
+pub then-grows : {g : Given} {before : ℕ} {m : State} {plan : Moves} {p : Place} {o side : ℕ} → Planned g before m plan p o side
     → {m′ : State} → m′ ≡ moved plan m → (g .state .work ≤ m′ .work) × (m′ .work ≤ workLimit)
 then-grows {g} {before} {m} {plan} x {m′} is =
     let same : m′ .work ≡ m .work = ap (λ (n : State). n .work) is ∙ moved-work plan m in
@@ -82,24 +84,22 @@ pub less-with : {a b : ℕ} (n : ℕ) → a < b → a + n < b + n
 less-with n h = omega arith
 
 -- against a larger number
-pub planned-below : {g : Given} {before after : ℕ} {m : State} {plan : Moves} {p : Position} {o side : ℕ} → before ≤ after
+pub planned-below : {g : Given} {before after : ℕ} {m : State} {plan : Moves} {p : Place} {o side : ℕ} → before ≤ after
     → Planned g before m plan p o side → Planned g after m plan p o side
 planned-below le x = record { plan-fits = x .plan-fits; then-turns = λ {m′} is. x .then-turns is; less = omega (arith, x .less); grows = x .grows }
 
 -- with other names for its numbers
-pub planned-as : {g : Given} {before : ℕ} {m : State} {plan : Moves} (p : Position) {slot slot′ gone gone′ o o′ side side′ : ℕ}
-    → slot′ ≡ slot → gone′ ≡ gone → o′ ≡ o → side′ ≡ side
-    → Planned g before m plan (to slot gone p) o side → Planned g before m plan (to slot′ gone′ p) o′ side′
-planned-as {g} {before} {m} {plan} p {slot′ = slot′} {gone = gone} {gone′ = gone′} {o = o} {o′ = o′} {side = side} a b c d x =
-    subst⁻¹ (λ n. Planned g before m plan (to slot′ gone′ p) o′ n) d
-    (subst⁻¹ (λ n. Planned g before m plan (to slot′ gone′ p) n side) c
-    (subst⁻¹ (λ n. Planned g before m plan (to slot′ n p) o side) b
-    (subst⁻¹ (λ n. Planned g before m plan (to n gone p) o side) a x)))
+pub planned-as : {g : Given} {before : ℕ} {m : State} {plan : Moves} {p p′ : Place} {o o′ side side′ : ℕ} → p′ ≡ p → o′ ≡ o → side′ ≡ side
+    → Planned g before m plan p o side → Planned g before m plan p′ o′ side′
+planned-as {g} {before} {m} {plan} {p} {p′} {o} {o′} {side} a b c x =
+    subst⁻¹ (λ n. Planned g before m plan p′ o′ n) c
+    (subst⁻¹ (λ n. Planned g before m plan p′ n side) b
+    (subst⁻¹ (λ q. Planned g before m plan q o side) a x))
 
 module _ (g : Given) (allowed : GivenAllowed g) where
   -- ---- a join: the two records are written
 
-  module _ {m : State} {p : Position} {o side : ℕ} (t : Turns g m p o side) (q w : ℕ) (some : 0 < o) (width : at m side .task .places ≡ w)
+  module _ {m : State} {p : Place} {o side : ℕ} (t : Turns g m p o side) (q w : ℕ) (some : 0 < o) (width : at m side .task .places ≡ w)
       (first : q ≡ side - side % (2 * w)) (is-due : due (slotsOf (programOf (g .cells))) m q w o ≡ true) (wide : 0 < w) (room : q + w < 64)
       {j : Joint} (e : j ≡ jointOf (programOf (g .cells)) (at m q .task) (at m (q + w) .task)) where
     pub join-planned : (g .state .work ≤ m .work) × (m .work ≤ workLimit) → {n : State} {plan : Moves}
@@ -114,7 +114,7 @@ module _ (g : Given) (allowed : GivenAllowed g) where
 
   -- ---- an instruction that ends its side, or forks
 
-  module _ {m : State} {p : Position} (a : At g m p) {e : Executed} (s : Stopped (g .cells) (g .words) m p e) where
+  module _ {m : State} {p : Place} (a : At g m p) {e : Executed} (s : Stopped (g .cells) (g .words) m p e) where
     abbrev k : ℕ
     k = p .slot
 
@@ -131,12 +131,16 @@ module _ (g : Given) (allowed : GivenAllowed g) where
     fits-there = own-fits (a .fits)
 
     -- one pick less to do
-    less-on : (n : State) (slot gone o : ℕ) → n .work ≡ m .work + 1 → o ≤ 6 → ahead g n (to slot gone p) o < ahead g m p 0
-    less-on n slot gone o more few = let x = goes {m = m} {p = p} (s .walks) in omega (arith, x .picks-left, x .places-left, a .reach-most)
+    less-on : (n : State) (w o : ℕ) → n .work ≡ m .work + 1 → o ≤ 6 → ahead g n (stoppedAt (m .places) w p) o < ahead g m p 0
+    less-on n w o more few =
+        let x = goes {m = m} {p = p} (s .walks) in
+        let kept = stopped-kept (m .places) w p places-few (a .ahead-most) in
+        let same : stoppedAt (m .places) w p .begun ≡ p .begun = stopped-begun (m .places) w p in
+        omega (arith, x .picks-left, x .places-left, kept .until-same, kept .ahead-most)
 
     pub end-planned : OneOf (0 ∷ 1 ∷ 2 ∷ 3 ∷ 4 ∷ []) (tagOf the-type (e .kind)) → {t : Task} → t ≡ ended (statusOf (e .kind) (e .fault)) (counted (at m k .task))
         → {n : State} → n ≡ ticked (withTaskAt m k t) → {plan : Moves} → plan ≡ endMoves k (e .kind)
-        → Planned g (ahead g m p 0) n plan (pickedBehind m (at m k .task .places) p) (at m k .task .depth) k
+        → Planned g (ahead g m p 0) n plan (stoppedAt (m .places) (at m k .task .places) p) (at m k .task .depth) k
     end-planned no-fork {t} is-ended {n} written {plan} planned =
         let step-is = ends-steps allowed-there fits-there (a .slot-below) (s .runs-there) (s .fetched) (s .stops-it) no-fork in
         let put-is = end-put allowed-there fits-there (a .slot-below) (s .runs-there) (s .fetched) is-ended in
@@ -144,7 +148,7 @@ module _ (g : Given) (allowed : GivenAllowed g) where
         record {
           plan-fits = rw planned (end-fits k (e .kind) here);
           then-turns = λ {m′} is. ends g allowed a (s .walks) (s .runs-there) _ step-is (is ∙ ap₂ moved planned written ∙ put-is) here (at m k .task .depth) refl deep;
-          less = less-on n 0 (goneBehind (p .once) (p .gone) (at m k .task .places)) (at m k .task .depth) (ap (λ (o : State). o .work) written) deep;
+          less = less-on n (at m k .task .places) (at m k .task .depth) (ap (λ (o : State). o .work) written) deep;
           grows = let more : n .work ≡ m .work + 1 = ap (λ (o : State). o .work) written in
               (omega (arith, a .all-picks), omega (arith, goes {m = m} {p = p} (s .walks) .picks-left, a .until-most));
         }
@@ -163,18 +167,18 @@ module _ (g : Given) (allowed : GivenAllowed g) where
       pub fork-planned : {under : Fork} → under ≡ recordOf (e .value)
           → {n : State} → n ≡ forkedAt allowed-there fits-there (a .slot-below) (s .runs-there) (s .fetched) under
           → {plan : Moves} → plan ≡ forkMoves k (k + half) → (side : ℕ) → side < 64
-          → Planned g (ahead g m p 0) n plan (pickedFork m half (at m k .task .places) p) 0 side
+          → Planned g (ahead g m p 0) n plan (stoppedAt (m .places) half p) 0 side
       fork-planned {under} is-under {n} written {plan} planned side below =
           let r = fork-room in
           record {
             plan-fits = rw planned (fork-fits k (k + half) (omega (arith, r .0)) (omega (arith, r .1, places-few)));
             then-turns = λ {m′} is. none-due g allowed 0 side refl below (on m′ is);
-            less = less-on n 0 (goneBehind (p .once) (p .gone) (at m k .task .places)) 0 (ap (λ (o : State). o .work) written) (omega arith);
+            less = less-on n half 0 (ap (λ (o : State). o .work) written) (omega arith);
             grows = let more : n .work ≡ m .work + 1 = ap (λ (o : State). o .work) written in
                 (omega (arith, a .all-picks), omega (arith, goes {m = m} {p = p} (s .walks) .picks-left, a .until-most));
           }
         where
-          on : (m′ : State) → m′ ≡ moved plan n → At g m′ (pickedFork m half (at m k .task .places) p)
+          on : (m′ : State) → m′ ≡ moved plan n → At g m′ (stoppedAt (m .places) half p)
           on m′ is =
               let issued-is = is ∙ ap₂ moved planned written
               ∙ forks-issued allowed-there fits-there (a .slot-below) (s .runs-there) (s .fetched) kind-is is-under in
@@ -189,28 +193,28 @@ module _ (g : Given) (allowed : GivenAllowed g) where
 
 -- ---- the next stretch, or the end
 
-module _ (g : Given) {m : State} {p : Position} (a : At g m p) {s : Stretch}
+module _ (g : Given) {m : State} {p : Place} (a : At g m p) {s : Stretch}
     (c : Comes (result g) m (a .picks) (p .begun) (mostStretches (g .course) (g .order)) (roundsOf (g .course)) (λ q. At g m q) s) where
-  pub next-at : s .over ≡ false → At g m (firstOf s)
+  pub next-at : s .over ≡ false → At g m (s .place)
   next-at o = go c
     where
-      go : Comes (result g) m (a .picks) (p .begun) (mostStretches (g .course) (g .order)) (roundsOf (g .course)) (λ q. At g m q) s → At g m (firstOf s)
+      go : Comes (result g) m (a .picks) (p .begun) (mostStretches (g .course) (g .order)) (roundsOf (g .course)) (λ q. At g m q) s → At g m (s .place)
       go (comes-none over b u r e) = clash over o
       go (comes-one over f x) = x
 
-  pub next-ends : s .over ≡ true → result g ≡ record { state = m; picks = m .work - g .state .work; rounds = roundsOf (g .course) (s .begun) }
+  pub next-ends : s .over ≡ true → result g ≡ record { state = m; picks = m .work - g .state .work; rounds = roundsOf (g .course) (s .place .begun) }
   next-ends o = go c
     where
       go : Comes (result g) m (a .picks) (p .begun) (mostStretches (g .course) (g .order)) (roundsOf (g .course)) (λ q. At g m q) s
-          → result g ≡ record { state = m; picks = m .work - g .state .work; rounds = roundsOf (g .course) (s .begun) }
-      go (comes-none over b u r e) = e ∙ ap (λ (n : ℕ). record { state = m; picks = n; rounds = roundsOf (g .course) (s .begun) }) (sym (rise-is g a))
+          → result g ≡ record { state = m; picks = m .work - g .state .work; rounds = roundsOf (g .course) (s .place .begun) }
+      go (comes-none over b u r e) = e ∙ ap (λ (n : ℕ). record { state = m; picks = n; rounds = roundsOf (g .course) (s .place .begun) }) (sym (rise-is g a))
       go (comes-one over f x) = clash o over
 
-  pub next-less : ahead g m (firstOf s) 0 + cond (s .over) 0 1 < ahead g m p 0 + 1
+  pub next-less : ahead g m (s .place) 0 + cond (s .over) 0 1 < ahead g m p 0 + 1
   next-less = go c
     where
       go : Comes (result g) m (a .picks) (p .begun) (mostStretches (g .course) (g .order)) (roundsOf (g .course)) (λ q. At g m q) s
-          → ahead g m (firstOf s) 0 + cond (s .over) 0 1 < ahead g m p 0 + 1
+          → ahead g m (s .place) 0 + cond (s .over) 0 1 < ahead g m p 0 + 1
       go (comes-none over b u r e) = let z : _≡_ {A = ℕ} (cond (s .over) 0 1) 0 = rw over in omega arith
       go (comes-one over f x) =
-          let z : _≡_ {A = ℕ} (cond (s .over) 0 1) 1 = rw over in omega (arith, f .begun-more, f .begun-most, f .reach-most, f .until-most)
+          let z : _≡_ {A = ℕ} (cond (s .over) 0 1) 1 = rw over in omega (arith, f .begun-more, f .begun-most, f .ahead-most, f .until-most)

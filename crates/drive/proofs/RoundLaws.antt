@@ -151,10 +151,16 @@ module _ (cells : List ℕ) (words : List ℤ) (lanes budget : ℕ) where
             others = ap (λ n. n / 128) row ∙ others-packed k ks (omega arith);
           }
 
-  module _ {whole : Driven} {m : State} {p : Place} {picks : ℕ} (x : InRound whole m p picks) (few : m .places ≤ 64) where
-    pub round-below : 0 < p .ahead → p .slot < m .places
-    round-below some = heads m p (x .lanes-left) (x .from) few (x .in-turn some) .below
+  -- the loop goes on at a slot of the state, and no round is begun that the budget has not
+  pub record Lands (whole : Driven) (m : State) (p : Place) (picks : ℕ) : Type 0 where
+    pub slot-below : p .slot < m .places
+    pub begun-most : p .begun ≤ budget
+    pub stands : InRound whole m p picks
 
+  round-below : {whole : Driven} {m : State} {p : Place} {picks : ℕ} → InRound whole m p picks → m .places ≤ 64 → 0 < p .ahead → p .slot < m .places
+  round-below {m = m} {p = p} x few some = heads m p (x .lanes-left) (x .from) few (x .in-turn some) .below
+
+  module _ {whole : Driven} {m : State} {p : Place} {picks : ℕ} (x : InRound whole m p picks) (few : m .places ≤ 64) where
     -- a task runs at the slot
     pub round-runs : Walks m p → running (at m (p .slot)) ≡ true
     round-runs walks = heads m p (x .lanes-left) (x .from) few (x .in-turn (goes {m = m} {p = p} walks .places-left)) .found .runs
@@ -233,11 +239,25 @@ module _ (cells : List ℕ) (words : List ℤ) (lanes budget : ℕ) where
           same = same-on ∙ ap (λ ks. leavesFrom m′ ks (p .begun) (picks + 1)) (sym left-there);
         }
 
+      few′ : m′ .places ≤ 64
+      few′ = omega (arith, same-places, few)
+
+      next-lands : (last : ℕ) (most : last ≤ budget) (again : p .begun < last → p .row ≡ packed (roundOf lanes m′)) → p .begun ≤ budget → 0 < p .rest / 128
+          → Lands whole m′ (taking (p .rest / 128) (p .begun) last p) (picks + 1)
+      next-lands last most again begun some =
+          let y = to-next last most again some in
+          record { slot-below = round-below y few′ (goes {m = m} {p = p} walks .places-left); begun-most = begun; stands = y }
+
+      none-lands : (last : ℕ) (most : last ≤ budget) (again : p .begun < last → p .row ≡ packed (roundOf lanes m′)) → p .begun ≤ budget → p .rest / 128 ≤ 0
+          → Lands whole m′ (record { slot = k; ahead = 0; until = p .until; begun = p .begun; row = p .row; rest = p .rest; last = last }) (picks + 1)
+      none-lands last most again begun none =
+          record { slot-below = omega (arith, head .below, same-places); begun-most = begun; stands = to-none last most again none }
+
       -- the task has forked or ended its side: later rounds take other tasks
-      pub round-stopped : InRound whole m′ (cond (ltb 0 (p .rest / 128)) (taking (p .rest / 128) (p .begun) 0 p) (leftOf k p)) (picks + 1)
-      round-stopped = by-below 0 (p .rest / 128)
-          (λ h. rw (lt-ltb 0 (p .rest / 128) h) (to-next 0 (omega arith) (λ z. absurd (omega arith)) h))
-          (λ h. rw (le-ltb 0 (p .rest / 128) h) (to-none 0 (omega arith) (λ z. absurd (omega arith)) h))
+      pub round-stopped : p .begun ≤ budget → Lands whole m′ (cond (ltb 0 (p .rest / 128)) (taking (p .rest / 128) (p .begun) 0 p) (leftOf k p)) (picks + 1)
+      round-stopped begun = by-below 0 (p .rest / 128)
+          (λ h. rw (lt-ltb 0 (p .rest / 128) h) (next-lands 0 (omega arith) (λ z. absurd (omega arith)) begun h))
+          (λ h. rw (le-ltb 0 (p .rest / 128) h) (none-lands 0 (omega arith) (λ z. absurd (omega arith)) begun h))
 
       -- it runs on, and all others as before
       module _ (fits′ : Fits cells interval places m′) (all-same : (i : ℕ) → running (at m′ i) ≡ running (at m i)) where
@@ -246,15 +266,11 @@ module _ (cells : List ℕ) (words : List ℤ) (lanes budget : ℕ) where
             ∙ ap packed (taken-same m m′ lanes (m .places) 0 (λ i z. all-same i) ∙ ap (λ n. taken m′ lanes n 0) (sym same-places))
 
         -- the next round begins at the row's first slot
-        to-first : p .rest / 128 ≤ 0 → goesAgain (m′ .work) p ≡ true → InRound whole m′ (taking (p .row) (p .begun + 1) (p .last) p) (picks + 1)
-        to-first none again =
-            let b = both-true (ltb (p .begun) (p .last)) (ltb (m′ .work) (p .until)) again in
-            let before = ltb-true (p .begun) (p .last) (b .0) in
-            let room′ : m′ .work < workLimit = omega (arith, ltb-true (m′ .work) (p .until) (b .1), x .to-limit) in
+        to-first : p .rest / 128 ≤ 0 → p .begun < p .last → m′ .work < workLimit → InRound whole m′ (taking (p .row) (p .begun + 1) (p .last) p) (picks + 1)
+        to-first none before room′ =
             let below′ : k < m′ .places = omega (arith, head .below, same-places) in
             let goes′ = stops-not m′ (running-open allowed words m′ fits′ k below′ (all-same k ∙ runs-there)) room′ in
             let z : m′ .places - 0 ≡ m′ .places = omega arith in
-            let row-all : p .row ≡ packed (slotsLeft m′ lanes 0) = row-still before ∙ ap (λ n. packed (taken m′ lanes n 0)) (sym z) in
             record {
               some-lanes = x .some-lanes;
               has-row = x .has-row;
@@ -263,24 +279,33 @@ module _ (cells : List ℕ) (words : List ℤ) (lanes budget : ℕ) where
               row-again = λ h. row-still before;
               from = 0;
               lanes-left = lanes;
-              in-turn = λ h. record { rest-is = row-all; some-rest = by-below 0 (p .row) (λ h. h) (λ h. absurd (x .has-row (omega arith))); slot-is = refl };
+              in-turn = λ h. record {
+                rest-is = row-still before ∙ ap (λ n. packed (taken m′ lanes n 0)) (sym z);
+                some-rest = by-below 0 (p .row) (λ h. h) (λ h. absurd (x .has-row (omega arith)));
+                slot-is = refl;
+              };
               none-left = λ h. absurd (omega (arith, goes {m = m} {p = p} walks .places-left));
               same = same-on ∙ ap (λ ks. leavesFrom m′ ks (p .begun) (picks + 1)) (packed-none (head .rest) (omega (arith, head .others)))
                   ∙ ap leftRounds (begins-round (x .some-lanes) m′ allowed fits′ goes′ room′ (p .begun) (picks + 1) (omega (arith, before, x .last-most)))
                   ∙ ap (λ n. leavesFrom m′ (taken m′ lanes n 0) (p .begun + 1) (picks + 1)) (sym z);
             }
 
-        pub round-on : InRound whole m′ (roundOn (m′ .work) p) (picks + 1)
-        round-on = by-below 0 (p .rest / 128)
-            (λ h. rw (lt-ltb 0 (p .rest / 128) h) (to-next (p .last) (x .last-most) row-still h))
-            (λ h. rw (le-ltb 0 (p .rest / 128) h) (by-test (goesAgain (m′ .work) p)
-            (λ a. rw a (to-first h a)) (λ a. rw a (to-none (p .last) (x .last-most) row-still h))))
+        first-lands : p .rest / 128 ≤ 0 → goesAgain (m′ .work) p ≡ true → Lands whole m′ (taking (p .row) (p .begun + 1) (p .last) p) (picks + 1)
+        first-lands none again =
+            let b = both-true (ltb (p .begun) (p .last)) (ltb (m′ .work) (p .until)) again in
+            let before = ltb-true (p .begun) (p .last) (b .0) in
+            let y = to-first none before (omega (arith, ltb-true (m′ .work) (p .until) (b .1), x .to-limit)) in
+            record {
+              slot-below = round-below y few′ (goes {m = m} {p = p} walks .places-left);
+              begun-most = omega (arith, before, x .last-most);
+              stands = y;
+            }
 
-        -- another round is begun only where the budget has one
-        pub round-begun : roundOn (m′ .work) p .begun ≤ budget ⊎ (roundOn (m′ .work) p .begun ≡ p .begun)
-        round-begun = by-test (ltb 0 (p .rest / 128)) (λ a. rw a (inr refl)) (λ a. rw a (by-test (goesAgain (m′ .work) p)
-            (λ b. rw b (inl (let t = both-true (ltb (p .begun) (p .last)) (ltb (m′ .work) (p .until)) b in omega (arith, ltb-true (p .begun) (p .last) (t .0), x .last-most))))
-            (λ b. rw b (inr refl))))
+        pub round-on : p .begun ≤ budget → Lands whole m′ (roundOn (m′ .work) p) (picks + 1)
+        round-on begun = by-below 0 (p .rest / 128)
+            (λ h. rw (lt-ltb 0 (p .rest / 128) h) (next-lands (p .last) (x .last-most) row-still begun h))
+            (λ h. rw (le-ltb 0 (p .rest / 128) h) (by-test (goesAgain (m′ .work) p)
+            (λ a. rw a (first-lands h a)) (λ a. rw a (none-lands (p .last) (x .last-most) row-still begun h))))
 
     -- where the walk does not go on, none is left of the round, or no room for a pick
     pub round-ends : walksOn false (m .work) p ≡ false → whole ≡ leavesFrom m [] (p .begun) picks

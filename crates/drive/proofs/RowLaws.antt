@@ -6,7 +6,6 @@ use Prim.Native.Nat.{ℕ, zero, suc, _+_, _-_, _*_, _/_, _%_, _^_, _<_, _≤_}
 use native.Mathlib.Omega.{arith}
 use native.Mathlib.Nat.{mul-add, mul-assoc, mul-le-mul-left}
 use lib.Dec.{ltb}
-use lib.Pow.{pow-pos}
 use borrow.Author.Tests.{ltb-true, lt-ltb, le-ltb}
 use Rattle.facts.proofs.Tests.{both-true, clash, by-below}
 use Rattle.task.specs.Frames.{running}
@@ -49,12 +48,16 @@ pub record Gathers (m : State) (lanes look : ℕ) (row : Row) : Type 0 where
   pub small : row .slots < row .unit
   pub room : row .unit * 128 ^ row .lanes ≤ 72057594037927936
 
+pow-some : (n : ℕ) → 1 ≤ 128 ^ n
+pow-some zero = omega arith
+pow-some (suc n) = omega (arith, pow-some n)
+
 eight : (lanes : ℕ) → lanes ≤ 8 → 128 ^ lanes ≤ 72057594037927936
 eight lanes h = pow-most lanes 8 h
   where
     -- 128 to the power of n, however many factors are left out
     pow-most : (l n : ℕ) → l ≤ n → 128 ^ l ≤ 128 ^ n
-    pow-most zero n h = omega (arith, pow-pos n)
+    pow-most zero n h = omega (arith, pow-some n)
     pow-most (suc l) zero h = absurd (omega arith)
     pow-most (suc l) (suc n) h = omega (arith, pow-most l n (omega arith))
 
@@ -82,7 +85,7 @@ module _ {m : State} {lanes look : ℕ} {row : Row} (g : Gathers m lanes look ro
   unit-most some =
       let l : row .lanes ≡ suc (row .lanes - 1) = omega arith in
       let up : 128 ^ row .lanes ≡ 128 ^ suc (row .lanes - 1) = ap (λ n. 128 ^ n) l in
-      let least : 128 ≤ 128 ^ row .lanes = omega (arith, pow-pos (row .lanes - 1)) in
+      let least : 128 ≤ 128 ^ row .lanes = omega (arith, pow-some (row .lanes - 1)) in
       omega (arith, g .room, mul-le-mul-left (row .unit) least)
 
   -- nothing runs in the places of the slot

@@ -86,7 +86,8 @@ pub taken-found : (m : State) (lanes n from k : ℕ) (ks : List ℕ) → taken m
 unfolding taken
 taken-found m zero n from k ks e = none-first e
 taken-found m (suc lanes) zero from k ks e = none-first e
-taken-found m (suc lanes) (suc n) from k ks e = by-test (running (at m from)) (λ r. here r (rw (r, taken) at e)) (λ r. later r (rw (r, taken) at e))
+taken-found m (suc lanes) (suc n) from k ks e = by-test (running (at m from)) (λ r. here r (rw (r, taken) at e)) 
+    (λ r. later (taken-found m (suc lanes) n (from + 1) k ks (rw (r, taken) at e)))
   where
     here : running (at m from) ≡ true → from ∷ taken m lanes n (from + 1) ≡ k ∷ ks → Found m (suc lanes) (suc n) from k ks
     here r h =
@@ -102,9 +103,8 @@ taken-found m (suc lanes) (suc n) from k ks e = by-test (running (at m from)) (�
               ∙ ap (λ z. taken m (suc lanes - 1) z (k + 1)) (sym j);
         }
 
-    later : running (at m from) ≡ false → taken m (suc lanes) n (from + 1) ≡ k ∷ ks → Found m (suc lanes) (suc n) from k ks
-    later r h =
-        let f = taken-found m (suc lanes) n (from + 1) k ks h in
+    later : Found m (suc lanes) n (from + 1) k ks → Found m (suc lanes) (suc n) from k ks
+    later f =
         let j : from + 1 + n - (k + 1) ≡ from + suc n - (k + 1) = omega arith in
         record {
           some-lanes = omega arith;
