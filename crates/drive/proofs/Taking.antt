@@ -86,7 +86,7 @@ pub taken-found : (m : State) (lanes n from k : ℕ) (ks : List ℕ) → taken m
 unfolding taken
 taken-found m zero n from k ks e = none-first e
 taken-found m (suc lanes) zero from k ks e = none-first e
-taken-found m (suc lanes) (suc n) from k ks e = by-test (running (at m from)) (λ r. here r (rw (r, taken) at e)) 
+taken-found m (suc lanes) (suc n) from k ks e = by-test (running (at m from)) (λ r. here r (rw (r, taken) at e))
     (λ r. later (taken-found m (suc lanes) n (from + 1) k ks (rw (r, taken) at e)))
   where
     here : running (at m from) ≡ true → from ∷ taken m lanes n (from + 1) ≡ k ∷ ks → Found m (suc lanes) (suc n) from k ks

@@ -7,7 +7,7 @@ use mathlib.Core.List.{List}
 use Prim.Native.Nat.{ℕ, _+_, _-_, _*_, _/_, _%_, _<_, _≤_}
 use lib.Dec.{ltb}
 use lib.ListN.{length, getD, set, length-set}
-use lib.Seq.{getD-set-other}
+use lib.Seq.{getD-set-same, getD-set-other}
 use borrow.Author.Tests.{ltb-true, lt-ltb, le-ltb, not-true, not-false}
 use borrow.Author.Needs.{needs}
 use native.Mathlib.Omega.{arith}
@@ -31,7 +31,11 @@ use Rattle.turns.specs.declared.course.Stretch.{Stretch}
 use Rattle.drive.specs.Slots.{at, Sized, ticked, slotsOf}
 use Rattle.drive.specs.Issue.{issued}
 use Rattle.drive.specs.Ending.{isEnd, jobEnded}
-use Rattle.turns.specs.Walk.{slotAfter, afterFork, width, nextStretch, roundsOf}
+use Rattle.turns.specs.declared.course.Place.{Place}
+use Rattle.turns.specs.declared.rows.Row.{Row}
+use Rattle.turns.specs.Rows.{withSlot, looksOn}
+use Rattle.turns.specs.Stretches.{nowhere, nextStretch, lanesOf, roundsOf}
+use Rattle.turns.specs.Walk.{goneBy, pickedOn, stoppedAt, width}
 use Rattle.turns.specs.Moving.{forkMoves}
 use Rattle.drive.proofs.Copying.{filling}
 use Rattle.drive.proofs.InPlace.{withTaskAt, storedAt}
@@ -40,69 +44,68 @@ use Rattle.drive.proofs.Issuing.{Fetched, stores-issued, goes-issued}
 use Rattle.drive.proofs.Moving.{filling-none, filling-all, zero-next, copy-next, placed, placed-none, placed-next}
 use Rattle.drive.proofs.PlanLaws.{pairedAt, clearedAt, copiedAt, moved}
 use Rattle.drive.proofs.Planning.{ahead, Planned, then-less, then-grows, less-with, planned-below, planned-as, join-planned, end-planned, fork-room, fork-planned, next-at, next-ends, next-less}
-use Rattle.drive.proofs.Positions.{Position, to, Walks, Goes, goes, Comes}
+use Rattle.drive.proofs.Places.{Walks, Goes, goes, Kept, picked-kept, Comes}
+use Rattle.drive.proofs.RowLaws.{Gathers, Looks, looks, unit-most, gather-begins, gather-passes, gather-takes, gather-ends}
 use Rattle.drive.proofs.Readiness.{its-instruction, s-small, r-small, label-small, left-read, right-read, ready}
 use Rattle.drive.proofs.SettleLaws.{sides-decide, without-room}
 use Rattle.drive.proofs.SettleSafety.{due-joinable, fits-safe}
 use Rattle.drive.proofs.ShapeLaws.{shape-allowed, shape-fits}
 use Rattle.drive.proofs.Owning.{own-allowed, own-fits, places-most}
-use Rattle.drive.proofs.Covering.{width-inside, width-some}
+use Rattle.drive.proofs.Covering.{width-inside, width-some, width-others, width-quiet}
 use Rattle.drive.proofs.Turning.{Turns, none-due, at-head, stops, Leads, leads-by, leads-on, Stopped}
-use Rattle.drive.proofs.Walking.{Given, given, GivenAllowed, result, mostStretches, At, at-first, tile, gone-by, picked-on, comes-next, rise-is}
+use Rattle.drive.proofs.Walking.{Given, given, GivenAllowed, result, mostStretches, At, at-first, lanes-few, tile, comes-next}
 use Rattle.drive.proofs.picks.drive.Statement.{statement}
 use Rattle.drive.proofs.picks.drive.Tie as tie
 
-abbrev place : ℕ → ℕ → ℕ → ℕ → ℕ → Bool → Position
-place slot gone until reach begun once = record { slot = slot; gone = gone; until = until; reach = reach; begun = begun; once = once }
-
--- ---- invariants and measures: the walk (2), pairs (3), registers cleared (4) and copied (5), and the turns
+-- ---- invariants and measures: the walk (2), the looks for a row (3), pairs (4), registers cleared (5) and copied (6), and the turns
 
 abbrev Inv-loop2 : tie.InvT-loop2
-Inv-loop2 cells words order course m₀ first begun until reach k₀ gone₀ once due side over stopped₀ e₀ m k gone stopped e =
-    Leads cells words order course m₀ (place k₀ gone₀ until reach begun once) m (place k gone until reach begun once)
-    × (stopped ≡ true → Stopped cells words m (place k gone until reach begun once) e)
+Inv-loop2 cells words order course m₀ first p₀ due side over stopped₀ e₀ m p stopped e =
+    Leads cells words order course m₀ p₀ m p × (stopped ≡ true → Stopped cells words m p e)
 
 abbrev μ-loop2 : tie.MeasureT-loop2
-μ-loop2 cells words order course m₀ first begun until reach k₀ gone₀ once due side over stopped₀ e₀ m k gone stopped e =
-    2 * (65 * (until - m .work) + (reach - gone)) + cond stopped 0 1
+μ-loop2 cells words order course m₀ first p₀ due side over stopped₀ e₀ m p stopped e = 2 * (65 * (p .until - m .work) + p .ahead) + cond stopped 0 1
 
 abbrev Inv-loop3 : tie.InvT-loop3
-Inv-loop3 cells words order course m₀ first begun until reach k gone once due side over plan from to pairs₀ packed₀ m pairs packed =
+Inv-loop3 cells words order course m first p due side over stopped ended row₀ look₀ row look = Gathers m (lanesOf course) look row × (look ≤ m .places)
+
+abbrev μ-loop3 : tie.MeasureT-loop3
+μ-loop3 cells words order course m first p due side over stopped ended row₀ look₀ row look = m .places - look
+
+abbrev Inv-loop4 : tie.InvT-loop4
+Inv-loop4 cells words order course m₀ first p due side over plan from to pairs₀ packed₀ m pairs packed =
     (pairs ≤ pairs₀) × (l : List Register) × (length l ≡ 16) × (m ≡ placed m₀ to l)
     × (copied (at m₀ from .registers) pairs₀ packed₀ (at m₀ to .registers) ≡ copied (at m₀ from .registers) pairs packed l)
 
-abbrev μ-loop3 : tie.MeasureT-loop3
-μ-loop3 cells words order course m₀ first begun until reach k gone once due side over plan from to pairs₀ packed₀ m pairs packed = pairs
-
-abbrev Inv-loop4 : tie.InvT-loop4
-Inv-loop4 cells words order course m₀ first begun until reach k gone once due side over plan from to pairs packed i₀ m i =
-    (i ≤ 16) × (m ≡ filling m₀ from zeros i)
-
 abbrev μ-loop4 : tie.MeasureT-loop4
-μ-loop4 cells words order course m₀ first begun until reach k gone once due side over plan from to pairs packed i₀ m i = 16 - i
+μ-loop4 cells words order course m₀ first p due side over plan from to pairs₀ packed₀ m pairs packed = pairs
 
 abbrev Inv-loop5 : tie.InvT-loop5
-Inv-loop5 cells words order course m₀ first begun until reach k gone once due side over from to pairs packed i₀ m i =
-    (i ≤ 16) × (m ≡ filling m₀ to (at m₀ from .registers) i)
+Inv-loop5 cells words order course m₀ first p due side over plan from to pairs packed i₀ m i = (i ≤ 16) × (m ≡ filling m₀ from zeros i)
 
 abbrev μ-loop5 : tie.MeasureT-loop5
-μ-loop5 cells words order course m₀ first begun until reach k gone once due side over from to pairs packed i₀ m i = 16 - i
+μ-loop5 cells words order course m₀ first p due side over plan from to pairs packed i₀ m i = 16 - i
+
+abbrev Inv-loop6 : tie.InvT-loop6
+Inv-loop6 cells words order course m₀ first p due side over from to pairs packed i₀ m i = (i ≤ 16) × (m ≡ filling m₀ to (at m₀ from .registers) i)
+
+abbrev μ-loop6 : tie.MeasureT-loop6
+μ-loop6 cells words order course m₀ first p due side over from to pairs packed i₀ m i = 16 - i
 
 abbrev Inv-loop : tie.InvT-loop
-Inv-loop cells words order course m₀ first begun₀ until₀ reach₀ k₀ gone₀ once₀ due₀ side₀ over₀ m begun until reach k gone once due side over =
-    (over ≡ false → Turns (given cells words m₀ order course) m (place k gone until reach begun once) due side)
-    × (over ≡ true → result (given cells words m₀ order course) ≡ record { state = m; picks = m .work - m₀ .work; rounds = roundsOf course begun })
+Inv-loop cells words order course m₀ first p₀ due₀ side₀ over₀ m p due side over =
+    (over ≡ false → Turns (given cells words m₀ order course) m p due side)
+    × (over ≡ true → result (given cells words m₀ order course) ≡ record { state = m; picks = m .work - m₀ .work; rounds = roundsOf course (p .begun) })
     × (m₀ .work ≤ m .work)
     × (m .work ≤ workLimit)
 
 abbrev μ-loop : tie.MeasureT-loop
-μ-loop cells words order course m₀ first begun₀ until₀ reach₀ k₀ gone₀ once₀ due₀ side₀ over₀ m begun until reach k gone once due side over =
-    ahead (given cells words m₀ order course) m (place k gone until reach begun once) due + cond over 0 1
+μ-loop cells words order course m₀ first p₀ due₀ side₀ over₀ m p due side over = ahead (given cells words m₀ order course) m p due + cond over 0 1
 
 -- what a place of the code, or a fact that it needs, is with these
 abbrev Here : (tie.InvT-loop2 → tie.MeasureT-loop2 → tie.InvT-loop3 → tie.MeasureT-loop3 → tie.InvT-loop4 → tie.MeasureT-loop4 → tie.InvT-loop5
-    → tie.MeasureT-loop5 → tie.InvT-loop → tie.MeasureT-loop → Type 0) → Type 0
-Here need = need Inv-loop2 μ-loop2 Inv-loop3 μ-loop3 Inv-loop4 μ-loop4 Inv-loop5 μ-loop5 Inv-loop μ-loop
+    → tie.MeasureT-loop5 → tie.InvT-loop6 → tie.MeasureT-loop6 → tie.InvT-loop → tie.MeasureT-loop → Type 0) → Type 0
+Here need = need Inv-loop2 μ-loop2 Inv-loop3 μ-loop3 Inv-loop4 μ-loop4 Inv-loop5 μ-loop5 Inv-loop6 μ-loop6 Inv-loop μ-loop
 
 -- ---- the loop's head
 
@@ -110,7 +113,7 @@ abbrev Head : Type 0
 Head = Here tie.At-loop
 
 abbrev start-of : Head → Here tie.Start
-start-of c = c .before .before .before
+start-of c = c .before .before .before .before
 
 abbrev given-of : Head → Given
 given-of c =
@@ -126,8 +129,8 @@ Turn = Here tie.After-no-moves
 abbrev head-of : Turn → Head
 head-of c = c .before .before
 
-abbrev place-of : Turn → Position
-place-of c = let l = head-of c .loop in place (l .k) (l .gone) (l .until) (l .reach) (l .begun) (l .once)
+abbrev place-of : Turn → Place
+place-of c = head-of c .loop .p
 
 going-on : (c : Turn) → head-of c .loop .over ≡ false
 going-on c = not-true (head-of c .loop .over) (c .before .loop-test .taken)
@@ -184,8 +187,8 @@ Walk = Here tie.At-loop2
 abbrev turn-w : Walk → Turn
 turn-w c = c .before .before .before
 
-abbrev place-w : Walk → Position
-place-w c = let l = head-of (turn-w c) .loop in place (c .loop2 .k) (c .loop2 .gone) (l .until) (l .reach) (l .begun) (l .once)
+abbrev place-w : Walk → Place
+place-w c = c .loop2 .p
 
 none-due-w : (c : Walk) → head-of (turn-w c) .loop .due ≡ 0
 none-due-w c = omega (arith, c .before .before .if1 .left)
@@ -201,13 +204,13 @@ few-places c =
     let h = head-of (turn-w c) in
     omega (arith, at-w c .fits .its-places, places-most (start-of h .args .state .places) (allowed-of h .places-allowed))
 
-slot-inside : (c : Walk) → c .loop2 .k < 64
+slot-inside : (c : Walk) → c .loop2 .p .slot < 64
 slot-inside c = omega (arith, at-w c .slot-below, few-places c)
 
 -- its places at most
-width-few : (c : Walk) → width (at (c .loop2 .m) (c .loop2 .k) .task .places) ≤ 64
+width-few : (c : Walk) → width (at (c .loop2 .m) (c .loop2 .p .slot) .task .places) ≤ 64
 width-few c =
-    let w = width-inside (allowed-of (head-of (turn-w c))) (c .loop2 .m) (at-w c .fits) (c .loop2 .k) (at-w c .slot-below) in
+    let w = width-inside (allowed-of (head-of (turn-w c))) (c .loop2 .m) (at-w c .fits) (c .loop2 .p .slot) (at-w c .slot-below) in
     omega (arith, few-places c)
 
 -- ---- a look
@@ -237,14 +240,14 @@ look-of c = c .before .before .before
 abbrev walk-r : Runs → Walk
 walk-r c = walk-of (look-of c)
 
-runs-at : (c : Runs) → running (at (walk-r c .loop2 .m) (walk-r c .loop2 .k)) ≡ true
+runs-at : (c : Runs) → running (at (walk-r c .loop2 .m) (walk-r c .loop2 .p .slot)) ≡ true
 runs-at c = sym (c .before .is-running .ensures) ∙ c .if5 .taken
 
 room-at : (c : Runs) → walk-r c .loop2 .m .work < workLimit
 room-at c = omega (arith, goes-at (look-of c) .picks-left, at-w (walk-r c) .until-most)
 
-span-at : (c : Runs) → at (walk-r c .loop2 .m) (walk-r c .loop2 .k) .task .span < workLimit
-span-at c = omega (arith, room-at c, at-w (walk-r c) .fits .counts (walk-r c .loop2 .k) .span-most)
+span-at : (c : Runs) → at (walk-r c .loop2 .m) (walk-r c .loop2 .p .slot) .task .span < workLimit
+span-at c = omega (arith, room-at c, at-w (walk-r c) .fits .counts (walk-r c .loop2 .p .slot) .span-most)
 
 -- its instruction, carried out on small values
 abbrev Done : Type 0
@@ -260,18 +263,18 @@ abbrev x-of : Done → Instruction
 x-of c = c .before .before .before .before .before .instruction-of .result
 
 abbrev s-of : Done → Value
-s-of c = getD (walk-d c .loop2 .m .bank) (16 * walk-d c .loop2 .k + x-of c .s) zeroRegister .value
+s-of c = getD (walk-d c .loop2 .m .bank) (16 * walk-d c .loop2 .p .slot + x-of c .s) zeroRegister .value
 
 fetched-at : (c : Done) → let w = walk-d c in
     let g = given-of (head-of (turn-w w)) in
-    Fetched (g .cells) (g .words) (w .loop2 .m) (w .loop2 .k) (x-of c) (s-of c) (c .before .operand .result) (c .execute .result)
+    Fetched (g .cells) (g .words) (w .loop2 .m) (w .loop2 .p .slot) (x-of c) (s-of c) (c .before .operand .result) (c .execute .result)
 fetched-at c =
     let w = walk-d c in
     let h = head-of (turn-w w) in
     let on = runs-at (runs-of c) in
     let p = c .before .before .before .before .before .instruction-of .ensures in
     let words = given-of h .words in
-    let below : w .loop2 .k < start-of h .args .state .places = omega (arith, at-w w .slot-below, at-w w .fits .its-places) in
+    let below : w .loop2 .p .slot < start-of h .args .state .places = omega (arith, at-w w .slot-below, at-w w .fits .its-places) in
     record {
       instruction = p;
       left-value = left-read (allowed-of h) words (at-w w .fits) below on (x-of c) p;
@@ -281,7 +284,7 @@ fetched-at c =
 
 -- ---- registers of the task
 
-below-g : (c : Walk) → c .loop2 .k < start-of (head-of (turn-w c)) .args .state .places
+below-g : (c : Walk) → c .loop2 .p .slot < start-of (head-of (turn-w c)) .args .state .places
 below-g c = omega (arith, at-w c .slot-below, at-w c .fits .its-places)
 
 abbrev Fetching : Type 0
@@ -317,14 +320,14 @@ walk-n c = walk-d (done-r c)
 abbrev ran-state : Ran → State
 ran-state c = ticked (c .if7 .m)
 
-ran-record : (c : Ran) → c .before .before .ran-on .result ≡ after (done-r c .execute .result) (at (walk-n c .loop2 .m) (walk-n c .loop2 .k) .task)
+ran-record : (c : Ran) → c .before .before .ran-on .result ≡ after (done-r c .execute .result) (at (walk-n c .loop2 .m) (walk-n c .loop2 .p .slot) .task)
 ran-record c = c .before .before .ran-on .ensures
 
-ran-issued : (c : Ran) → let g = given-of (head-of (turn-w (walk-n c))) in ran-state c ≡ issued (g .cells) (g .words) (walk-n c .loop2 .m) (walk-n c .loop2 .k)
+ran-issued : (c : Ran) → let g = given-of (head-of (turn-w (walk-n c))) in ran-state c ≡ issued (g .cells) (g .words) (walk-n c .loop2 .m) (walk-n c .loop2 .p .slot)
 ran-issued c =
     let w = walk-n c in
     let m = w .loop2 .m in
-    let k = w .loop2 .k in
+    let k = w .loop2 .p .slot in
     let allowed = own-allowed (at-w w .fits) (allowed-of (head-of (turn-w w))) in
     let fits = own-fits (at-w w .fits) in
     let on = runs-at (runs-of (done-r c)) in
@@ -342,7 +345,7 @@ ran-issued c =
           ∙ goes-issued allowed fits (at-w w .slot-below) on got runs-on stores-not
     ]
 
-ran-tasks : (c : Ran) → c .if7 .m .tasks ≡ set (walk-n c .loop2 .m .tasks) (walk-n c .loop2 .k) (c .before .before .ran-on .result)
+ran-tasks : (c : Ran) → c .if7 .m .tasks ≡ set (walk-n c .loop2 .m .tasks) (walk-n c .loop2 .p .slot) (c .before .before .ran-on .result)
 ran-tasks c = elim (c .if7 .came) [ inl t ↦ ap (λ (n : State). n .tasks) (t .2) | inr t ↦ ap (λ (n : State). n .tasks) (t .1) ]
 
 ran-work : (c : Ran) → c .if7 .m .work ≡ walk-n c .loop2 .m .work
@@ -351,59 +354,130 @@ ran-work c = elim (c .if7 .came) [ inl t ↦ ap (λ (n : State). n .work) (t .2)
 ran-places : (c : Ran) → c .if7 .m .places ≡ walk-n c .loop2 .m .places
 ran-places c = elim (c .if7 .came) [ inl t ↦ ap (λ (n : State). n .places) (t .2) | inr t ↦ ap (λ (n : State). n .places) (t .1) ]
 
--- the slot looked at next
-ran-next : (c : Here tie.After-slot-after) → let w = walk-n (c .before) in
-    c .slot-after .result ≡ slotAfter (w .loop2 .m .places) (place-w w .reach) (w .loop2 .gone) (w .loop2 .k) (at (w .loop2 .m) (w .loop2 .k) .task .places)
-ran-next c =
-    let w = walk-n (c .before) in
-    c .slot-after .ensures
-    ∙ ap (λ (n : ℕ). slotAfter n (place-w w .reach) (w .loop2 .gone) (w .loop2 .k) (at (w .loop2 .m) (w .loop2 .k) .task .places)) (ran-places (c .before))
-
 -- the other slots are as they were
-ran-others : (c : Ran) (i : ℕ) → (i ≡ walk-n c .loop2 .k → ⊥) → running (at (ran-state c) i) ≡ running (at (walk-n c .loop2 .m) i)
+ran-others : (c : Ran) (i : ℕ) → (i ≡ walk-n c .loop2 .p .slot → ⊥) → running (at (ran-state c) i) ≡ running (at (walk-n c .loop2 .m) i)
 ran-others c i other =
     ap (λ (l : List Task). isRunning (getD l i noTask .status)) (ran-tasks c)
-    ∙ ap (λ (t : Task). isRunning (t .status)) (getD-set-other (walk-n c .loop2 .m .tasks) (walk-n c .loop2 .k) i _ noTask other)
+    ∙ ap (λ (t : Task). isRunning (t .status)) (getD-set-other (walk-n c .loop2 .m .tasks) (walk-n c .loop2 .p .slot) i _ noTask other)
 
-ran-few : (c : Ran) → at (walk-n c .loop2 .m) (walk-n c .loop2 .k) .task .places ≤ 64
+ran-few : (c : Ran) → at (walk-n c .loop2 .m) (walk-n c .loop2 .p .slot) .task .places ≤ 64
 ran-few c =
     let w = walk-n c in
     let h = head-of (turn-w w) in
     omega (arith, tile (given-of h) (allowed-of h) (at-w w) (runs-at (runs-of (done-r c))) .inside, few-places w)
 
-ran-gone : (c : Ran) → walk-n c .loop2 .gone ≤ 64
-ran-gone c = omega (arith, goes-at (look-of (runs-of (done-r c))) .places-left, at-w (walk-n c) .reach-most)
+-- the place that the walk goes on at
+ran-next : (c : Here tie.After-picked-on) → let w = walk-n (c .before) in
+    c .picked-on .result ≡ pickedOn (w .loop2 .m .places) (ran-state (c .before) .work) (at (w .loop2 .m) (w .loop2 .p .slot) .task .places) (w .loop2 .p)
+ran-next c =
+    let w = walk-n (c .before) in
+    c .picked-on .ensures
+    ∙ ap (λ (n : ℕ). pickedOn n (ran-state (c .before) .work) (at (w .loop2 .m) (w .loop2 .p .slot) .task .places) (w .loop2 .p)) (ran-places (c .before))
+
+-- the task runs on
+ran-still : (c : Ran) → running (at (ran-state c) (walk-n c .loop2 .p .slot)) ≡ true
+ran-still c =
+    let w = walk-n c in
+    ap (λ (l : List Task). isRunning (getD l (w .loop2 .p .slot) noTask .status)) (ran-tasks c)
+    ∙ ap (λ (t : Task). isRunning (t .status)) (getD-set-same (w .loop2 .m .tasks) (w .loop2 .p .slot) _ noTask (omega (arith, slot-inside w, at-w w .fits .sized .of-tasks)))
+    ∙ ap (λ (t : Task). isRunning (t .status)) (ran-record c) ∙ runs-at (runs-of (done-r c))
 
 -- ---- the walk is over
 
 rests-there : (b t : Bool) → b ≡ false → (not b && t) ≡ false → t ≡ false
 rests-there b t e h = rw e at h
 
+-- the looks for a row
+abbrev Rowing : Type 0
+Rowing = Here tie.At-loop3
+
+abbrev lanes-r : Rowing → Here tie.After-lanes-of
+lanes-r c = c .before .before
+
+abbrev walk-l : Rowing → Walk
+walk-l c = lanes-r c .before .before .before .before .before .before .before
+
+abbrev Meeting : Type 0
+Meeting = Here tie.Then9
+
+abbrev rowing : Meeting → Rowing
+rowing c = c .before .before
+
+looks-at : (c : Meeting) → Looks (rowing c .loop3 .inv .0)
+looks-at c = looks (rowing c .loop3 .inv .0) (sym (c .before .looks-on .ensures) ∙ c .if9 .taken)
+
+look-inside : (c : Meeting) → rowing c .loop3 .look < 64
+look-inside c = omega (arith, looks-at c .slot-below, few-places (walk-l (rowing c)))
+
+-- the slot's places, in the others of which nothing runs
+abbrev met-width : Meeting → ℕ
+met-width c = width (at (walk-l (rowing c) .loop2 .m) (rowing c .loop3 .look) .task .places)
+
+met-inside : (c : Meeting) → rowing c .loop3 .look + met-width c ≤ walk-l (rowing c) .loop2 .m .places
+met-inside c =
+    let w = walk-l (rowing c) in
+    width-inside (allowed-of (head-of (turn-w w))) (w .loop2 .m) (at-w w .fits) (rowing c .loop3 .look) (looks-at c .slot-below)
+
+abbrev Met : Type 0
+Met = Here tie.Joined10
+
+abbrev meeting : Met → Meeting
+meeting c = c .before .before .before
+
+-- with the slot, where its task runs
+row-met : (c : Met) → Gathers (walk-l (rowing (meeting c)) .loop2 .m) (lanesOf (given-of (head-of (turn-w (walk-l (rowing (meeting c))))) .course))
+    (rowing (meeting c) .loop3 .look + met-width (meeting c)) (c .if10 .row)
+row-met c =
+    let t = meeting c in
+    let r = rowing t in
+    let w = walk-l r in
+    let m = w .loop2 .m in
+    let look = r .loop3 .look in
+    let allowed = allowed-of (head-of (turn-w w)) in
+    let fits = at-w w .fits in
+    let below = looks-at t .slot-below in
+    let Row-at = Gathers m (lanesOf (given-of (head-of (turn-w w)) .course)) (look + met-width t) in
+    elim (c .if10 .came) [
+      | inl z ↦
+          let runs = sym (c .before .is-running2 .ensures) ∙ z .0 .taken in
+          subst⁻¹ Row-at (z .2 ∙ z .1 .ensures)
+          (gather-takes (r .loop3 .inv .0) (looks-at t .lane) below (look-inside t) runs (met-width t) (width-some (at m look .task .places)) (met-inside t)
+          (width-others allowed m fits look below))
+      | inr z ↦
+          let idle = sym (c .before .is-running2 .ensures) ∙ z .0 .left in
+          subst⁻¹ Row-at (z .1) (gather-passes (r .loop3 .inv .0) below (met-width t) (met-inside t) (width-quiet allowed m fits look below idle))
+    ]
+
+-- the next stretch is asked for
 abbrev Asking : Type 0
 Asking = Here tie.After-next-stretch
+
+abbrev rowing-a : Asking → Rowing
+rowing-a c = c .before .before .before
+
+abbrev walk-a : Asking → Walk
+walk-a c = walk-l (rowing-a c)
 
 abbrev ComesAt : Walk → Stretch → Type 0
 ComesAt w s =
     let g = given-of (head-of (turn-w w)) in
-    let b = head-of (turn-w w) .loop .begun in
-    Comes (result g) (w .loop2 .m) (at-w w .picks) b (mostStretches (g .course) (g .order)) (roundsOf (g .course)) (λ q. At g (w .loop2 .m) q) s
-
-abbrev walk-a : Asking → Walk
-walk-a c = c .before .before .before .before .before .before .before
+    Comes (result g) (w .loop2 .m) (at-w w .picks) (w .loop2 .p .begun) (mostStretches (g .course) (g .order)) (roundsOf (g .course)) (λ q. At g (w .loop2 .m) q) s
 
 -- whether the job has ended is read off slot 0
-ended-at : (c : Asking) → c .before .has-ended .result ≡ jobEnded (walk-a c .loop2 .m)
-ended-at c = c .before .has-ended .ensures ∙ ap isEnd (c .before .before .end-at .ensures)
+ended-at : (c : Asking) → let e = lanes-r (rowing-a c) .before in e .has-ended .result ≡ jobEnded (walk-a c .loop2 .m)
+ended-at c = let e = lanes-r (rowing-a c) .before in e .has-ended .ensures ∙ ap isEnd (e .before .end-at .ensures)
 
 comes-at : (c : Asking) → ComesAt (walk-a c) (c .next-stretch .result)
 comes-at c =
+    let r = rowing-a c in
     let w = walk-a c in
     let h = head-of (turn-w w) in
     let g = given-of h in
-    let over = c .before .before .before .before in
+    let over = lanes-r r .before .before .before .before in
     let rest = rests-there (w .loop2 .stopped) _ (not-true (w .loop2 .stopped) (over .if8 .taken)) (sym (over .before .before .walks-on .ensures) ∙ over .before .if4 .left) in
-    let asked = ap (λ b. nextStretch (g .course) (g .order) (h .loop .begun) (w .loop2 .m .places) (w .loop2 .m .work) b) (ended-at c) in
-    subst⁻¹ (ComesAt w) (c .next-stretch .ensures ∙ asked) (comes-next g (allowed-of h) (at-w w) rest)
+    let row = gather-ends (r .loop3 .inv .0) (sym (c .before .before .looks-on .ensures) ∙ c .before .if9 .left) in
+    let asked = ap (λ b. nextStretch (g .course) (g .order) (w .loop2 .p .begun) (w .loop2 .m .places) (w .loop2 .m .work) b (r .loop3 .row .slots)) (ended-at c) in
+    subst⁻¹ (ComesAt w) (c .next-stretch .ensures ∙ asked) (comes-next g (allowed-of h) (at-w w) rest row)
 
 -- ---- the pick that stopped a walk
 
@@ -422,39 +496,34 @@ halt-room c =
     let w = walk-h c in
     omega (arith, goes {m = w .loop2 .m} {p = place-w w} (stopped-at c .walks) .picks-left, at-w w .until-most)
 
-halt-span : (c : Halting) → at (walk-h c .loop2 .m) (walk-h c .loop2 .k) .task .span < workLimit
-halt-span c = omega (arith, halt-room c, at-w (walk-h c) .fits .counts (walk-h c .loop2 .k) .span-most)
+halt-span : (c : Halting) → at (walk-h c .loop2 .m) (walk-h c .loop2 .p .slot) .task .span < workLimit
+halt-span c = omega (arith, halt-room c, at-w (walk-h c) .fits .counts (walk-h c .loop2 .p .slot) .span-most)
 
-halt-few : (c : Halting) → at (walk-h c .loop2 .m) (walk-h c .loop2 .k) .task .places ≤ 64
+halt-few : (c : Halting) → at (walk-h c .loop2 .m) (walk-h c .loop2 .p .slot) .task .places ≤ 64
 halt-few c =
     let w = walk-h c in
     let h = head-of (turn-w w) in
     omega (arith, tile (given-of h) (allowed-of h) (at-w w) (stopped-at c .runs-there) .inside, few-places w)
 
-halt-gone : (c : Halting) → walk-h c .loop2 .gone ≤ 64
-halt-gone c =
-    let w = walk-h c in
-    omega (arith, goes {m = w .loop2 .m} {p = place-w w} (stopped-at c .walks) .places-left, at-w w .reach-most)
-
 -- a fork: the child's slot is in the state
 abbrev Forking : Type 0
 Forking = Here tie.After-enum-told
 
-fork-at : (c : Forking) → let w = walk-h (c .before .before .before .before .before) in
-    let places = at (w .loop2 .m) (w .loop2 .k) .task .places in
-    (0 < places / 2) × (w .loop2 .k + places / 2 < w .loop2 .m .places) × (at (w .loop2 .m) (w .loop2 .k) .task .depth < 6)
+fork-at : (c : Forking) → let w = walk-h (c .before .before .before) in
+    let places = at (w .loop2 .m) (w .loop2 .p .slot) .task .places in
+    (0 < places / 2) × (w .loop2 .p .slot + places / 2 < w .loop2 .m .places) × (at (w .loop2 .m) (w .loop2 .p .slot) .task .depth < 6)
 fork-at c =
-    let w = walk-h (c .before .before .before .before .before) in
+    let w = walk-h (c .before .before .before) in
     let h = head-of (turn-w w) in
-    fork-room (given-of h) (allowed-of h) (at-w w) (stopped-at (c .before .before .before .before .before)) (c .enum-told .given .1)
+    fork-room (given-of h) (allowed-of h) (at-w w) (stopped-at (c .before .before .before)) (c .enum-told .given .1)
 
 -- both sides' slots, and their numbers
-fork-slots : (c : Forking) → let w = walk-h (c .before .before .before .before .before) in
-    let t = at (w .loop2 .m) (w .loop2 .k) .task in
-    (w .loop2 .k + t .places / 2 < 64) × (t .depth < 6) × (w .loop2 .k < 64)
+fork-slots : (c : Forking) → let w = walk-h (c .before .before .before) in
+    let t = at (w .loop2 .m) (w .loop2 .p .slot) .task in
+    (w .loop2 .p .slot + t .places / 2 < 64) × (t .depth < 6) × (w .loop2 .p .slot < 64)
 fork-slots c =
     let f = fork-at c in
-    let w = walk-h (c .before .before .before .before .before) in
+    let w = walk-h (c .before .before .before) in
     (omega (arith, f .1, few-places w), f .2, slot-inside w)
 
 -- ---- what a turn has planned
@@ -465,13 +534,16 @@ tasksWith m q c v t = record { places = m .places; interval = m .interval; work 
 abbrev Moving : Type 0
 Moving = Here tie.Joined1
 
+-- a walk leaves no more ahead than there was
+walked-less : (w : Walk) → let h = head-of (turn-w w) in ahead (given-of h) (w .loop2 .m) (w .loop2 .p) 0 ≤ ahead (given-of h) (h .loop .m) (h .loop .p) (h .loop .due)
+walked-less w = omega (arith, w .loop2 .inv .0 .shorter, w .loop2 .inv .0 .begun-least, none-due-w w)
+
 abbrev sidesWritten : State → ℕ → Task → Task → State
 sidesWritten m k p q =
     record { places = m .places; interval = m .interval; work = m .work + 1; bank = m .bank; tasks = set (set (m .tasks) k p) (k + p .places) q }
 
 planned-at : (c : Moving) → let h = head-of (c .before) in
-    Planned (given-of h) (ahead (given-of h) (h .loop .m) (place-of (c .before)) (h .loop .due)) (c .if1 .m) (c .if1 .plan)
-    (place (c .if1 .k) (c .if1 .gone) (h .loop .until) (h .loop .reach) (h .loop .begun) (h .loop .once)) (c .if1 .due) (c .if1 .side)
+    Planned (given-of h) (ahead (given-of h) (h .loop .m) (place-of (c .before)) (h .loop .due)) (c .if1 .m) (c .if1 .plan) (c .if1 .p) (c .if1 .due) (c .if1 .side)
 planned-at c = elim (c .if1 .came) [
   | inl t ↦
       let j : Joining = record {
@@ -485,52 +557,52 @@ planned-at c = elim (c .if1 .came) [
       let h = head-of (c .before) in
       let m = h .loop .m in
       let written = t .13 ∙ ap (λ (v : Task). tasksWith m (q-of j) (q-of j + w-of j) v (t .9 .result .task)) (t .11 .ensures) in
-      planned-as (place-of (c .before)) (t .14) (t .15) (t .16) (t .17)
+      planned-as (t .14) (t .15) (t .16)
       (join-planned (given-of h) (allowed-of h) (turns-at (c .before)) (q-of j) (w-of j) (t .0 .taken) refl (t .2 .ensures .0)
-      (sides a ∙ not-false (t .7 .result) (t .8 .left)) (inside j .0) (inside j .1) (t .9 .ensures) (h .loop .inv .2, h .loop .inv .3) written (t .18 ∙ t .12 .ensures))
+      (sides a ∙ not-false (t .7 .result) (t .8 .left)) (inside j .0) (inside j .1) (t .9 .ensures) (h .loop .inv .2, h .loop .inv .3) written (t .17 ∙ t .12 .ensures))
   | inr s ↦ elim s [
     | inl t ↦
         let w : Walk = record { before = record { before = record { before = c .before; if1 = t .0 }; go = t .1 }; loop2 = t .2 } in
         let x : Halting = record { before = record { before = record { before = w; walks-on = t .3 }; if4 = t .4 }; if8 = t .5 } in
         let h = head-of (c .before) in
         let m = w .loop2 .m in
-        let k = w .loop2 .k in
+        let k = w .loop2 .p .slot in
         let pc = w .loop2 .e .child in
-        let parent = t .12 .ensures in
-        let written = t .16 ∙ ap₂ (λ (p q : Task). sidesWritten m k p q) parent (t .13 .ensures ∙ ap (movedTo pc 0) parent) in
+        let parent = t .10 .ensures in
+        let written = t .14 ∙ ap₂ (λ (p q : Task). sidesWritten m k p q) parent (t .11 .ensures ∙ ap (movedTo pc 0) parent) in
         let child = ap (λ (p : Task). k + p .places) parent in
-        let next = t .17 ∙ t .15 .ensures ∙ ap₂ (afterFork (h .loop .once)) child (t .8 .ensures) in
-        planned-as (place-w w) next (t .18 ∙ t .7 .ensures) (t .19 ∙ none-due-w w) (t .20)
-        (planned-below (omega (arith, w .loop2 .inv .0 .shorter, none-due-w w))
-        (fork-planned (given-of h) (allowed-of h) (at-w w) (stopped-at x) (t .10 .given .1) (t .11 .ensures) written
-        (t .21 ∙ t .14 .ensures ∙ ap (forkMoves k) child) (h .loop .side) (turns-at (c .before) .side-below)))
+        let next = t .15 ∙ t .13 .ensures ∙ ap (λ (p : Task). stoppedAt (m .places) (p .places) (w .loop2 .p)) parent in
+        planned-as next (t .16 ∙ none-due-w w) (t .17)
+        (planned-below (walked-less w)
+        (fork-planned (given-of h) (allowed-of h) (at-w w) (stopped-at x) (t .8 .given .1) (t .9 .ensures) written
+        (t .18 ∙ t .12 .ensures ∙ ap (forkMoves k) child) (h .loop .side) (turns-at (c .before) .side-below)))
     | inr t ↦
         let w : Walk = record { before = record { before = record { before = c .before; if1 = t .0 }; go = t .1 }; loop2 = t .2 } in
         let x : Halting = record { before = record { before = record { before = w; walks-on = t .3 }; if4 = t .4 }; if8 = t .5 } in
         let h = head-of (c .before) in
-        planned-as (place-w w) (t .13 ∙ t .8 .ensures) (t .14 ∙ t .7 .ensures) (t .15) (t .16)
-        (planned-below (omega (arith, w .loop2 .inv .0 .shorter, none-due-w w))
-        (end-planned (given-of h) (allowed-of h) (at-w w) (stopped-at x) (t .9 .keys2) (t .10 .ensures) (t .12) (t .17 ∙ t .11 .ensures)))
+        planned-as (t .12 ∙ t .10 .ensures) (t .13) (t .14)
+        (planned-below (walked-less w)
+        (end-planned (given-of h) (allowed-of h) (at-w w) (stopped-at x) (t .7 .keys2) (t .8 .ensures) (t .11) (t .15 ∙ t .9 .ensures)))
   ]
 ]
 
 -- ---- the moves made
 
 abbrev Cleared : Type 0
-Cleared = Here tie.Joined9
+Cleared = Here tie.Joined11
 
-paired-at : (c : Cleared) → c .before .before .before .loop3 .m ≡ pairedAt (c .before .before .before .before .if1 .plan) (c .before .before .before .before .if1 .m)
+paired-at : (c : Cleared) → c .before .before .before .loop4 .m ≡ pairedAt (c .before .before .before .before .if1 .plan) (c .before .before .before .before .if1 .m)
 paired-at c =
-    let i = c .before .before .before .loop3 .inv in
-    let l = c .before .before .before .loop3 in
+    let i = c .before .before .before .loop4 .inv in
+    let l = c .before .before .before .loop4 in
     let j = c .before .before .before .before .if1 in
-    i .3 ∙ ap (placed (j .m) (j .plan .to)) (sym (i .4 ∙ copies-none _ (l .pairs) (l .packed) (i .1) (c .before .before .loop3-test .left)))
+    i .3 ∙ ap (placed (j .m) (j .plan .to)) (sym (i .4 ∙ copies-none _ (l .pairs) (l .packed) (i .1) (c .before .before .loop4-test .left)))
 
-cleared-at : (c : Cleared) → let j = c .before .before .before .before .if1 in c .if9 .m ≡ clearedAt (j .plan) (pairedAt (j .plan) (j .m))
+cleared-at : (c : Cleared) → let j = c .before .before .before .before .if1 in c .if11 .m ≡ clearedAt (j .plan) (pairedAt (j .plan) (j .m))
 cleared-at c =
     let plan = c .before .before .before .before .if1 .plan in
-    let m₂ = c .before .before .before .loop3 .m in
-    elim (c .if9 .came) [
+    let m₂ = c .before .before .before .loop4 .m in
+    elim (c .if11 .came) [
       | inl t ↦ t .3 ∙ filling-all m₂ (plan .from) zeros (t .1 .i) (t .1 .inv .0) (t .2 .left) (t .1 .inv .1)
           ∙ sym (ap (λ (b : Bool). cond b (filling m₂ (plan .from) zeros 16) m₂) (lt-ltb 0 (plan .clears) (t .0 .taken)))
           ∙ ap (clearedAt plan) (paired-at c)
@@ -538,34 +610,34 @@ cleared-at c =
           ∙ ap (clearedAt plan) (paired-at c)
     ]
 
-copied-on : (c : Here tie.After-loop5) → let j = c .before .before .before .before .before .before .before .before .if1 in c .before .loop5 .m ≡ moved (j .plan) (j .m)
+copied-on : (c : Here tie.After-loop6) → let j = c .before .before .before .before .before .before .before .before .if1 in c .before .loop6 .m ≡ moved (j .plan) (j .m)
 copied-on c =
     let plan = c .before .before .before .before .before .before .before .before .if1 .plan in
-    let i = c .before .loop5 .inv in
-    let m₃ = c .before .before .before .before .if9 .m in
-    filling-all m₃ (plan .to) _ (c .before .loop5 .i) (i .0) (c .loop5-test .left) (i .1)
-    ∙ sym (ap (λ (b : Bool). cond b (filling m₃ (plan .to) (at m₃ (plan .from) .registers) 16) m₃) (lt-ltb 0 (plan .whole) (c .before .before .if10 .taken)))
+    let i = c .before .loop6 .inv in
+    let m₃ = c .before .before .before .before .if11 .m in
+    filling-all m₃ (plan .to) _ (c .before .loop6 .i) (i .0) (c .loop6-test .left) (i .1)
+    ∙ sym (ap (λ (b : Bool). cond b (filling m₃ (plan .to) (at m₃ (plan .from) .registers) 16) m₃) (lt-ltb 0 (plan .whole) (c .before .before .if12 .taken)))
     ∙ ap (copiedAt plan) (cleared-at (c .before .before .before .before))
 
-copied-not : (c : Here tie.Else10) → let j = c .before .before .before .before .before .before .if1 in c .before .before .if9 .m ≡ moved (j .plan) (j .m)
+copied-not : (c : Here tie.Else12) → let j = c .before .before .before .before .before .before .if1 in c .before .before .if11 .m ≡ moved (j .plan) (j .m)
 copied-not c =
     let plan = c .before .before .before .before .before .before .if1 .plan in
-    let m₃ = c .before .before .if9 .m in
-    sym (ap (λ (b : Bool). cond b (filling m₃ (plan .to) (at m₃ (plan .from) .registers) 16) m₃) (le-ltb 0 (plan .whole) (c .if10 .left)))
+    let m₃ = c .before .before .if11 .m in
+    sym (ap (λ (b : Bool). cond b (filling m₃ (plan .to) (at m₃ (plan .from) .registers) 16) m₃) (le-ltb 0 (plan .whole) (c .if12 .left)))
     ∙ ap (copiedAt plan) (cleared-at (c .before .before))
 
 -- ---- what the code needs at its places
 
 loop-holds : Here tie.Need-loop-holds
 loop-holds c =
-    let a = c .before .before .args in
+    let a = c .before .before .before .args in
     let g = given (a .cells .now) (a .words .now) (a .state) (a .order .now) (a .course) in
     let sized : Sized (a .state) = record { of-bank = search (needs, length-by); of-tasks = search (needs, length-by) } in
-    let allowed = shape-allowed (a .cells .now) (a .state) (c .before .before .pre .0) (c .before .before .pre .2) in
-    let fits = shape-fits (a .cells .now) (a .state) sized (c .before .before .pre .2) in
+    let allowed = shape-allowed (a .cells .now) (a .state) (c .before .before .before .pre .0) (c .before .before .before .pre .2) in
+    let fits = shape-fits (a .cells .now) (a .state) sized (c .before .before .before .pre .2) in
     let few : a .state .work ≤ workLimit = search needs in (
       λ z. none-due g allowed 0 0 refl (omega arith)
-          (at-first g fits allowed (c .before .before .pre .3) (place 0 0 (a .state .work) 0 0 false) refl refl refl few refl),
+          (subst⁻¹ (At g (a .state)) (c .no-place .ensures) (at-first g fits allowed (c .before .before .before .pre .3) few)),
       λ e. clash e refl,
       omega arith,
       few,
@@ -638,8 +710,8 @@ joined-requires c κs =
     due-joinable (given-of h .cells) (h .loop .m) (q-of j) (w-of j) (h .loop .due) (start-of h .pre .0) (turns-at (turn-j j) .safe)
     (j .before .before .before .before .if1 .taken) (sides (c .before) ∙ not-false (c .before .both-ended .result) (c .if3 .left))
 
-mul-t67 : Here tie.Need-mul-t67
-mul-t67 c = omega (arith, inside (c .before .before .before .before .before .before .before))
+mul-t66 : Here tie.Need-mul-t66
+mul-t66 c = omega (arith, inside (c .before .before .before .before .before .before .before))
 
 element-set-from-m : Here tie.Need-element-set-from-m
 element-set-from-m c = omega (arith, inside (c .before .before .before .before .before .before .before))
@@ -654,7 +726,7 @@ sub-due : Here tie.Need-sub-due
 sub-due c = omega (arith, c .before .before .before .before .before .before .before .before .before .before .before .before .if1 .taken)
 
 loop2-holds : Here tie.Need-loop2-holds
-loop2-holds c = (record { leads = λ state a h. h; shorter = omega arith }, λ e. clash e refl)
+loop2-holds c = (record { leads = λ state a h. h; shorter = omega arith; begun-least = omega arith }, λ e. clash e refl)
 
 mul-record : Here tie.Need-mul-record
 mul-record c = omega (arith, slot-inside (walk-of c))
@@ -719,8 +791,8 @@ execute-requires c κs =
 ran-on-requires : Here tie.Need-ran-on-requires
 ran-on-requires c κs = span-at (runs-of (c .before .before))
 
-mul-t98 : Here tie.Need-mul-t98
-mul-t98 c = omega (arith, slot-inside (walk-d (c .before .before .before)))
+mul-t97 : Here tie.Need-mul-t97
+mul-t97 c = omega (arith, slot-inside (walk-d (c .before .before .before)))
 
 element-set-from-m-2 : Here tie.Need-element-set-from-m-2
 element-set-from-m-2 c = omega (arith, slot-inside (walk-d (c .before .before .before)))
@@ -728,8 +800,8 @@ element-set-from-m-2 c = omega (arith, slot-inside (walk-d (c .before .before .b
 add-at-r : Here tie.Need-add-at-r
 add-at-r c = omega (arith, slot-inside (walk-d (c .before .before .before .before .before)), r-inside (c .before .before .before .before .before .before .before .before .before .before))
 
-mul-t102 : Here tie.Need-mul-t102
-mul-t102 c = let d = c .before .before .before .before .before .before in omega (arith, slot-inside (walk-d d), r-inside (d .before .before .before .before .before))
+mul-t101 : Here tie.Need-mul-t101
+mul-t101 c = let d = c .before .before .before .before .before .before in omega (arith, slot-inside (walk-d d), r-inside (d .before .before .before .before .before))
 
 element-set-from-m-3 : Here tie.Need-element-set-from-m-3
 element-set-from-m-3 c = let d = c .before .before .before .before .before .before in omega (arith, slot-inside (walk-d d), r-inside (d .before .before .before .before .before))
@@ -737,25 +809,23 @@ element-set-from-m-3 c = let d = c .before .before .before .before .before .befo
 add-m : Here tie.Need-add-m
 add-m c = omega (arith, ran-work c, room-at (runs-of (done-r c)))
 
-slot-after-requires : Here tie.Need-slot-after-requires
-slot-after-requires c κs = (slot-inside (walk-n c), ran-few c, ran-gone c)
-
-gone-after-requires : Here tie.Need-gone-after-requires
-gone-after-requires c κs = (ran-few (c .before), ran-gone (c .before))
+picked-on-requires : Here tie.Need-picked-on-requires
+picked-on-requires c κs = (slot-inside (walk-n c), ran-few c)
 
 loop2-less : Here tie.Need-loop2-less
 loop2-less c =
-    let w = walk-n (c .before .before) in
-    let x = goes-at (look-of (runs-of (done-r (c .before .before)))) in
-    omega (arith, ran-work (c .before .before), x .picks-left, x .places-left, at-w w .reach-most)
+    let r = c .before in
+    let w = walk-n r in
+    let x = goes-at (look-of (runs-of (done-r r))) in
+    let kept = subst⁻¹ (Kept (w .loop2 .p)) (ran-next c) (picked-kept (w .loop2 .m .places) _ (w .loop2 .p) (few-places w) (at-w w .ahead-most) _) in
+    omega (arith, ran-work r, x .picks-left, x .places-left, kept .until-same, kept .ahead-most)
 
 loop2-again : Here tie.Need-loop2-again
 loop2-again c =
-    let r = c .before .before in
+    let r = c .before in
     let w = walk-n r in
     let look = look-of (runs-of (done-r r)) in (
-      leads-on (w .loop2 .inv .0) (tests look .1) (at-w w .reach-most) (runs-at (runs-of (done-r r))) (ran-issued r) (ran-others r)
-          (ran-next (c .before)) (c .gone-after .ensures),
+      leads-on (w .loop2 .inv .0) (tests look .1) (few-places w) (at-w w .ahead-most) (runs-at (runs-of (done-r r))) (ran-issued r) (ran-still r) (ran-others r) (ran-next c),
       λ e. clash e (not-stopped look),
     )
 
@@ -779,41 +849,85 @@ loop2-again-2 c =
       },
     )
 
-add-gone : Here tie.Need-add-gone
-add-gone c =
-    let w = walk-of (c .before .before .before .before) in omega (arith, c .width-of .ensures, width-few w, goes-at (c .before .before .before .before) .places-left, at-w w .reach-most)
-
-behind-slot-requires : Here tie.Need-behind-slot-requires
-behind-slot-requires c κs =
+gone-by-requires : Here tie.Need-gone-by-requires
+gone-by-requires c κs =
     let w = walk-of (c .before .before .before .before) in (slot-inside w, omega (arith, c .width-of .ensures, width-few w))
 
 loop2-less-3 : Here tie.Need-loop2-less-3
 loop2-less-3 c =
-    let w = walk-of (c .before .before .before .before .before) in
-    let some = width-some (at (w .loop2 .m) (w .loop2 .k) .task .places) in
-    omega (arith, c .before .width-of .ensures, goes-at (c .before .before .before .before .before) .places-left)
+    let look = c .before .before .before .before .before in
+    let w = walk-of look in
+    let wide : 0 < c .before .width-of .result = omega (arith, c .before .width-of .ensures, width-some (at (w .loop2 .m) (w .loop2 .p .slot) .task .places)) in
+    let until : c .gone-by .result .until ≡ w .loop2 .p .until = ap (λ (q : Place). q .until) (c .gone-by .ensures) in
+    let fewer : c .gone-by .result .ahead ≡ w .loop2 .p .ahead - c .before .width-of .result = ap (λ (q : Place). q .ahead) (c .gone-by .ensures) in
+    omega (arith, goes-at look .places-left)
 
 loop2-again-3 : Here tie.Need-loop2-again-3
 loop2-again-3 c =
-    let w = walk-of (c .before .before .before .before .before) in
-    let idle : running (at (w .loop2 .m) (w .loop2 .k)) ≡ false = sym (c .before .before .before .is-running .ensures) ∙ c .before .before .if5 .left in (
-      leads-by (w .loop2 .inv .0) (tests (c .before .before .before .before .before) .1) idle (c .before .width-of .ensures) (c .behind-slot .ensures),
-      λ e. clash e (not-stopped (c .before .before .before .before .before)),
+    let look = c .before .before .before .before .before in
+    let w = walk-of look in
+    let idle : running (at (w .loop2 .m) (w .loop2 .p .slot)) ≡ false = sym (c .before .before .before .is-running .ensures) ∙ c .before .before .if5 .left in (
+      leads-by (w .loop2 .inv .0) (tests look .1) idle (c .before .width-of .ensures) (c .gone-by .ensures),
+      λ e. clash e (not-stopped look),
+    )
+
+loop3-holds : Here tie.Need-loop3-holds
+loop3-holds c =
+    let l = c .before in
+    let w : Walk = l .before .before .before .before .before .before .before in
+    let start = start-of (head-of (turn-w w)) in
+    let few = lanes-few (start .args .course) (start .args .state) (start .pre .3) in (
+      subst⁻¹ (Gathers (w .loop2 .m) (lanesOf (start .args .course)) 0) (c .no-slots .ensures ∙ ap (λ n. record { slots = 0; unit = 1; lanes = n }) (l .lanes-of .ensures))
+          (gather-begins (w .loop2 .m) (lanesOf (start .args .course)) few),
+      omega arith,
+    )
+
+mul-met : Here tie.Need-mul-met
+mul-met c = omega (arith, look-inside c)
+
+element-copy-out-met : Here tie.Need-element-copy-out-met
+element-copy-out-met c = omega (arith, look-inside c)
+
+with-slot-requires : Here tie.Need-with-slot-requires
+with-slot-requires c κs =
+    let t = c .before .before .before in
+    let g = rowing t .loop3 .inv .0 in
+    (looks-at t .lane, look-inside t, g .small, unit-most g (looks-at t .lane))
+
+add-look : Here tie.Need-add-look
+add-look c = omega (arith, c .width-of2 .ensures, met-inside (meeting (c .before)), look-inside (meeting (c .before)), few-places (walk-l (rowing (meeting (c .before)))))
+
+loop3-less : Here tie.Need-loop3-less
+loop3-less c =
+    let t = meeting (c .before) in
+    let w = walk-l (rowing t) in
+    omega (arith, c .width-of2 .ensures, width-some (at (w .loop2 .m) (rowing t .loop3 .look) .task .places), looks-at t .slot-below)
+
+loop3-again : Here tie.Need-loop3-again
+loop3-again c =
+    let t = meeting (c .before) in
+    let w = walk-l (rowing t) in
+    let m = w .loop2 .m in
+    let course = given-of (head-of (turn-w w)) .course in (
+      subst⁻¹ (λ n. Gathers m (lanesOf course) (rowing t .loop3 .look + n) (c .before .if10 .row)) (c .width-of2 .ensures) (row-met (c .before)),
+      omega (arith, c .width-of2 .ensures, met-inside t),
     )
 
 loop-less-3 : Here tie.Need-loop-less-3
 loop-less-3 c =
-    let w = walk-a c in
-    let less = next-less (given-of (head-of (turn-w w))) (at-w w) (comes-at c) in
-    omega (arith, w .loop2 .inv .0 .shorter, one-more (turn-w w), none-due-w w)
+    let a = c .before in
+    let w = walk-a a in
+    let less = next-less (given-of (head-of (turn-w w))) (at-w w) (comes-at a) in
+    omega (arith, walked-less w, one-more (turn-w w))
 
 loop-again-3 : Here tie.Need-loop-again-3
 loop-again-3 c =
-    let w = walk-a c in
+    let a = c .before in
+    let w = walk-a a in
     let h = head-of (turn-w w) in
     let g = given-of h in (
-      λ z. none-due g (allowed-of h) _ _ (none-due-w w) (turns-at (turn-w w) .side-below) (next-at g (at-w w) (comes-at c) z),
-      λ o. next-ends g (at-w w) (comes-at c) o,
+      λ z. none-due g (allowed-of h) _ _ (none-due-w w) (turns-at (turn-w w) .side-below) (next-at g (at-w w) (comes-at a) z),
+      λ o. next-ends g (at-w w) (comes-at a) o,
       omega (arith, at-w w .all-picks),
       at-w w .work-most,
     )
@@ -827,14 +941,8 @@ element-copy-out-record-2 c = omega (arith, slot-inside (walk-h c))
 add-m-2 : Here tie.Need-add-m-2
 add-m-2 c = omega (arith, halt-room (c .before))
 
-gone-behind-requires : Here tie.Need-gone-behind-requires
-gone-behind-requires c κs = (halt-few (c .before), halt-gone (c .before))
-
-behind-slot-requires-2 : Here tie.Need-behind-slot-requires-2
-behind-slot-requires-2 c κs = (slot-inside (walk-h (c .before .before)), halt-few (c .before .before))
-
 side-task-requires : Here tie.Need-side-task-requires
-side-task-requires c κs = (halt-span (c .before .before .before .before .before .before), fork-at (c .before) .2)
+side-task-requires c κs = (halt-span (c .before .before .before .before), fork-at (c .before) .2)
 
 add-c-2 : Here tie.Need-add-c-2
 add-c-2 c = omega (arith, fork-slots (c .before .before), ap (λ (t : Task). t .places) (c .side-task .ensures))
@@ -845,23 +953,31 @@ mul-parent-2 c = omega (arith, fork-slots (c .before .before), ap (λ (t : Task)
 element-set-from-parent : Here tie.Need-element-set-from-parent
 element-set-from-parent c = omega (arith, fork-slots (c .before .before), ap (λ (t : Task). t .places) (c .side-task .ensures))
 
-mul-t125 : Here tie.Need-mul-t125
-mul-t125 c = omega (arith, fork-slots (c .before .before .before), ap (λ (t : Task). t .places) (c .before .side-task .ensures))
+mul-t131 : Here tie.Need-mul-t131
+mul-t131 c = omega (arith, fork-slots (c .before .before .before), ap (λ (t : Task). t .places) (c .before .side-task .ensures))
 
 element-set-from-m-4 : Here tie.Need-element-set-from-m-4
 element-set-from-m-4 c = omega (arith, fork-slots (c .before .before .before), ap (λ (t : Task). t .places) (c .before .side-task .ensures))
 
 ended-task-requires : Here tie.Need-ended-task-requires
-ended-task-requires c κs = halt-span (c .before .before .before .before)
+ended-task-requires c κs = halt-span (c .before .before)
 
-mul-t132 : Here tie.Need-mul-t132
-mul-t132 c = omega (arith, slot-inside (walk-h (c .before .before .before .before .before)))
+mul-t139 : Here tie.Need-mul-t139
+mul-t139 c = omega (arith, slot-inside (walk-h (c .before .before .before)))
 
 element-set-from-m-5 : Here tie.Need-element-set-from-m-5
-element-set-from-m-5 c = omega (arith, slot-inside (walk-h (c .before .before .before .before .before)))
+element-set-from-m-5 c = omega (arith, slot-inside (walk-h (c .before .before .before)))
 
-loop3-holds : Here tie.Need-loop3-holds
-loop3-holds c = (omega arith, at (c .if1 .m) (c .if1 .plan .to) .registers, length-reads zeroRegister (c .if1 .m .bank) _ 16, placed-none _ _, refl)
+stopped-at-requires : Here tie.Need-stopped-at-requires
+stopped-at-requires c κs =
+    let f = c .before .before .before .before in
+    (slot-inside (walk-h (f .before .before .before)), omega (arith, fork-slots f, ap (λ (t : Task). t .places) (c .before .before .side-task .ensures)))
+
+stopped-at-requires-2 : Here tie.Need-stopped-at-requires-2
+stopped-at-requires-2 c κs = let x = c .before .before .before .before in (slot-inside (walk-h x), halt-few x)
+
+loop4-holds : Here tie.Need-loop4-holds
+loop4-holds c = (omega arith, at (c .if1 .m) (c .if1 .plan .to) .registers, length-reads zeroRegister (c .if1 .m .bank) _ 16, placed-none _ _, refl)
 
 mul-moved : Here tie.Need-mul-moved
 mul-moved c =
@@ -896,54 +1012,54 @@ element-set-from-moved c =
     let p = planned-at (c .before .before .before) .plan-fits in omega (arith, p .from-below, p .to-below)
 
 sub-pairs : Here tie.Need-sub-pairs
-sub-pairs c = omega (arith, c .before .loop3-test .taken)
-
-loop3-less : Here tie.Need-loop3-less
-loop3-less c = omega (arith, c .before .loop3-test .taken)
-
-loop3-again : Here tie.Need-loop3-again
-loop3-again c =
-    let i = c .before .before .loop3 .inv in
-    let m₀ = c .before .before .before .if1 .m in
-    let plan = c .before .before .before .if1 .plan in
-    let packed = c .before .before .loop3 .packed in
-    let some = c .before .loop3-test .taken in
-    let v = getD (at m₀ (plan .from) .registers) (packed / 16 % 16) zeroRegister in (
-      omega (arith, i .0),
-      set (i .1) (packed % 16) v,
-      length-set (i .1) (packed % 16) v ∙ i .2,
-      placed-next m₀ (plan .to) (plan .from) (planned-at (c .before .before .before) .plan-fits .pairs-apart (omega (arith, i .0, some))) (i .1) packed (i .2) (i .3) refl,
-      i .4 ∙ copies-first (at m₀ (plan .from) .registers) (c .before .before .loop3 .pairs) packed (i .1) some,
-    )
-
-loop4-holds : Here tie.Need-loop4-holds
-loop4-holds c = (omega arith, filling-none _ _ zeros)
-
-mul-t148 : Here tie.Need-mul-t148
-mul-t148 c = omega (arith, planned-at (c .before .before .before .before .before .before .before) .plan-fits .from-below, c .before .loop4-test .taken)
-
-add-t149 : Here tie.Need-add-t149
-add-t149 c = omega (arith, planned-at (c .before .before .before .before .before .before .before) .plan-fits .from-below, c .before .loop4-test .taken)
-
-mul-t150 : Here tie.Need-mul-t150
-mul-t150 c = omega (arith, planned-at (c .before .before .before .before .before .before .before) .plan-fits .from-below, c .before .loop4-test .taken)
-
-element-set-from-m-6 : Here tie.Need-element-set-from-m-6
-element-set-from-m-6 c = omega (arith, planned-at (c .before .before .before .before .before .before .before) .plan-fits .from-below, c .before .loop4-test .taken)
-
-add-i : Here tie.Need-add-i
-add-i c = omega (arith, planned-at (c .before .before .before .before .before .before .before) .plan-fits .from-below, c .before .loop4-test .taken)
+sub-pairs c = omega (arith, c .before .loop4-test .taken)
 
 loop4-less : Here tie.Need-loop4-less
 loop4-less c = omega (arith, c .before .loop4-test .taken)
 
 loop4-again : Here tie.Need-loop4-again
 loop4-again c =
-    let l = c .before .before .loop4 in
-    (omega (arith, c .before .loop4-test .taken), zero-next _ _ (l .i) (l .inv .1) (c .before .loop4-test .taken) (c .zero-register .ensures))
+    let i = c .before .before .loop4 .inv in
+    let m₀ = c .before .before .before .if1 .m in
+    let plan = c .before .before .before .if1 .plan in
+    let packed = c .before .before .loop4 .packed in
+    let some = c .before .loop4-test .taken in
+    let v = getD (at m₀ (plan .from) .registers) (packed / 16 % 16) zeroRegister in (
+      omega (arith, i .0),
+      set (i .1) (packed % 16) v,
+      length-set (i .1) (packed % 16) v ∙ i .2,
+      placed-next m₀ (plan .to) (plan .from) (planned-at (c .before .before .before) .plan-fits .pairs-apart (omega (arith, i .0, some))) (i .1) packed (i .2) (i .3) refl,
+      i .4 ∙ copies-first (at m₀ (plan .from) .registers) (c .before .before .loop4 .pairs) packed (i .1) some,
+    )
 
 loop5-holds : Here tie.Need-loop5-holds
-loop5-holds c = (omega arith, filling-none _ _ _)
+loop5-holds c = (omega arith, filling-none _ _ zeros)
+
+mul-t156 : Here tie.Need-mul-t156
+mul-t156 c = omega (arith, planned-at (c .before .before .before .before .before .before .before) .plan-fits .from-below, c .before .loop5-test .taken)
+
+add-t157 : Here tie.Need-add-t157
+add-t157 c = omega (arith, planned-at (c .before .before .before .before .before .before .before) .plan-fits .from-below, c .before .loop5-test .taken)
+
+mul-t158 : Here tie.Need-mul-t158
+mul-t158 c = omega (arith, planned-at (c .before .before .before .before .before .before .before) .plan-fits .from-below, c .before .loop5-test .taken)
+
+element-set-from-m-6 : Here tie.Need-element-set-from-m-6
+element-set-from-m-6 c = omega (arith, planned-at (c .before .before .before .before .before .before .before) .plan-fits .from-below, c .before .loop5-test .taken)
+
+add-i : Here tie.Need-add-i
+add-i c = omega (arith, planned-at (c .before .before .before .before .before .before .before) .plan-fits .from-below, c .before .loop5-test .taken)
+
+loop5-less : Here tie.Need-loop5-less
+loop5-less c = omega (arith, c .before .loop5-test .taken)
+
+loop5-again : Here tie.Need-loop5-again
+loop5-again c =
+    let l = c .before .before .loop5 in
+    (omega (arith, c .before .loop5-test .taken), zero-next _ _ (l .i) (l .inv .1) (c .before .loop5-test .taken) (c .zero-register .ensures))
+
+loop6-holds : Here tie.Need-loop6-holds
+loop6-holds c = (omega arith, filling-none _ _ _)
 
 loop-less-4 : Here tie.Need-loop-less-4
 loop-less-4 c = less-with _ (then-less (planned-at (c .before .before .before .before .before .before .before .before)) (copied-on c))
@@ -958,43 +1074,43 @@ loop-again-4 c =
     )
 
 mul-copied : Here tie.Need-mul-copied
-mul-copied c = omega (arith, planned-at (c .before .before .before .before .before .before .before .before) .plan-fits .from-below, c .loop5-test .taken)
+mul-copied c = omega (arith, planned-at (c .before .before .before .before .before .before .before .before) .plan-fits .from-below, c .loop6-test .taken)
 
 add-copied : Here tie.Need-add-copied
-add-copied c = omega (arith, planned-at (c .before .before .before .before .before .before .before .before) .plan-fits .from-below, c .loop5-test .taken)
+add-copied c = omega (arith, planned-at (c .before .before .before .before .before .before .before .before) .plan-fits .from-below, c .loop6-test .taken)
 
 mul-copied-2 : Here tie.Need-mul-copied-2
-mul-copied-2 c = omega (arith, planned-at (c .before .before .before .before .before .before .before .before) .plan-fits .from-below, c .loop5-test .taken)
+mul-copied-2 c = omega (arith, planned-at (c .before .before .before .before .before .before .before .before) .plan-fits .from-below, c .loop6-test .taken)
 
 element-copy-out-copied : Here tie.Need-element-copy-out-copied
-element-copy-out-copied c = omega (arith, planned-at (c .before .before .before .before .before .before .before .before) .plan-fits .from-below, c .loop5-test .taken)
+element-copy-out-copied c = omega (arith, planned-at (c .before .before .before .before .before .before .before .before) .plan-fits .from-below, c .loop6-test .taken)
 
 mul-copied-3 : Here tie.Need-mul-copied-3
-mul-copied-3 c = omega (arith, planned-at (c .before .before .before .before .before .before .before .before .before) .plan-fits .to-below, c .before .loop5-test .taken)
+mul-copied-3 c = omega (arith, planned-at (c .before .before .before .before .before .before .before .before .before) .plan-fits .to-below, c .before .loop6-test .taken)
 
 add-copied-2 : Here tie.Need-add-copied-2
-add-copied-2 c = omega (arith, planned-at (c .before .before .before .before .before .before .before .before .before) .plan-fits .to-below, c .before .loop5-test .taken)
+add-copied-2 c = omega (arith, planned-at (c .before .before .before .before .before .before .before .before .before) .plan-fits .to-below, c .before .loop6-test .taken)
 
 mul-copied-4 : Here tie.Need-mul-copied-4
-mul-copied-4 c = omega (arith, planned-at (c .before .before .before .before .before .before .before .before .before) .plan-fits .to-below, c .before .loop5-test .taken)
+mul-copied-4 c = omega (arith, planned-at (c .before .before .before .before .before .before .before .before .before) .plan-fits .to-below, c .before .loop6-test .taken)
 
 element-set-from-copied : Here tie.Need-element-set-from-copied
-element-set-from-copied c = omega (arith, planned-at (c .before .before .before .before .before .before .before .before .before) .plan-fits .to-below, c .before .loop5-test .taken)
+element-set-from-copied c = omega (arith, planned-at (c .before .before .before .before .before .before .before .before .before) .plan-fits .to-below, c .before .loop6-test .taken)
 
 add-i-2 : Here tie.Need-add-i-2
-add-i-2 c = omega (arith, planned-at (c .before .before .before .before .before .before .before .before .before) .plan-fits .to-below, c .before .loop5-test .taken)
+add-i-2 c = omega (arith, planned-at (c .before .before .before .before .before .before .before .before .before) .plan-fits .to-below, c .before .loop6-test .taken)
 
-loop5-less : Here tie.Need-loop5-less
-loop5-less c = omega (arith, c .before .loop5-test .taken)
+loop6-less : Here tie.Need-loop6-less
+loop6-less c = omega (arith, c .before .loop6-test .taken)
 
-loop5-again : Here tie.Need-loop5-again
-loop5-again c =
+loop6-again : Here tie.Need-loop6-again
+loop6-again c =
     let l = c .before .before in
     let p = c .before .before .before .before .before .before .before .before .before in
     let plan = p .if1 .plan in (
-      omega (arith, c .before .loop5-test .taken),
-      copy-next _ (plan .to) (plan .from) (l .loop5 .i) (planned-at p .plan-fits .whole-apart (l .before .if10 .taken)) (l .loop5 .inv .1)
-          (c .before .loop5-test .taken) refl,
+      omega (arith, c .before .loop6-test .taken),
+      copy-next _ (plan .to) (plan .from) (l .loop6 .i) (planned-at p .plan-fits .whole-apart (l .before .if12 .taken)) (l .loop6 .inv .1)
+          (c .before .loop6-test .taken) refl,
     )
 
 loop-less-5 : Here tie.Need-loop-less-5
@@ -1024,8 +1140,9 @@ returns c =
 pub drive-spec : {M : Type 1} → statement M
 drive-spec =
     tie.close
-    (tie.spec Inv-loop2 μ-loop2 Inv-loop3 μ-loop3 Inv-loop4 μ-loop4 Inv-loop5 μ-loop5 Inv-loop μ-loop
+    (tie.spec Inv-loop2 μ-loop2 Inv-loop3 μ-loop3 Inv-loop4 μ-loop4 Inv-loop5 μ-loop5 Inv-loop6 μ-loop6 Inv-loop μ-loop
     -- the loop begins
+    (λ c κs. search needs)
     loop-holds
     -- a turn
     (λ c κs. search needs)
@@ -1046,7 +1163,7 @@ drive-spec =
     loop-again-2
     joined-requires
     (λ c κs. search needs)
-    mul-t67
+    mul-t66
     element-set-from-m
     mul-whole
     element-set-from-whole
@@ -1076,30 +1193,41 @@ drive-spec =
     -- it runs on
     (λ c κs. search needs)
     ran-on-requires
-    mul-t98
+    mul-t97
     element-set-from-m-2
     (λ c κs. search needs)
     add-at-r
     (λ c κs. search needs)
-    mul-t102
+    mul-t101
     element-set-from-m-3
     add-m
-    slot-after-requires
-    gone-after-requires
+    picked-on-requires
     loop2-less
     loop2-again
     loop2-less-2
     loop2-again-2
     -- nothing runs there
     (λ c κs. search needs)
-    add-gone
-    behind-slot-requires
+    gone-by-requires
     loop2-less-3
     loop2-again-3
-    -- the next stretch
+    -- the row of slots that a round takes
     (λ c. search needs)
     (λ c κs. search needs)
     (λ c κs. search needs)
+    (λ c κs. search needs)
+    (λ c κs. search needs)
+    loop3-holds
+    (λ c κs. search needs)
+    mul-met
+    element-copy-out-met
+    (λ c κs. search needs)
+    with-slot-requires
+    (λ c κs. search needs)
+    add-look
+    loop3-less
+    loop3-again
+    -- the next stretch
     (λ c κs. search needs)
     loop-less-3
     loop-again-3
@@ -1107,8 +1235,6 @@ drive-spec =
     mul-record-2
     element-copy-out-record-2
     add-m-2
-    gone-behind-requires
-    behind-slot-requires-2
     -- a fork
     (λ c. search needs)
     (λ c κs. search needs)
@@ -1117,17 +1243,18 @@ drive-spec =
     mul-parent-2
     element-set-from-parent
     (λ c κs. search needs)
-    mul-t125
+    mul-t131
     element-set-from-m-4
     (λ c κs. search needs)
-    (λ c κs. search needs)
+    stopped-at-requires
     -- an ended side
     ended-task-requires
-    mul-t132
+    mul-t139
     element-set-from-m-5
     (λ c κs. search needs)
+    stopped-at-requires-2
     -- pairs
-    loop3-holds
+    loop4-holds
     mul-moved
     add-moved
     mul-moved-2
@@ -1137,20 +1264,20 @@ drive-spec =
     mul-moved-4
     element-set-from-moved
     sub-pairs
-    loop3-less
-    loop3-again
-    -- registers cleared
-    loop4-holds
-    (λ c κs. search needs)
-    mul-t148
-    add-t149
-    mul-t150
-    element-set-from-m-6
-    add-i
     loop4-less
     loop4-again
-    -- registers copied
+    -- registers cleared
     loop5-holds
+    (λ c κs. search needs)
+    mul-t156
+    add-t157
+    mul-t158
+    element-set-from-m-6
+    add-i
+    loop5-less
+    loop5-again
+    -- registers copied
+    loop6-holds
     loop-less-4
     loop-again-4
     mul-copied
@@ -1162,8 +1289,8 @@ drive-spec =
     mul-copied-4
     element-set-from-copied
     add-i-2
-    loop5-less
-    loop5-again
+    loop6-less
+    loop6-again
     loop-less-5
     loop-again-5
     -- the end
