@@ -2,12 +2,12 @@
 use mathlib.Core.Path.{_≡_, ap, _∙_}
 use mathlib.Core.Bool.{Bool, true, false}
 use mathlib.Core.List.{List, []}
-use Prim.Native.Nat.{ℕ, _-_, _<_}
+use Prim.Native.Nat.{ℕ, _-_, _<_, _≤_}
 use native.Mathlib.Omega.{arith}
 use lib.Dec.{leb}
 use lib.IntN.{ℤ}
 use lib.ListN.{length}
-use borrow.Author.Tests.{leb-true, lt-ltb, ne-eqb}
+use borrow.Author.Tests.{leb-true, le-leb, lt-ltb, ne-eqb}
 use Rattle.facts.proofs.Tests.{both-true}
 use Rattle.image.specs.Layout.{programOf}
 use Rattle.image.specs.Questions.{ask, orElse}
@@ -35,6 +35,7 @@ use Rattle.machine.proofs.PickLaws.{Passed, StatePassed, call-passed}
 pub record DispatchPassed (cells : List ℕ) (words : List ℤ) (lanes : ℕ) (m : State) : Type 0 where
   pub state : StatePassed cells words m
   pub some-lanes : 0 < lanes
+  pub few-lanes : lanes ≤ 8
 
 module _ (cells : List ℕ) (words : List ℤ) (lanes : ℕ) (m : State) where
   pub dispatch-passed : dispatchNo cells words lanes m ≡ 0 → DispatchPassed cells words lanes m
@@ -43,17 +44,21 @@ module _ (cells : List ℕ) (words : List ℤ) (lanes : ℕ) (m : State) where
       let p = or-else-both (callNo cells (length words)) _ e in
       let a = ask-yes (lanesAllowed lanes) 41 _ tt (p .1) in
       let b = ask-yes (shape (programOf cells) m) 20 0 tt (a .1) in
-      let some = leb-true 1 lanes (both-true (leb 1 lanes) (leb lanes 8) (a .0) .0) in
-      record { state = record { passed = call-passed cells words (p .0); shaped = b .0 }; some-lanes = omega (arith, some) }
+      let both = both-true (leb 1 lanes) (leb lanes 8) (a .0) in
+      record {
+        state = record { passed = call-passed cells words (p .0); shaped = b .0 };
+        some-lanes = omega (arith, leb-true 1 lanes (both .0));
+        few-lanes = leb-true lanes 8 (both .1);
+      }
 
   -- and the other way round
   pub passed-dispatch : Passed cells words → lanesAllowed lanes ≡ true → shape (programOf cells) m ≡ true → dispatchNo cells words lanes m ≡ 0
   unfolding dispatchNoBy orElse
   passed-dispatch x allows shaped = rw (x .program, x .lent .few-words, x .lent .whole, allows, shaped)
 
-  -- rounds have a lane
-  pub starts-on : (budget : ℕ) → 0 < lanes → startsIn (Rounds lanes budget) m ≡ true
-  starts-on budget some = lt-ltb 0 lanes some
+  -- rounds have 1 to 8 lanes
+  pub starts-on : (budget : ℕ) → 0 < lanes → lanes ≤ 8 → startsIn (Rounds lanes budget) m ≡ true
+  starts-on budget some few = rw (lt-ltb 0 lanes some, le-leb lanes 8 few)
 
   module _ (budget : ℕ) where
     pub dispatch-refused : (n : ℕ) → n ≡ dispatchNo cells words lanes m → (n ≡ 0 → ⊥)

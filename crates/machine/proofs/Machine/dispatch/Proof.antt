@@ -41,7 +41,8 @@ drive-requires c κs =
     let a = u .before .before .before .before .before .before .args in
     let x = dispatch-passed (a .cells .now) (a .words .now) (a .lanes) (a .self .state) (sym (u .before .before .before .before .ask-dispatch .ensures) ∙ u .before .before .before .if1 .left) in
     let s = x .state in
-    (s .passed .program, whole-length (s .passed), s .shaped, starts-on (a .cells .now) (a .words .now) (a .lanes) (a .self .state) (a .budget) (x .some-lanes))
+    let starts = starts-on (a .cells .now) (a .words .now) (a .lanes) (a .self .state) (a .budget) (x .some-lanes) (x .few-lanes) in
+    (s .passed .program, whole-length (s .passed), s .shaped, starts)
 
 end-of-requires : tie.Need-end-of-requires
 end-of-requires c κs = search needs
