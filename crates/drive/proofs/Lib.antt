@@ -11,7 +11,7 @@ pub mod Intervals
 pub mod CourseLaws
 pub mod Searching
 pub mod Seeking
-pub mod Places
+pub mod Positions
 pub mod Passing
 pub mod ListLaws
 pub mod Taking

@@ -20,14 +20,14 @@ use Rattle.drive.specs.Ending.{jobEnded}
 use Rattle.drive.specs.Issue.{slotNo, issued}
 use Rattle.drive.specs.Courses.{Next, over, turn, Run, follows}
 use Rattle.drive.specs.Listing.{listed, listFrom}
-use Rattle.turns.specs.declared.course.Place.{Place}
+use Rattle.turns.specs.declared.course.Position.{Position}
 use Rattle.turns.specs.Stretches.{stopAt, nextListed}
 use Rattle.turns.specs.Walk.{walksOn, to, goneBy}
 use Rattle.drive.specs.Driving.{left}
 use Rattle.drive.proofs.CourseLaws.{stays, picks-turn}
 use Rattle.drive.proofs.IssueLaws.{issued-work}
 use Rattle.drive.proofs.SlotQuestions.{far-refused, idle-refused, full-refused}
-use Rattle.drive.proofs.Places.{Walks, Goes, goes, rests, no-picks-left, Comes, comes-none, comes-one, stop-most}
+use Rattle.drive.proofs.Positions.{Walks, Goes, goes, rests, no-picks-left, Comes, comes-none, comes-one, stop-most}
 
 -- ---- the chooser
 
@@ -92,16 +92,16 @@ module _ (cells : List ℕ) (words : List ℤ) where
   -- ---- where the loop stands
 
   -- at the stretch's only look, before it or behind it
-  pub record Looks (order : List ℕ) (m : State) (p : Place) (rest : List ℕ) : Type 0 where
+  pub record Looks (order : List ℕ) (m : State) (p : Position) (rest : List ℕ) : Type 0 where
     pub ahead : rest ≡ p .slot ∷ drop (p .begun) order
     pub one-pick : p .until ≡ stopAt (m .work) 1
     pub one-look : p .ahead ≡ 1
 
-  pub record Looked (order : List ℕ) (m : State) (p : Place) (rest : List ℕ) : Type 0 where
+  pub record Looked (order : List ℕ) (m : State) (p : Position) (rest : List ℕ) : Type 0 where
     pub behind-it : rest ≡ drop (p .begun) order
     pub no-more : walksOn false (m .work) p ≡ false
 
-  pub record Listing (order : List ℕ) (whole : Driven) (m : State) (p : Place) (picks : ℕ) : Type 0 where
+  pub record Listing (order : List ℕ) (whole : Driven) (m : State) (p : Position) (picks : ℕ) : Type 0 where
     pub rest : List ℕ
     pub fuel : ℕ
     pub enough : length rest ≤ fuel
@@ -110,7 +110,7 @@ module _ (cells : List ℕ) (words : List ℤ) where
     pub stands : Looks order m p rest ⊎ Looked order m p rest
 
   -- before the first
-  pub list-begins : (order : List ℕ) (m : State) (p : Place) → p .begun ≡ 0 → p .until ≤ m .work → p .row ≡ 0 → Listing order (left (listFrom cells words m order)) m p 0
+  pub list-begins : (order : List ℕ) (m : State) (p : Position) → p .begun ≡ 0 → p .until ≤ m .work → p .row ≡ 0 → Listing order (left (listFrom cells words m order)) m p 0
   list-begins order m p none spent rowless = record {
     rest = order;
     fuel = length order;
@@ -120,7 +120,7 @@ module _ (cells : List ℕ) (words : List ℤ) where
     stands = inr (record { behind-it = ap (λ n. drop n order) (sym none); no-more = no-picks-left m p spent });
   }
 
-  module _ {order : List ℕ} {whole : Driven} {m : State} {p : Place} {picks : ℕ} (x : Listing order whole m p picks) where
+  module _ {order : List ℕ} {whole : Driven} {m : State} {p : Position} {picks : ℕ} (x : Listing order whole m p picks) where
     -- where the walk goes on, the look is ahead
     looks : Walks m p → Looks order m p (x .rest)
     looks w = go (x .stands)
@@ -148,7 +148,7 @@ module _ (cells : List ℕ) (words : List ℤ) where
 
     -- its task is picked
     pub list-picked : Walks m p → eqb (slotNo m (p .slot)) 0 ≡ true → {m′ : State} → m′ ≡ issued cells words m (p .slot)
-        → {q : Place} → q .until ≡ p .until → q .begun ≡ p .begun → q .row ≡ p .row → Listing order whole m′ q (picks + 1)
+        → {q : Position} → q .until ≡ p .until → q .begun ≡ p .begun → q .row ≡ p .row → Listing order whole m′ q (picks + 1)
     list-picked walks ready {m′} is {q} until begun row =
         let l = looks walks in
         let n : length (x .rest) ≡ suc (length (drop (p .begun) order)) = ap length (l .ahead) in
@@ -236,7 +236,7 @@ module _ (cells : List ℕ) (words : List ℤ) where
           → Comes whole m picks b (length order) (λ _. 0) (λ p. Listing order whole m p picks) (nextListed (k ∷ ks) b (m .places) (m .work))
       further beyond rest = rw (nextListed, le-ltb k (m .places) beyond) (later rest)
 
-  pub list-next : {order : List ℕ} {whole : Driven} {m : State} {p : Place} {picks : ℕ} → Listing order whole m p picks
+  pub list-next : {order : List ℕ} {whole : Driven} {m : State} {p : Position} {picks : ℕ} → Listing order whole m p picks
       → walksOn false (m .work) p ≡ false
       → Comes whole m picks (p .begun) (length order) (λ _. 0) (λ q. Listing order whole m q picks) (nextListed (drop (p .begun) order) (p .begun) (m .places) (m .work))
   list-next {order} {whole} {m} {p} {picks} x h =

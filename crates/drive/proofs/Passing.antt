@@ -16,7 +16,7 @@ use Rattle.drive.specs.Ending.{jobEnded}
 use Rattle.drive.specs.Issue.{issued}
 use Rattle.drive.specs.Courses.{over, turn, Run, begun, pickedAt, follows}
 use Rattle.drive.specs.Passes.{nextPick, stops, passes, runs, runFrom}
-use Rattle.turns.specs.declared.course.Place.{Place}
+use Rattle.turns.specs.declared.course.Position.{Position}
 use Rattle.turns.specs.Stretches.{stopAt, walkFrom}
 use Rattle.turns.specs.Walk.{walksOn, behind, to, goneBy}
 use Rattle.drive.specs.Driving.{left}
@@ -25,7 +25,7 @@ use Rattle.drive.proofs.Models.{Allowed}
 use Rattle.drive.proofs.ShapeLaws.{Fits}
 use Rattle.drive.proofs.IssueLaws.{issued-work}
 use Rattle.drive.proofs.Quiet.{running-open, quiet-ended}
-use Rattle.drive.proofs.Places.{rests}
+use Rattle.drive.proofs.Positions.{rests}
 use Rattle.drive.proofs.Seeking.{Seeks, Quiet, Alone, finds, none-runs, goes-by, begins, begins-behind, comes-back}
 
 -- ---- the run
@@ -82,7 +82,7 @@ module _ (cells : List ℕ) (words : List ℤ) where
 
   -- ---- where the loop stands
 
-  pub record Passing (whole : Driven) (m : State) (p : Place) (picks : ℕ) : Type 0 where
+  pub record Passing (whole : Driven) (m : State) (p : Position) (picks : ℕ) : Type 0 where
     pub from : ℕ
     pub passed : ℕ
     pub counted : m .places ≤ passed + p .ahead
@@ -94,7 +94,7 @@ module _ (cells : List ℕ) (words : List ℤ) where
 
   -- at the first slot of the stretch
   pub pass-begins : (m : State) (slot budget : ℕ) → slot < m .places
-      → Passing (left (runFrom cells words m slot budget)) m (walkFrom slot (m .places) (stopAt (m .work) budget) 1 .place) 0
+      → Passing (left (runFrom cells words m slot budget)) m (walkFrom slot (m .places) (stopAt (m .work) budget) 1 .first) 0
   pass-begins m slot budget below = record {
     from = slot;
     passed = 0;
@@ -110,7 +110,7 @@ module _ (cells : List ℕ) (words : List ℤ) where
         enough budget (begun m slot) (omega arith) ∙ ap (λ n. runs cells words (n - m .work) (begun m slot)) (sym n)));
   }
 
-  module _ {whole : Driven} {m : State} {p : Place} {picks : ℕ} (x : Passing whole m p picks) where
+  module _ {whole : Driven} {m : State} {p : Position} {picks : ℕ} (x : Passing whole m p picks) where
     -- places in which nothing runs
     pub pass-goes-by : (w : ℕ) → p .slot + w ≤ m .places → Quiet m (p .slot) (p .slot + w) → Passing whole m (goneBy (m .places) w p) picks
     pass-goes-by w fits quiet = record {

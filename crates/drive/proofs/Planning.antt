@@ -25,7 +25,7 @@ use Rattle.task.specs.Execute.{jointOf}
 use Rattle.task.proofs.Kind.{the-type}
 use Rattle.drive.specs.declared.State.{State}
 use Rattle.turns.specs.declared.moves.Moves.{Moves}
-use Rattle.turns.specs.declared.course.Place.{Place}
+use Rattle.turns.specs.declared.course.Position.{Position}
 use Rattle.turns.specs.declared.course.Stretch.{Stretch}
 use Rattle.drive.specs.Slots.{at, ticked, slotsOf}
 use Rattle.turns.specs.Moving.{forkMoves, endMoves, joinMoves}
@@ -39,12 +39,12 @@ use Rattle.drive.proofs.SettleSafety.{fits-safe}
 use Rattle.drive.proofs.InPlace.{withTaskAt}
 use Rattle.drive.proofs.PlanLaws.{moved, pairedAt, clearedAt, PlanFits, tasksJoined, join-moved, join-fits, end-fits, fork-fits}
 use Rattle.drive.proofs.Issuing.{ends-steps, end-put, endFrame, forkedAt, forks-issued, forks-room}
-use Rattle.drive.proofs.Places.{goes, stopped-kept, stopped-begun, Comes, comes-none, comes-one}
+use Rattle.drive.proofs.Positions.{goes, stopped-kept, stopped-begun, Comes, comes-none, comes-one}
 use Rattle.drive.proofs.Walking.{Given, GivenAllowed, result, mostStretches, At, tile, rise-is}
 use Rattle.drive.proofs.Turning.{Turns, none-due, joins, ends, forks, Stopped}
 
 -- what is ahead of the loop, as a number that every turn makes smaller: stretches, picks and looks of this one, and looks at joins
-abbrev pub ahead : Given → State → Place → ℕ → ℕ
+abbrev pub ahead : Given → State → Position → ℕ → ℕ
 ahead g m p o =
     281474976710656 * (mostStretches (g .course) (g .order) - p .begun) + 200 * (65 * (p .until - m .work) + p .ahead) + 2 * o
 
@@ -62,19 +62,19 @@ moved-tasks plan m =
     cleared-tasks : (n : State) → clearedAt plan n .tasks ≡ n .tasks
     cleared-tasks n = by-test (ltb 0 (plan .clears)) (λ b. rw b) (λ b. rw b)
 
-pub record Planned (g : Given) (before : ℕ) (m : State) (plan : Moves) (p : Place) (o side : ℕ) : Type 0 where
+pub record Planned (g : Given) (before : ℕ) (m : State) (plan : Moves) (p : Position) (o side : ℕ) : Type 0 where
   pub plan-fits : PlanFits plan
   pub then-turns : {m′ : State} → m′ ≡ moved plan m → Turns g m′ p o side
   pub less : ahead g m p o < before
   pub grows : (g .state .work ≤ m .work) × (m .work ≤ workLimit)
 
-pub then-less : {g : Given} {before : ℕ} {m : State} {plan : Moves} {p : Place} {o side : ℕ} → Planned g before m plan p o side
+pub then-less : {g : Given} {before : ℕ} {m : State} {plan : Moves} {p : Position} {o side : ℕ} → Planned g before m plan p o side
     → {m′ : State} → m′ ≡ moved plan m → ahead g m′ p o < before
 then-less {g} {before} {m} {plan} {p} {o} x {m′} is =
     let same : m′ .work ≡ m .work = ap (λ (n : State). n .work) is ∙ moved-work plan m in
     omega (arith, x .less)
 
-pub then-grows : {g : Given} {before : ℕ} {m : State} {plan : Moves} {p : Place} {o side : ℕ} → Planned g before m plan p o side
+pub then-grows : {g : Given} {before : ℕ} {m : State} {plan : Moves} {p : Position} {o side : ℕ} → Planned g before m plan p o side
     → {m′ : State} → m′ ≡ moved plan m → (g .state .work ≤ m′ .work) × (m′ .work ≤ workLimit)
 then-grows {g} {before} {m} {plan} x {m′} is =
     let same : m′ .work ≡ m .work = ap (λ (n : State). n .work) is ∙ moved-work plan m in
@@ -84,12 +84,12 @@ pub less-with : {a b : ℕ} (n : ℕ) → a < b → a + n < b + n
 less-with n h = omega arith
 
 -- against a larger number
-pub planned-below : {g : Given} {before after : ℕ} {m : State} {plan : Moves} {p : Place} {o side : ℕ} → before ≤ after
+pub planned-below : {g : Given} {before after : ℕ} {m : State} {plan : Moves} {p : Position} {o side : ℕ} → before ≤ after
     → Planned g before m plan p o side → Planned g after m plan p o side
 planned-below le x = record { plan-fits = x .plan-fits; then-turns = λ {m′} is. x .then-turns is; less = omega (arith, x .less); grows = x .grows }
 
 -- with other names for its numbers
-pub planned-as : {g : Given} {before : ℕ} {m : State} {plan : Moves} {p p′ : Place} {o o′ side side′ : ℕ} → p′ ≡ p → o′ ≡ o → side′ ≡ side
+pub planned-as : {g : Given} {before : ℕ} {m : State} {plan : Moves} {p p′ : Position} {o o′ side side′ : ℕ} → p′ ≡ p → o′ ≡ o → side′ ≡ side
     → Planned g before m plan p o side → Planned g before m plan p′ o′ side′
 planned-as {g} {before} {m} {plan} {p} {p′} {o} {o′} {side} a b c x =
     subst⁻¹ (λ n. Planned g before m plan p′ o′ n) c
@@ -99,7 +99,7 @@ planned-as {g} {before} {m} {plan} {p} {p′} {o} {o′} {side} a b c x =
 module _ (g : Given) (allowed : GivenAllowed g) where
   -- ---- a join: the two records are written
 
-  module _ {m : State} {p : Place} {o side : ℕ} (t : Turns g m p o side) (q w : ℕ) (some : 0 < o) (width : at m side .task .places ≡ w)
+  module _ {m : State} {p : Position} {o side : ℕ} (t : Turns g m p o side) (q w : ℕ) (some : 0 < o) (width : at m side .task .places ≡ w)
       (first : q ≡ side - side % (2 * w)) (is-due : due (slotsOf (programOf (g .cells))) m q w o ≡ true) (wide : 0 < w) (room : q + w < 64)
       {j : Joint} (e : j ≡ jointOf (programOf (g .cells)) (at m q .task) (at m (q + w) .task)) where
     pub join-planned : (g .state .work ≤ m .work) × (m .work ≤ workLimit) → {n : State} {plan : Moves}
@@ -114,7 +114,7 @@ module _ (g : Given) (allowed : GivenAllowed g) where
 
   -- ---- an instruction that ends its side, or forks
 
-  module _ {m : State} {p : Place} (a : At g m p) {e : Executed} (s : Stopped (g .cells) (g .words) m p e) where
+  module _ {m : State} {p : Position} (a : At g m p) {e : Executed} (s : Stopped (g .cells) (g .words) m p e) where
     abbrev k : ℕ
     k = p .slot
 
@@ -193,28 +193,28 @@ module _ (g : Given) (allowed : GivenAllowed g) where
 
 -- ---- the next stretch, or the end
 
-module _ (g : Given) {m : State} {p : Place} (a : At g m p) {s : Stretch}
+module _ (g : Given) {m : State} {p : Position} (a : At g m p) {s : Stretch}
     (c : Comes (result g) m (a .picks) (p .begun) (mostStretches (g .course) (g .order)) (roundsOf (g .course)) (λ q. At g m q) s) where
-  pub next-at : s .over ≡ false → At g m (s .place)
+  pub next-at : s .over ≡ false → At g m (s .first)
   next-at o = go c
     where
-      go : Comes (result g) m (a .picks) (p .begun) (mostStretches (g .course) (g .order)) (roundsOf (g .course)) (λ q. At g m q) s → At g m (s .place)
+      go : Comes (result g) m (a .picks) (p .begun) (mostStretches (g .course) (g .order)) (roundsOf (g .course)) (λ q. At g m q) s → At g m (s .first)
       go (comes-none over b u r e) = clash over o
       go (comes-one over f x) = x
 
-  pub next-ends : s .over ≡ true → result g ≡ record { state = m; picks = m .work - g .state .work; rounds = roundsOf (g .course) (s .place .begun) }
+  pub next-ends : s .over ≡ true → result g ≡ record { state = m; picks = m .work - g .state .work; rounds = roundsOf (g .course) (s .first .begun) }
   next-ends o = go c
     where
       go : Comes (result g) m (a .picks) (p .begun) (mostStretches (g .course) (g .order)) (roundsOf (g .course)) (λ q. At g m q) s
-          → result g ≡ record { state = m; picks = m .work - g .state .work; rounds = roundsOf (g .course) (s .place .begun) }
-      go (comes-none over b u r e) = e ∙ ap (λ (n : ℕ). record { state = m; picks = n; rounds = roundsOf (g .course) (s .place .begun) }) (sym (rise-is g a))
+          → result g ≡ record { state = m; picks = m .work - g .state .work; rounds = roundsOf (g .course) (s .first .begun) }
+      go (comes-none over b u r e) = e ∙ ap (λ (n : ℕ). record { state = m; picks = n; rounds = roundsOf (g .course) (s .first .begun) }) (sym (rise-is g a))
       go (comes-one over f x) = clash o over
 
-  pub next-less : ahead g m (s .place) 0 + cond (s .over) 0 1 < ahead g m p 0 + 1
+  pub next-less : ahead g m (s .first) 0 + cond (s .over) 0 1 < ahead g m p 0 + 1
   next-less = go c
     where
       go : Comes (result g) m (a .picks) (p .begun) (mostStretches (g .course) (g .order)) (roundsOf (g .course)) (λ q. At g m q) s
-          → ahead g m (s .place) 0 + cond (s .over) 0 1 < ahead g m p 0 + 1
+          → ahead g m (s .first) 0 + cond (s .over) 0 1 < ahead g m p 0 + 1
       go (comes-none over b u r e) = let z : _≡_ {A = ℕ} (cond (s .over) 0 1) 0 = rw over in omega arith
       go (comes-one over f x) =
           let z : _≡_ {A = ℕ} (cond (s .over) 0 1) 1 = rw over in omega (arith, f .begun-more, f .begun-most, f .ahead-most, f .until-most)

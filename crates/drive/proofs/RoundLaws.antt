@@ -12,7 +12,7 @@ use lib.IntN.{ℤ}
 use borrow.Author.Tests.{ltb-true, lt-ltb, le-ltb, lt-leb, le-leb}
 use Rattle.facts.proofs.Tests.{both-true, clash, by-test, by-below}
 use Rattle.task.specs.Frames.{running, workLimit}
-use Rattle.turns.specs.declared.course.Place.{Place}
+use Rattle.turns.specs.declared.course.Position.{Position}
 use Rattle.turns.specs.Rows.{packed, slotIn}
 use Rattle.turns.specs.Stretches.{done, roundFrom, nextRound}
 use Rattle.turns.specs.Walk.{walksOn, taking, goesAgain, roundOn, leftOf}
@@ -34,7 +34,7 @@ use Rattle.drive.proofs.Seeking.{Quiet}
 use Rattle.drive.proofs.Taking.{taken-past, taken-same, taken-some, Found, taken-found}
 use Rattle.drive.proofs.RowLaws.{slot-in-first, others-packed, packed-none, none-packed}
 use Rattle.drive.proofs.Passing.{stops-not, stops-full}
-use Rattle.drive.proofs.Places.{Walks, goes, rests, Comes, comes-none, comes-one}
+use Rattle.drive.proofs.Positions.{Walks, goes, rests, Comes, comes-none, comes-one}
 
 -- ---- the chooser
 
@@ -101,19 +101,19 @@ module _ (cells : List ℕ) (words : List ℤ) (lanes budget : ℕ) where
   slotsLeft m l from = taken m l (m .places - from) from
 
   -- before the first round
-  pub record Between (whole : Driven) (m : State) (p : Place) (picks : ℕ) : Type 0 where
+  pub record Between (whole : Driven) (m : State) (p : Position) (picks : ℕ) : Type 0 where
     pub some-lanes : 0 < lanes
     pub no-picks : p .until ≤ m .work
     pub same : whole ≡ leavesFrom m [] (p .begun) picks
 
   -- these slots are left, and the loop stands at the first
-  pub record InTurn (p : Place) (ks : List ℕ) : Type 0 where
+  pub record InTurn (p : Position) (ks : List ℕ) : Type 0 where
     pub rest-is : p .rest ≡ packed ks
     pub some-rest : 0 < p .rest
     pub slot-is : p .slot ≡ slotIn (p .rest)
 
   -- in a round
-  pub record InRound (whole : Driven) (m : State) (p : Place) (picks : ℕ) : Type 0 where
+  pub record InRound (whole : Driven) (m : State) (p : Position) (picks : ℕ) : Type 0 where
     pub some-lanes : 0 < lanes
     pub has-row : p .row ≡ 0 → ⊥
     pub to-limit : p .until ≡ workLimit
@@ -126,14 +126,14 @@ module _ (cells : List ℕ) (words : List ℤ) (lanes budget : ℕ) where
     pub same : whole ≡ leavesFrom m (slotsLeft m lanes-left from) (p .begun) picks
 
   -- the slot that the loop stands at, and those behind it
-  record Heads (m : State) (p : Place) (l from : ℕ) : Type 0 where
+  record Heads (m : State) (p : Position) (l from : ℕ) : Type 0 where
     rest : List ℕ
     is : slotsLeft m l from ≡ p .slot ∷ rest
     found : Found m l (m .places - from) from (p .slot) rest
     below : p .slot < m .places
     others : p .rest / 128 ≡ packed rest
 
-  heads : (m : State) (p : Place) (l from : ℕ) → m .places ≤ 64 → InTurn p (slotsLeft m l from) → Heads m p l from
+  heads : (m : State) (p : Position) (l from : ℕ) → m .places ≤ 64 → InTurn p (slotsLeft m l from) → Heads m p l from
   heads m p l from few t = go (slotsLeft m l from) refl
     where
       go : (ks : List ℕ) → slotsLeft m l from ≡ ks → Heads m p l from
@@ -152,15 +152,15 @@ module _ (cells : List ℕ) (words : List ℤ) (lanes budget : ℕ) where
           }
 
   -- the loop goes on at a slot of the state, and no round is begun that the budget has not
-  pub record Lands (whole : Driven) (m : State) (p : Place) (picks : ℕ) : Type 0 where
+  pub record Lands (whole : Driven) (m : State) (p : Position) (picks : ℕ) : Type 0 where
     pub slot-below : p .slot < m .places
     pub begun-most : p .begun ≤ budget
     pub stands : InRound whole m p picks
 
-  round-below : {whole : Driven} {m : State} {p : Place} {picks : ℕ} → InRound whole m p picks → m .places ≤ 64 → 0 < p .ahead → p .slot < m .places
+  round-below : {whole : Driven} {m : State} {p : Position} {picks : ℕ} → InRound whole m p picks → m .places ≤ 64 → 0 < p .ahead → p .slot < m .places
   round-below {m = m} {p = p} x few some = heads m p (x .lanes-left) (x .from) few (x .in-turn some) .below
 
-  module _ {whole : Driven} {m : State} {p : Place} {picks : ℕ} (x : InRound whole m p picks) (few : m .places ≤ 64) where
+  module _ {whole : Driven} {m : State} {p : Position} {picks : ℕ} (x : InRound whole m p picks) (few : m .places ≤ 64) where
     -- a task runs at the slot
     pub round-runs : Walks m p → running (at m (p .slot)) ≡ true
     round-runs walks = heads m p (x .lanes-left) (x .from) few (x .in-turn (goes {m = m} {p = p} walks .places-left)) .found .runs
@@ -317,7 +317,7 @@ module _ (cells : List ℕ) (words : List ℤ) (lanes budget : ℕ) where
 
   -- ---- the next round, or the end
 
-  module _ (some-lanes : 0 < lanes) (m : State) (p : Place) {interval places : ℕ} (allowed : Allowed cells interval places) (fits : Fits cells interval places m)
+  module _ (some-lanes : 0 < lanes) (m : State) (p : Position) {interval places : ℕ} (allowed : Allowed cells interval places) (fits : Fits cells interval places m)
       (few : m .places ≤ 64) (picks : ℕ) {whole : Driven} (same : whole ≡ leavesFrom m [] (p .begun) picks) {row : ℕ} (is-row : row ≡ packed (roundOf lanes m)) where
     abbrev kept : Rounding
     kept = record { slots = []; done = p .begun; budget = budget }

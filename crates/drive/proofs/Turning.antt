@@ -22,7 +22,7 @@ use Rattle.turns.specs.declared.course.Course.{Course}
 use Rattle.drive.specs.Slots.{at, put, ticked, Sized, slotsOf}
 use Rattle.drive.specs.Settings.{rank}
 use Rattle.drive.specs.Issue.{issued}
-use Rattle.turns.specs.declared.course.Place.{Place}
+use Rattle.turns.specs.declared.course.Position.{Position}
 use Rattle.turns.specs.Walk.{goneBy, pickedOn, stoppedAt, width}
 use Rattle.turns.specs.Kinds.{runsOn}
 use Rattle.drive.proofs.RankLaws.{rank-power}
@@ -35,13 +35,13 @@ use Rattle.drive.proofs.Issuing.{Fetched}
 use Rattle.drive.proofs.IssueLaws.{issued-fits, issued-work}
 use Rattle.drive.proofs.SettleLaws.{settle-ends, settle-stops}
 use Rattle.drive.proofs.SettleSafety.{SettleSafe, turn, fits-safe, put-back-safe}
-use Rattle.drive.proofs.Places.{Walks, goes, picked-kept}
+use Rattle.drive.proofs.Positions.{Walks, goes, picked-kept}
 use Rattle.drive.proofs.Seeking.{Quiet}
 use Rattle.drive.proofs.Walking.{Given, given, GivenAllowed, At, tile, picked-stop, picked-on, gone-by}
 
 module _ (g : Given) where
   -- the state that counts is the one with the joins made that are due from depth `open` on
-  pub record Turns (m : State) (p : Place) (open′ side : ℕ) : Type 0 where
+  pub record Turns (m : State) (p : Position) (open′ side : ℕ) : Type 0 where
     pub head : At g (settle (slotsOf (programOf (g .cells))) open′ m side) p
     pub safe : SettleSafe (g .cells) m
     pub sized : Sized m
@@ -50,7 +50,7 @@ module _ (g : Given) where
 
   module _ (allowed : GivenAllowed g) where
     -- no join is looked at
-    pub none-due : {m : State} {p : Place} (o side : ℕ) → o ≡ 0 → side < 64 → At g m p → Turns m p o side
+    pub none-due : {m : State} {p : Position} (o side : ℕ) → o ≡ 0 → side < 64 → At g m p → Turns m p o side
     none-due {m} {p} o side none below a = record {
       head = subst⁻¹ (λ n. At g n p) (settle-ends (g .cells) m side o none) a;
       safe = fits-safe allowed m (a .fits);
@@ -59,7 +59,7 @@ module _ (g : Given) where
       few = omega arith;
     }
 
-    module _ {m : State} {p : Place} {o side : ℕ} (t : Turns m p o side) where
+    module _ {m : State} {p : Position} {o side : ℕ} (t : Turns m p o side) where
       -- where none is, the state is a run's
       pub at-head : o ≡ 0 → At g m p
       at-head z = subst (λ n. At g n p) (settle-ends (g .cells) m side o z) (t .head)
@@ -84,7 +84,7 @@ module _ (g : Given) where
             few = omega (arith, t .few);
           }
 
-    module _ {m : State} {p : Place} (a : At g m p) (walks : Walks m p) (runs-there : running (at m (p .slot)) ≡ true) where
+    module _ {m : State} {p : Position} (a : At g m p) (walks : Walks m p) (runs-there : running (at m (p .slot)) ≡ true) where
       abbrev k : ℕ
       k = p .slot
 
@@ -126,16 +126,16 @@ module _ (g : Given) where
 -- ---- the walk, until an instruction forks or ends its side
 
 -- from the first state and place of the walk the course comes to these
-pub record Leads (cells : List ℕ) (words : List ℤ) (order : List ℕ) (course : Course) (m₀ : State) (p₀ : Place) (m : State) (p : Place) : Type 0 where
+pub record Leads (cells : List ℕ) (words : List ℤ) (order : List ℕ) (course : Course) (m₀ : State) (p₀ : Position) (m : State) (p : Position) : Type 0 where
   pub leads : (state : State) → GivenAllowed (given cells words state order course) → At (given cells words state order course) m₀ p₀
       → At (given cells words state order course) m p
   pub shorter : 65 * (p .until - m .work) + p .ahead ≤ 65 * (p₀ .until - m₀ .work) + p₀ .ahead
   pub begun-least : p₀ .begun ≤ p .begun
 
-module _ {cells : List ℕ} {words : List ℤ} {order : List ℕ} {course : Course} {m₀ : State} {p₀ : Place} {m : State} {p : Place}
+module _ {cells : List ℕ} {words : List ℤ} {order : List ℕ} {course : Course} {m₀ : State} {p₀ : Position} {m : State} {p : Position}
     (l : Leads cells words order course m₀ p₀ m p) (walks : Walks m p) where
   -- the places of a slot where nothing runs are gone by
-  pub leads-by : running (at m (p .slot)) ≡ false → {w : ℕ} → w ≡ width (at m (p .slot) .task .places) → {q : Place} → q ≡ goneBy (m .places) w p
+  pub leads-by : running (at m (p .slot)) ≡ false → {w : ℕ} → w ≡ width (at m (p .slot) .task .places) → {q : Position} → q ≡ goneBy (m .places) w p
       → Leads cells words order course m₀ p₀ m q
   leads-by idle {w} wide next = rw next (record {
     leads = λ state allowed a₀. rw wide (gone-by (given cells words state order course) allowed (l .leads state allowed a₀) walks idle);
@@ -146,7 +146,7 @@ module _ {cells : List ℕ} {words : List ℤ} {order : List ℕ} {course : Cour
   -- the slot's task is picked, and runs on
   pub leads-on : m .places ≤ 64 → p .ahead ≤ 64 → running (at m (p .slot)) ≡ true → {m′ : State} → m′ ≡ issued cells words m (p .slot)
       → running (at m′ (p .slot)) ≡ true → ((i : ℕ) → (i ≡ p .slot → ⊥) → running (at m′ i) ≡ running (at m i))
-      → {q : Place} → q ≡ pickedOn (m .places) (m′ .work) (at m (p .slot) .task .places) p
+      → {q : Position} → q ≡ pickedOn (m .places) (m′ .work) (at m (p .slot) .task .places) p
       → Leads cells words order course m₀ p₀ m′ q
   leads-on few most on {m′} is still others next = rw next (
       let kept = picked-kept (m .places) (at m (p .slot) .task .places) p few most (m′ .work) in
@@ -159,7 +159,7 @@ module _ {cells : List ℕ} {words : List ℤ} {order : List ℕ} {course : Cour
       })
 
 -- an instruction was carried out on small values, and the state does not have it yet
-pub record Stopped (cells : List ℕ) (words : List ℤ) (m : State) (p : Place) (e : Executed) : Type 0 where
+pub record Stopped (cells : List ℕ) (words : List ℤ) (m : State) (p : Position) (e : Executed) : Type 0 where
   pub walks : Walks m p
   pub runs-there : running (at m (p .slot)) ≡ true
   pub x : Instruction

@@ -17,7 +17,7 @@ use Rattle.drive.specs.declared.State.{State}
 use Rattle.drive.specs.declared.Driven.{Driven}
 use Rattle.turns.specs.declared.course.Course.{Course}
 use Rattle.turns.specs.declared.course.Course.the-variants.{Passes, Listed, Rounds}
-use Rattle.turns.specs.declared.course.Place.{Place}
+use Rattle.turns.specs.declared.course.Position.{Position}
 use Rattle.turns.specs.declared.course.Stretch.{Stretch}
 use Rattle.drive.specs.Slots.{at}
 use Rattle.drive.specs.Settings.{rank}
@@ -37,7 +37,7 @@ use Rattle.drive.proofs.Carrying.{stand}
 use Rattle.drive.proofs.Covering.{width-inside, width-quiet, width-some}
 use Rattle.drive.proofs.Owning.{places-most, places-some}
 use Rattle.drive.proofs.Quiet.{running-open}
-use Rattle.drive.proofs.Places.{Walks, Goes, goes, no-picks-left, Kept, picked-kept, stopped-kept, passed-same, Comes, comes-none, comes-one, stop-most}
+use Rattle.drive.proofs.Positions.{Walks, Goes, goes, no-picks-left, Kept, picked-kept, stopped-kept, passed-same, Comes, comes-none, comes-one, stop-most}
 use Rattle.drive.proofs.Seeking.{Quiet, Alone, alone, behind-below}
 use Rattle.drive.proofs.Passing.{Passing, pass-begins, pass-goes-by, pass-behind, pass-again, pass-rests}
 use Rattle.drive.proofs.ListLaws.{Listing, list-begins, list-goes-by, list-picked, list-next}
@@ -72,19 +72,19 @@ mostStretches (Rounds lanes budget) order = budget
 
 module _ (cells : List ℕ) (words : List ℤ) where
   -- passes before their stretch
-  pub record Unbegun (whole : Driven) (m : State) (p : Place) (picks slot budget : ℕ) : Type 0 where
+  pub record Unbegun (whole : Driven) (m : State) (p : Position) (picks slot budget : ℕ) : Type 0 where
     pub none-begun : p .begun ≡ 0
     pub no-picks : p .until ≤ m .work
     pub none-yet : picks ≡ 0
     pub slot-below : slot < m .places
     pub same : whole ≡ left (runFrom cells words m slot budget)
 
-  abbrev pub Standing : List ℕ → Driven → Course → State → Place → ℕ → Type 0
+  abbrev pub Standing : List ℕ → Driven → Course → State → Position → ℕ → Type 0
   Standing order whole (Passes slot budget) m p picks = Unbegun whole m p picks slot budget ⊎ Passing cells words whole m p picks
   Standing order whole Listed m p picks = Listing cells words order whole m p picks
   Standing order whole (Rounds lanes budget) m p picks = Between cells words lanes budget whole m p picks ⊎ InRound cells words lanes budget whole m p picks
 
-pub record At (g : Given) (m : State) (p : Place) : Type 0 where
+pub record At (g : Given) (m : State) (p : Position) : Type 0 where
   pub fits : Fits (g .cells) (g .state .interval) (g .state .places) m
   pub slot-below : p .slot < m .places
   pub ahead-most : p .ahead ≤ 64
@@ -122,7 +122,7 @@ lanes-few (Passes slot budget) m h = omega arith
 lanes-few Listed m h = omega arith
 lanes-few (Rounds lanes budget) m h = leb-true lanes 8 (both-true (ltb 0 lanes) (leb lanes 8) h .1)
 
-module _ (g : Given) (allowed : GivenAllowed g) {m : State} {p : Place} (a : At g m p) where
+module _ (g : Given) (allowed : GivenAllowed g) {m : State} {p : Position} (a : At g m p) where
   open Given g using (cells, words, order, course)
 
   abbrev k : ℕ
@@ -137,7 +137,7 @@ module _ (g : Given) (allowed : GivenAllowed g) {m : State} {p : Place} (a : At 
   few : m .places ≤ 64
   few = omega (arith, a .fits .its-places, places-most (g .state .places) (allowed .places-allowed))
 
-  abbrev Stands : Course → Driven → State → Place → ℕ → Type 0
+  abbrev Stands : Course → Driven → State → Position → ℕ → Type 0
   Stands c whole n q picks = Standing cells words order whole c n q picks
 
   -- ---- nothing runs at the slot: its places are gone by
@@ -207,12 +207,12 @@ module _ (g : Given) (allowed : GivenAllowed g) {m : State} {p : Place} (a : At 
     on = goes {m = m} {p = p} walks
 
     -- the course stands at a slot of the state, with no more stretches begun than it has
-    record Stood (c : Course) (whole : Driven) (q : Place) : Type 0 where
+    record Stood (c : Course) (whole : Driven) (q : Position) : Type 0 where
       slot-below : q .slot < m .places
       begun-most : q .begun ≤ mostStretches c order
       stands : Stands c whole m′ q (a .picks + 1)
 
-    onward : {q : Place} → Kept p q → Stood course (result g) q → At g m′ q
+    onward : {q : Position} → Kept p q → Stood course (result g) q → At g m′ q
     onward {q} kept s = record {
       fits = fits-on;
       slot-below = omega (arith, same-places, s .slot-below);
@@ -236,7 +236,7 @@ module _ (g : Given) (allowed : GivenAllowed g) {m : State} {p : Place} (a : At 
         pass-behind cells words x allowed (a .fits) (a .slot-below) runs-there (on .picks-left) (a .until-most) is v same-places some inside quiet
 
     -- a round goes on at a slot of the row
-    in-round : (lanes budget : ℕ) {whole : Driven} {q : Place} → Lands cells words lanes budget whole m′ q (a .picks + 1) → Stood (Rounds lanes budget) whole q
+    in-round : (lanes budget : ℕ) {whole : Driven} {q : Position} → Lands cells words lanes budget whole m′ q (a .picks + 1) → Stood (Rounds lanes budget) whole q
     in-round lanes budget y = record { slot-below = omega (arith, y .slot-below, same-places); begun-most = y .begun-most; stands = inr (y .stands) }
 
     -- the task has ended its side, or forked; v of its places are gone by, in the others of which nothing runs
@@ -359,5 +359,5 @@ module _ (g : Given) (allowed : GivenAllowed g) {m : State} {p : Place} (a : At 
           round-next cells words lanes budget (x .some-lanes) m p allowed (a .fits) few (a .picks) (round-ends cells words lanes budget x few h) r
 
 -- the number of picks is the rise in work
-pub rise-is : (g : Given) {m : State} {p : Place} (a : At g m p) → m .work - g .state .work ≡ a .picks
+pub rise-is : (g : Given) {m : State} {p : Position} (a : At g m p) → m .work - g .state .work ≡ a .picks
 rise-is g a = omega (arith, a .all-picks)

@@ -34,7 +34,7 @@ pub fn drive(cells: &[u64], words: &[i64], state: State, order: &[u8], course: C
 {
     let mut m = state;
     let first = m.work;
-    let mut p = course::no_place(0, first);
+    let mut p = course::no_position(0, first);
     // the joins that may be due
     let mut due: u32 = 0;
     let mut side = 0usize;
@@ -142,7 +142,7 @@ pub fn drive(cells: &[u64], words: &[i64], state: State, order: &[u8], course: C
                     row.slots,
                 );
                 over = next.over;
-                p = next.place;
+                p = next.first;
                 continue;
             }
             // the pick that stopped it

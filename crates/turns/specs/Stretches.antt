@@ -7,21 +7,21 @@ use lib.ListN.{drop}
 use Rattle.task.specs.Frames.{workLimit}
 use Rattle.turns.specs.declared.course.Course.{Course}
 use Rattle.turns.specs.declared.course.Course.the-variants.{Passes, Listed, Rounds}
-use Rattle.turns.specs.declared.course.Place.{Place}
+use Rattle.turns.specs.declared.course.Position.{Position}
 use Rattle.turns.specs.declared.course.Stretch.{Stretch}
 use Rattle.turns.specs.Rows.{slotIn}
 
 -- before the first stretch, and behind the last
-abbrev pub nowhere : ℕ → ℕ → Place
+abbrev pub nowhere : ℕ → ℕ → Position
 nowhere begun until = record { slot = 0; ahead = 0; until = until; begun = begun; row = 0; rest = 0; last = 0 }
 
 abbrev pub done : ℕ → Stretch
-done begun = record { over = true; place = nowhere begun 0 }
+done begun = record { over = true; first = nowhere begun 0 }
 
 -- one without a row, from this slot on
 abbrev pub walkFrom : ℕ → ℕ → ℕ → ℕ → Stretch
 walkFrom slot ahead until begun =
-    record { over = false; place = record { slot = slot; ahead = ahead; until = until; begun = begun; row = 0; rest = 0; last = 0 } }
+    record { over = false; first = record { slot = slot; ahead = ahead; until = until; begun = begun; row = 0; rest = 0; last = 0 } }
 
 -- the work after so many picks, at most the limit
 abbrev pub stopAt : ℕ → ℕ → ℕ
@@ -40,7 +40,7 @@ nextListed (k ∷ ks) begun places work = elim (ltb k places) [
 ]
 
 -- along the row from its first slot on, up to this round
-abbrev pub roundFrom : ℕ → ℕ → ℕ → Place
+abbrev pub roundFrom : ℕ → ℕ → ℕ → Position
 roundFrom row begun last = record { slot = slotIn row; ahead = 1; until = workLimit; begun = begun; row = row; rest = row; last = last }
 
 -- of rounds, where the job has not ended and the work is below its limit
@@ -49,7 +49,7 @@ nextRound rounds begun work ended row =
     cond ended (done begun)
     (cond (leb workLimit work) (done begun)
     (cond (leb rounds begun) (done begun)
-    (record { over = false; place = roundFrom row (begun + 1) rounds })))
+    (record { over = false; first = roundFrom row (begun + 1) rounds })))
 
 abbrev pub nextStretch : Course → List ℕ → ℕ → ℕ → ℕ → Bool → ℕ → Stretch
 nextStretch (Passes slot picks) order begun places work ended row = nextPass slot picks begun places work

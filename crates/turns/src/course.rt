@@ -16,7 +16,7 @@ pub enum Course {
 // Where the loop stands: the slot that it looks at next, the places ahead that it may go by without a pick, the work at which the stretch
 // stops, and how many stretches (of an order: slots; of rounds: rounds) are begun. Along rounds also the row of slots that each of them
 // takes, those left of the present one, and the last round that takes them; other courses have no row.
-pub struct Place {
+pub struct Position {
     pub slot: usize,
     pub ahead: u64,
     pub until: u32,
@@ -26,17 +26,17 @@ pub struct Place {
     pub last: u64,
 }
 
-// The next stretch's first place. Or it is over: there is none.
+// The next stretch's first position. Or it is over: there is none.
 pub struct Stretch {
     pub over: bool,
-    pub place: Place,
+    pub first: Position,
 }
 
 // Before the first stretch, and behind the last.
-pub fn no_place(begun: usize, until: u32) -> Place
+pub fn no_position(begun: usize, until: u32) -> Position
     ensures { λ r. ⌜ r ≡ nowhere begun until ⌝ }
 {
-    Place {
+    Position {
         slot: 0,
         ahead: 0,
         until,
@@ -52,7 +52,7 @@ fn no_stretch(begun: usize) -> Stretch
 {
     Stretch {
         over: true,
-        place: no_place(begun, 0),
+        first: no_position(begun, 0),
     }
 }
 
@@ -75,7 +75,7 @@ fn next_pass(slot: usize, picks: u64, begun: usize, places: u64, work: u32) -> S
     }
     Stretch {
         over: false,
-        place: Place {
+        first: Position {
             slot,
             ahead: places,
             until: stop_at(work, picks),
@@ -98,7 +98,7 @@ fn next_listed(order: &[u8], begun: usize, places: u64, work: u32) -> Stretch
         if slot < places {
             return Stretch {
                 over: false,
-                place: Place {
+                first: Position {
                     slot: slot as usize,
                     ahead: 1,
                     until: stop_at(work, 1),
@@ -128,7 +128,7 @@ fn next_round(rounds: u64, begun: usize, work: u32, ended: bool, row: u64) -> St
     }
     Stretch {
         over: false,
-        place: Place {
+        first: Position {
             slot: rows::slot_in(row),
             ahead: 1,
             until: task::WORK_LIMIT,

@@ -1,4 +1,4 @@
-// A row of slots, which rounds take one after the other. One number holds it, since an array would be copied with the place that the loop
+// A row of slots, which rounds take one after the other. One number holds it, since an array would be copied with the position that the loop
 // stands at: seven bits for each slot, the first lowest, and one more than the slot, so that 0 is no slot.
 ghost use mathlib.Core.Path.{_≡_};
 ghost use Prim.Native.Nat.{_<_, _≤_};

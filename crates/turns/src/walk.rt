@@ -1,13 +1,13 @@
 // The walk along a stretch: whether it goes on, and where it stands after a look or a pick. A state of the shape has at most 64 slots, and no
 // task more places: drive, which alone calls these functions, ensures that of slots and places.
-use crate::course::Place;
+use crate::course::Position;
 use crate::rows;
 ghost use mathlib.Core.Path.{_≡_};
 ghost use Prim.Native.Nat.{_<_, _≤_};
 ghost use Rattle.turns.specs.Walk.{walksOn, behind, goneBy, passedOn, goesAgain, roundOn, pickedOn, stoppedAt, width};
 
 // Whether it goes on: nothing has stopped it, picks are left, and places to go by.
-pub fn walks_on(stopped: bool, work: u32, p: Place) -> bool
+pub fn walks_on(stopped: bool, work: u32, p: Position) -> bool
     ensures { λ r. ⌜ r ≡ walksOn stopped work p ⌝ }
 {
     if stopped {
@@ -32,7 +32,7 @@ fn behind_slot(places: u64, k: usize, w: u64) -> usize
 }
 
 // Nothing runs in w places.
-pub fn gone_by(p: Place, places: u64, w: u64) -> Place
+pub fn gone_by(p: Position, places: u64, w: u64) -> Position
     requires { ⌜ (p .slot < 64) × (w ≤ 64) ⌝ }
     ensures { λ r. ⌜ r ≡ goneBy places w p ⌝ }
 {
@@ -47,7 +47,7 @@ pub fn gone_by(p: Place, places: u64, w: u64) -> Place
 }
 
 // A pick of passes, whose task runs on in its w places: it is looked at again where it runs alone, since its places are all that are ahead.
-fn passed_on(p: Place, places: u64, w: u64) -> Place
+fn passed_on(p: Position, places: u64, w: u64) -> Position
     requires { ⌜ (p .slot < 64) × (w ≤ 64) ⌝ }
     ensures { λ r. ⌜ r ≡ passedOn places w p ⌝ }
 {
@@ -61,7 +61,7 @@ fn passed_on(p: Place, places: u64, w: u64) -> Place
 }
 
 // Whether another round takes the same row.
-fn goes_again(p: Place, work: u32) -> bool
+fn goes_again(p: Position, work: u32) -> bool
     ensures { λ r. ⌜ r ≡ goesAgain work p ⌝ }
 {
     if p.last <= p.begun as u64 {
@@ -71,7 +71,7 @@ fn goes_again(p: Place, work: u32) -> bool
 }
 
 // A pick of a round, whose task runs on: the next slot that is left, or the row's first again.
-fn round_on(p: Place, work: u32) -> Place
+fn round_on(p: Position, work: u32) -> Position
     ensures { λ r. ⌜ r ≡ roundOn work p ⌝ }
 {
     let mut q = p;
@@ -92,18 +92,18 @@ fn round_on(p: Place, work: u32) -> Place
 }
 
 // The slot's task was picked and runs on in its w places; the work counts the pick.
-pub fn picked_on(p: Place, places: u64, work: u32, w: u64) -> Place
+pub fn picked_on(p: Position, places: u64, work: u32, w: u64) -> Position
     requires { ⌜ (p .slot < 64) × (w ≤ 64) ⌝ }
     ensures { λ r. ⌜ r ≡ pickedOn places work w p ⌝ }
 {
-    if p.row == 0 {
-        return passed_on(p, places, w);
+    if 0 < p.row {
+        return round_on(p, work);
     }
-    round_on(p, work)
+    passed_on(p, places, w)
 }
 
 // The slot's task was picked, and forked or ended its side; w of its places are gone by. The tasks of later rounds are others.
-pub fn stopped_at(p: Place, places: u64, w: u64) -> Place
+pub fn stopped_at(p: Position, places: u64, w: u64) -> Position
     requires { ⌜ (p .slot < 64) × (w ≤ 64) ⌝ }
     ensures { λ r. ⌜ r ≡ stoppedAt places w p ⌝ }
 {

@@ -31,7 +31,7 @@ use Rattle.turns.specs.declared.course.Stretch.{Stretch}
 use Rattle.drive.specs.Slots.{at, Sized, ticked, slotsOf}
 use Rattle.drive.specs.Issue.{issued}
 use Rattle.drive.specs.Ending.{isEnd, jobEnded}
-use Rattle.turns.specs.declared.course.Place.{Place}
+use Rattle.turns.specs.declared.course.Position.{Position}
 use Rattle.turns.specs.declared.rows.Row.{Row}
 use Rattle.turns.specs.Rows.{withSlot, looksOn}
 use Rattle.turns.specs.Stretches.{nowhere, nextStretch, lanesOf, roundsOf}
@@ -44,7 +44,7 @@ use Rattle.drive.proofs.Issuing.{Fetched, stores-issued, goes-issued}
 use Rattle.drive.proofs.Moving.{filling-none, filling-all, zero-next, copy-next, placed, placed-none, placed-next}
 use Rattle.drive.proofs.PlanLaws.{pairedAt, clearedAt, copiedAt, moved}
 use Rattle.drive.proofs.Planning.{ahead, Planned, then-less, then-grows, less-with, planned-below, planned-as, join-planned, end-planned, fork-room, fork-planned, next-at, next-ends, next-less}
-use Rattle.drive.proofs.Places.{Walks, Goes, goes, Kept, picked-kept, Comes}
+use Rattle.drive.proofs.Positions.{Walks, Goes, goes, Kept, picked-kept, Comes}
 use Rattle.drive.proofs.RowLaws.{Gathers, Looks, looks, unit-most, gather-begins, gather-passes, gather-takes, gather-ends}
 use Rattle.drive.proofs.Readiness.{its-instruction, s-small, r-small, label-small, left-read, right-read, ready}
 use Rattle.drive.proofs.SettleLaws.{sides-decide, without-room}
@@ -129,7 +129,7 @@ Turn = Here tie.After-no-moves
 abbrev head-of : Turn → Head
 head-of c = c .before .before
 
-abbrev place-of : Turn → Place
+abbrev place-of : Turn → Position
 place-of c = head-of c .loop .p
 
 going-on : (c : Turn) → head-of c .loop .over ≡ false
@@ -187,7 +187,7 @@ Walk = Here tie.At-loop2
 abbrev turn-w : Walk → Turn
 turn-w c = c .before .before .before
 
-abbrev place-w : Walk → Place
+abbrev place-w : Walk → Position
 place-w c = c .loop2 .p
 
 none-due-w : (c : Walk) → head-of (turn-w c) .loop .due ≡ 0
@@ -637,7 +637,7 @@ loop-holds c =
     let fits = shape-fits (a .cells .now) (a .state) sized (c .before .before .before .pre .2) in
     let few : a .state .work ≤ workLimit = search needs in (
       λ z. none-due g allowed 0 0 refl (omega arith)
-          (subst⁻¹ (At g (a .state)) (c .no-place .ensures) (at-first g fits allowed (c .before .before .before .pre .3) few)),
+          (subst⁻¹ (At g (a .state)) (c .no-position .ensures) (at-first g fits allowed (c .before .before .before .pre .3) few)),
       λ e. clash e refl,
       omega arith,
       few,
@@ -858,8 +858,8 @@ loop2-less-3 c =
     let look = c .before .before .before .before .before in
     let w = walk-of look in
     let wide : 0 < c .before .width-of .result = omega (arith, c .before .width-of .ensures, width-some (at (w .loop2 .m) (w .loop2 .p .slot) .task .places)) in
-    let until : c .gone-by .result .until ≡ w .loop2 .p .until = ap (λ (q : Place). q .until) (c .gone-by .ensures) in
-    let fewer : c .gone-by .result .ahead ≡ w .loop2 .p .ahead - c .before .width-of .result = ap (λ (q : Place). q .ahead) (c .gone-by .ensures) in
+    let until : c .gone-by .result .until ≡ w .loop2 .p .until = ap (λ (q : Position). q .until) (c .gone-by .ensures) in
+    let fewer : c .gone-by .result .ahead ≡ w .loop2 .p .ahead - c .before .width-of .result = ap (λ (q : Position). q .ahead) (c .gone-by .ensures) in
     omega (arith, goes-at look .places-left)
 
 loop2-again-3 : Here tie.Need-loop2-again-3

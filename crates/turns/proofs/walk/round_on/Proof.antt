@@ -7,7 +7,7 @@ use lib.Dec.{ltb}
 use borrow.Author.Tests.{ltb-true, lt-ltb, le-ltb}
 use borrow.Author.Needs.{needs}
 use Rattle.facts.proofs.Tests.{both-true}
-use Rattle.turns.specs.declared.course.Place.{Place}
+use Rattle.turns.specs.declared.course.Position.{Position}
 use Rattle.turns.specs.Walk.{goesAgain}
 use Rattle.turns.proofs.walk.round_on.Statement.{statement}
 use Rattle.turns.proofs.walk.round_on.Tie as tie
@@ -27,7 +27,7 @@ slot-in-requires-2 : tie.Need-slot-in-requires-2
 slot-in-requires-2 c κs = search needs
 
 -- a round that is not the last
-before-last : (work : ℕ) (p : Place) → goesAgain work p ≡ true → p .begun < p .last
+before-last : (work : ℕ) (p : Position) → goesAgain work p ≡ true → p .begun < p .last
 before-last work p h = ltb-true (p .begun) (p .last) (both-true (ltb (p .begun) (p .last)) (ltb work (p .until)) h .0)
 
 add-q : tie.Need-add-q
