@@ -1,7 +1,7 @@
 -- The bound. A round picks a task on every lane, or it picks every running task, and then the least span of a running task rises. So there
 -- are at most as many rounds of the second kind as the last task's span.
 use Prim.Native.Nat.{ℕ, zero, suc, _+_, _*_, _-_, _^_, _≤_, _<_}
-use mathlib.Core.Path.{_≡_}
+use mathlib.Core.Path.{_≡_, subst}
 use mathlib.Core.Logic.{_⊎_, inl, inr}
 use mathlib.Core.Bool.{true, false}
 use mathlib.Core.List.{List, [], _∷_}
@@ -152,4 +152,5 @@ module _ {F S : Type 0} (M : Model F S) (K : Forms F S) (span : F → ℕ) where
       span-fits = v .highs 0;
       work-fits = v .at-most;
       rounds-at-most = rounds-few t m v;
+      one-lane = λ e. let most : work m ≤ 1 * t = subst (λ l. work m ≤ l * t) e (v .at-most) in omega (arith, rounds-few t m v);
     }

@@ -20,6 +20,8 @@ module _ {F S : Type 0} (M : Model F S) (span : F → ℕ) where
     pub span-fits : span e ≤ rounds
     pub work-fits : W ≤ lanes * rounds
     pub rounds-at-most : rounds ≤ W
+    -- with one lane a round is a pick
+    pub one-lane : lanes ≡ 1 → rounds ≡ W
 
   -- d is what a budget of rounds comes to from the start's state m₀, whose one task is f₀
   pub record OnLanes (m₀ : S) (f₀ : F) (lanes budget : ℕ) (d : Dispatched S) : Type 0 where
