@@ -14,6 +14,7 @@
 # make soak-steps  the long comparison of jobs pick by pick: make soak-steps JOBS=.. SEED=..
 # make soak-orders jobs on the model, every order against its plain evaluation: JOBS=.. SEED=..
 # make soak-replay jobs with orders of picks on both: make soak-replay JOBS=.. SEED=..
+# make soak-dispatch jobs on lanes on both: make soak-dispatch JOBS=.. SEED=..
 # make limit       the work limit of 4,294,967,295 reached on the engine, about half a minute
 # make lanes       docs/lanes.md's table of the examples' rounds on 1 to 8 lanes, and docs/lanes.svg
 # make mutants     wrong definitions with code to match: which check catches each; minutes for each, hours for
@@ -61,8 +62,8 @@ in_rust = --release --offline --manifest-path rust/Cargo.toml
 # rt's checks share target/: one at a time.
 .NOTPARALLEL:
 .DELETE_ON_ERROR:
-.PHONY: all run lib test rust-test c-test bench soak soak-jobs soak-steps soak-orders soak-replay limit lanes \
-        mutants install uninstall tools clean distclean help
+.PHONY: all run lib test rust-test c-test bench soak soak-jobs soak-steps soak-orders soak-replay soak-dispatch limit \
+        lanes mutants install uninstall tools clean distclean help
 
 all: tools $(program) lib
 	cargo build $(in_rust)
@@ -101,6 +102,10 @@ soak-orders: tools $(archive)
 soak-replay: JOBS = 100000
 soak-replay: tools $(archive)
 	cargo run $(in_rust) --bin soak_replay -- $(JOBS) $(SEED)
+
+soak-dispatch: JOBS = 100000
+soak-dispatch: tools $(archive)
+	cargo run $(in_rust) --bin soak_dispatch -- $(JOBS) $(SEED)
 
 limit: tools $(archive)
 	cargo run $(in_rust) --bin limit
