@@ -27,7 +27,7 @@ ghost use Rattle.drive.specs.Driving.{startsIn, driven};
 // For a course that has no order.
 pub const NO_ORDER: [u8; 1] = [0];
 
-// The picks of a course. Pick, run, `orders` and `job` call it, after the questions that ensure its `requires`.
+// The picks of a course. Pick, run, dispatcher, `orders` and `job` call it, after the questions that ensure its `requires`.
 pub fn drive(cells: &[u64], words: &[i64], state: State, order: &[u8], course: Course) -> Driven
     requires { ⌜ (programNo (now cells) ≡ 0) × (length (now cells) ≡ programCells) × (shape (programOf (now cells)) state ≡ true) × (startsIn course state ≡ true) ⌝ }
     ensures { λ r. ⌜ r ≡ driven (now (cells .entry)) (now (words .entry)) state (now (order .entry)) course ⌝ }
