@@ -7,7 +7,6 @@ use Rattle.drive.specs.declared.State.{State}
 use Rattle.drive.specs.Ending.{jobEnded}
 use Rattle.drive.specs.Courses.{Run}
 use Rattle.drive.specs.Rounds.{Rounding, roundsFrom}
-use Rattle.orders.specs.Demand.{Job}
 use Rattle.cases.specs.Cases.{Case, jobOf, start}
 use Rattle.cases.specs.Table.{caseF}
 

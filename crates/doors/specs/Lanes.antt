@@ -1,11 +1,10 @@
 -- The dispatcher's own question, 41 of document 02, between 15 and 20, on a state and on a job; and what it says: ended or spent, with its
 -- rounds.
-use mathlib.Core.List.{List, [], _∷_, _++_}
-use Prim.Native.Nat.{ℕ}
+use mathlib.Core.List.{List, [], _∷_}
 use lib.ListN.{set, take}
 use Rattle.doors.specs.Doors.{Row, _gives_, onLanes, refused, ended, spent, dispatch, dispatchJob}
 use Rattle.doors.specs.Programs.{programF, zeros, noState}
-use Rattle.doors.specs.States.{fresh, forked, parentWaits, halted, faulted, withWork}
+use Rattle.doors.specs.States.{fresh, forked, parentWaits, halted, withWork}
 use Rattle.doors.specs.Jobs.{jobOf, jobF, small}
 
 unfoldable pub laneRows : List Row

@@ -11,7 +11,7 @@ use Rattle.image.specs.Layout.{programOf}
 use Rattle.agreement.proofs.Trees.{Tree, leaf, node}
 use Rattle.agreement.proofs.Holds.{Holds}
 use Rattle.task.specs.declared.Frame.{Frame}
-use Rattle.task.specs.Frames.{vacant, running}
+use Rattle.task.specs.Frames.{running}
 use Rattle.task.proofs.Vacancy.{vacant-idle}
 use Rattle.drive.specs.declared.State.{State}
 use Rattle.drive.specs.Slots.{at, slotsOf}

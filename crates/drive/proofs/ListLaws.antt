@@ -1,7 +1,7 @@
 -- The slots of an order, as the loop goes through them: from where it stands, the run along the slots that are left is the whole run.
 use mathlib.Core.Path.{_≡_, refl, sym, ap, _∙_}
 use mathlib.Core.Logic.{_⊎_, inl, inr}
-use mathlib.Core.Bool.{Bool, true, false, not, _&&_, and-false}
+use mathlib.Core.Bool.{true, false, not, and-false}
 use mathlib.Core.List.{List, [], _∷_}
 use Prim.Native.Nat.{ℕ, zero, suc, _+_, _-_, _<_, _≤_}
 use native.Mathlib.Omega.{arith}
@@ -16,18 +16,17 @@ use Rattle.task.specs.Frames.{running, workLimit}
 use Rattle.drive.specs.declared.State.{State}
 use Rattle.drive.specs.declared.Driven.{Driven}
 use Rattle.drive.specs.Slots.{at}
-use Rattle.drive.specs.Ending.{jobEnded}
 use Rattle.drive.specs.Issue.{slotNo, issued}
-use Rattle.drive.specs.Courses.{Next, over, turn, Run, follows}
+use Rattle.drive.specs.Courses.{Next, over, turn, follows}
 use Rattle.drive.specs.Listing.{listed, listFrom}
 use Rattle.turns.specs.declared.course.Position.{Position}
 use Rattle.turns.specs.Stretches.{stopAt, nextListed}
-use Rattle.turns.specs.Walk.{walksOn, to, goneBy}
+use Rattle.turns.specs.Walk.{walksOn, goneBy}
 use Rattle.drive.specs.Driving.{left}
 use Rattle.drive.proofs.CourseLaws.{stays, picks-turn}
 use Rattle.drive.proofs.IssueLaws.{issued-work}
 use Rattle.drive.proofs.SlotQuestions.{far-refused, idle-refused, full-refused}
-use Rattle.drive.proofs.Positions.{Walks, Goes, goes, rests, no-picks-left, Comes, comes-none, comes-one, stop-most}
+use Rattle.drive.proofs.Positions.{Walks, goes, rests, no-picks-left, Comes, comes-none, comes-one, stop-most}
 
 -- ---- the chooser
 

@@ -1,24 +1,23 @@
 -- What a turn of the loop has written and planned: with its moves made, the next turn holds. One statement for each kind of turn.
 use mathlib.Core.Path.{_≡_, refl, sym, ap, ap₂, _∙_, subst⁻¹}
-use mathlib.Core.Bool.{Bool, true, false, cond}
+use mathlib.Core.Bool.{true, false, cond}
 use mathlib.Core.List.{List, [], _∷_}
 use Prim.Native.Nat.{ℕ, _+_, _-_, _*_, _/_, _%_, _<_, _≤_}
 use native.Mathlib.Omega.{arith}
 use lib.Dec.{ltb}
-use lib.ListN.{length, getD, set}
+use lib.ListN.{getD, set}
 use lib.Seq.{getD-set-same, getD-set-other}
 use types.Run.{OneOf}
 use denote.Enum.Declared.{tagOf}
 use Rattle.facts.proofs.Tests.{clash, by-test}
 use Rattle.image.specs.Layout.{programOf}
 use Rattle.agreement.specs.Slots.{due}
-use Rattle.task.specs.declared.Status.{Status}
 use Rattle.task.specs.declared.Fork.{Fork}
 use Rattle.task.specs.declared.Task.{Task}
 use Rattle.task.specs.declared.Joint.{Joint}
 use Rattle.task.specs.declared.Executed.{Executed}
 use Rattle.task.specs.declared.Kind.the-variants.{Forks}
-use Rattle.task.specs.Frames.{noTask, vacantTask, isRunning, workLimit}
+use Rattle.task.specs.Frames.{noTask, isRunning, workLimit}
 use Rattle.task.specs.Values.{recordOf}
 use Rattle.task.specs.Step.{counted, ended}
 use Rattle.task.specs.Execute.{jointOf}
@@ -38,7 +37,7 @@ use Rattle.drive.proofs.Owning.{own-allowed, own-fits, places-most}
 use Rattle.drive.proofs.SettleSafety.{fits-safe}
 use Rattle.drive.proofs.InPlace.{withTaskAt}
 use Rattle.drive.proofs.PlanLaws.{moved, pairedAt, clearedAt, PlanFits, tasksJoined, join-moved, join-fits, end-fits, fork-fits}
-use Rattle.drive.proofs.Issuing.{ends-steps, end-put, endFrame, forkedAt, forks-issued, forks-room}
+use Rattle.drive.proofs.Issuing.{ends-steps, end-put, forkedAt, forks-issued, forks-room}
 use Rattle.drive.proofs.Positions.{goes, stopped-kept, stopped-begun, Comes, comes-none, comes-one}
 use Rattle.drive.proofs.Walking.{Given, GivenAllowed, result, mostStretches, At, tile, rise-is}
 use Rattle.drive.proofs.Turning.{Turns, none-due, joins, ends, forks, Stopped}

@@ -1,8 +1,8 @@
 -- Where the loop stands in its course: whether its walk goes on, what a pick leaves of the place, and the stretch that comes next.
-use Prim.Native.Nat.{ℕ, _+_, _-_, _/_, _<_, _≤_}
+use Prim.Native.Nat.{ℕ, _-_, _/_, _<_, _≤_}
 use native.Mathlib.Omega.{arith}
 use mathlib.Core.Path.{_≡_, refl}
-use mathlib.Core.Bool.{Bool, true, false, _&&_}
+use mathlib.Core.Bool.{true, false}
 use lib.Dec.{eqb, ltb, leb}
 use borrow.Author.Tests.{ltb-true, lt-ltb, le-ltb}
 use Rattle.facts.proofs.Tests.{both-true, clash, by-test, by-below}

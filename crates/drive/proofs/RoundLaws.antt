@@ -2,12 +2,12 @@
 -- whether a task runs there, so the slots that are left stay those of the round; and while every task picked runs on, the next round takes the
 -- same row.
 use mathlib.Core.Path.{_≡_, refl, sym, ap, _∙_}
-use mathlib.Core.Logic.{_⊎_, inl, inr}
-use mathlib.Core.Bool.{Bool, true, false, cond, not}
+use mathlib.Core.Logic.{_⊎_, inr}
+use mathlib.Core.Bool.{true, false, cond, not}
 use mathlib.Core.List.{List, [], _∷_}
-use Prim.Native.Nat.{ℕ, zero, suc, _+_, _-_, _/_, _<_, _≤_}
+use Prim.Native.Nat.{ℕ, suc, _+_, _-_, _/_, _<_, _≤_}
 use native.Mathlib.Omega.{arith}
-use lib.Dec.{ltb, leb}
+use lib.Dec.{ltb}
 use lib.IntN.{ℤ}
 use borrow.Author.Tests.{ltb-true, lt-ltb, le-ltb, lt-leb, le-leb}
 use Rattle.facts.proofs.Tests.{both-true, clash, by-test, by-below}
@@ -21,12 +21,12 @@ use Rattle.drive.specs.declared.Driven.{Driven}
 use Rattle.drive.specs.Slots.{at}
 use Rattle.drive.specs.Ending.{jobEnded}
 use Rattle.drive.specs.Issue.{issued}
-use Rattle.drive.specs.Courses.{Next, over, turn, Run, pickedAt, follows}
+use Rattle.drive.specs.Courses.{over, turn, Run, follows}
 use Rattle.drive.specs.Passes.{stops}
-use Rattle.drive.specs.Rounds.{taken, roundOf, Rounding, takes, rounds, roundsFrom}
+use Rattle.drive.specs.Rounds.{taken, roundOf, Rounding, takes, rounds}
 use Rattle.drive.specs.Driving.{leftRounds}
 use Rattle.drive.proofs.CourseLaws.{stays, picks-turn}
-use Rattle.drive.proofs.IssueLaws.{issued-work, issued-places}
+use Rattle.drive.proofs.IssueLaws.{issued-work}
 use Rattle.drive.proofs.Models.{Allowed}
 use Rattle.drive.proofs.ShapeLaws.{Fits}
 use Rattle.drive.proofs.Quiet.{quiet-ended, running-open}

@@ -124,6 +124,3 @@ comes-back m k below others = record {
 pub behind-below : (places k w : ℕ) → 0 < places → behind places k w < places
 behind-below places k w some =
     by-below (k + w) places (λ b. rw (lt-ltb (k + w) places b) b) (λ b. rw (le-ltb (k + w) places b) some)
-
-pub behind-inside : (places k w : ℕ) → k + w < places → behind places k w ≡ k + w
-behind-inside places k w h = rw (lt-ltb (k + w) places h)

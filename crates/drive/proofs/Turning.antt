@@ -2,7 +2,7 @@
 use mathlib.Core.Path.{_≡_, refl, sym, ap, _∙_, subst, subst⁻¹}
 use mathlib.Core.Bool.{true, false}
 use mathlib.Core.List.{List}
-use Prim.Native.Nat.{ℕ, _+_, _-_, _*_, _/_, _%_, _^_, _<_, _≤_}
+use Prim.Native.Nat.{ℕ, _+_, _-_, _*_, _%_, _^_, _<_, _≤_}
 use native.Mathlib.Omega.{arith}
 use lib.Pow.{pow-pos}
 use lib.IntN.{ℤ}
@@ -20,12 +20,10 @@ use Rattle.task.specs.Step.{join, step}
 use Rattle.drive.specs.declared.State.{State}
 use Rattle.turns.specs.declared.course.Course.{Course}
 use Rattle.drive.specs.Slots.{at, put, ticked, Sized, slotsOf}
-use Rattle.drive.specs.Settings.{rank}
 use Rattle.drive.specs.Issue.{issued}
 use Rattle.turns.specs.declared.course.Position.{Position}
 use Rattle.turns.specs.Walk.{goneBy, pickedOn, stoppedAt, width}
 use Rattle.turns.specs.Kinds.{runsOn}
-use Rattle.drive.proofs.RankLaws.{rank-power}
 use Rattle.drive.proofs.ShapeLaws.{Fits}
 use Rattle.drive.proofs.SlotLaws.{put-sized, put-other, ticked-sized}
 use Rattle.drive.proofs.Carrying.{stand}

@@ -1,10 +1,9 @@
 -- An accepted job, run: its fresh start is a state of the shape, and the loop from there is the run of the definition. And the text.
 use mathlib.Core.Path.{_≡_, sym, ap, _∙_, subst⁻¹, subst}
-use mathlib.Core.Bool.{true, cond}
+use mathlib.Core.Bool.{true}
 use mathlib.Core.List.{List}
 use Prim.Native.Nat.{ℕ, _^_, _<_}
 use native.Mathlib.Omega.{arith}
-use lib.Dec.{eqb}
 use lib.IntN.{ℤ}
 use lib.ListN.{length}
 use lib.Seq.{sets}

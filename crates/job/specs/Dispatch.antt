@@ -8,7 +8,6 @@ use Rattle.drive.specs.Rounds.{Rounding, roundsFrom}
 use Rattle.machine.specs.Starting.{empty}
 use Rattle.machine.specs.Dispatching.{lanesAllowed}
 use Rattle.orders.specs.Demand.{startOn}
-use Rattle.report.specs.declared.Report.{Report}
 use Rattle.report.specs.Report.{reportOf, roundsReportLength, roundsReportBytes}
 use Rattle.job.specs.Job.{jobNo}
 use Rattle.job.specs.Replay.{jobIn}

@@ -1,5 +1,5 @@
 -- What a dispatcher that is not refused is like, and what each way through it hands back.
-use mathlib.Core.Path.{_≡_, ap, _∙_}
+use mathlib.Core.Path.{_≡_}
 use mathlib.Core.Bool.{Bool, true, false}
 use mathlib.Core.List.{List, []}
 use Prim.Native.Nat.{ℕ, _-_, _<_, _≤_}
@@ -10,7 +10,7 @@ use lib.ListN.{length}
 use borrow.Author.Tests.{leb-true, le-leb, lt-ltb, ne-eqb}
 use Rattle.facts.proofs.Tests.{both-true}
 use Rattle.image.specs.Layout.{programOf}
-use Rattle.image.specs.Questions.{ask, orElse}
+use Rattle.image.specs.Questions.{orElse}
 use Rattle.image.proofs.Asked.{ask-yes, or-else-both}
 use Rattle.turns.specs.declared.course.Course.the-variants.{Rounds}
 use Rattle.drive.specs.declared.State.{State}

@@ -1,6 +1,6 @@
 -- In a state of the shape a pick is refused just where agreement's model refuses it, and otherwise does what the model does.
 use Prim.Native.Nat.{ℕ, _+_, _<_}
-use mathlib.Core.Path.{_≡_, refl, sym, ap, _∙_, subst⁻¹}
+use mathlib.Core.Path.{_≡_, refl, sym, ap, _∙_}
 use mathlib.Core.Bool.{Bool, true, false, not, cond, _&&_}
 use mathlib.Core.List.{List}
 use native.Mathlib.Omega.{arith}
@@ -11,7 +11,6 @@ use borrow.Author.Tests.{eqb-true, ltb-true}
 use Rattle.facts.proofs.Tests.{by-test}
 use Rattle.task.specs.Choices.{chosen}
 use Rattle.agreement.specs.Slots.{carry}
-use Rattle.agreement.proofs.SlotLaws.{carry-keeps}
 use Rattle.agreement.specs.Picks.{Model, canPick, pick}
 use Rattle.agreement.proofs.PickLaws.{parts-can, pick-carried, pick-refused}
 use Rattle.image.specs.Layout.{programCells, programOf}

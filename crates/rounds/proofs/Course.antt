@@ -6,9 +6,9 @@ use mathlib.Core.List.{List, [], _∷_}
 use native.Mathlib.Omega.{arith}
 use native.Mathlib.Numerals.{add-one}
 use lib.Dec.{ltb}
-use borrow.Author.Tests.{lt-ltb, le-ltb}
+use borrow.Author.Tests.{le-ltb}
 use Rattle.facts.proofs.Tests.{clash, by-test, by-below}
-use Rattle.agreement.specs.Picks.{Model, once, canPick, pick, play}
+use Rattle.agreement.specs.Picks.{Model, canPick, pick, play}
 use Rattle.agreement.specs.Picks as model
 use Rattle.agreement.proofs.PickLaws.{pick-refused, play-work}
 use Rattle.task.specs.declared.Frame.{Frame}
@@ -20,7 +20,7 @@ use Rattle.drive.specs.Settings.{rank}
 use Rattle.drive.specs.Ending.{jobEnded}
 use Rattle.drive.specs.Courses.{over, follows}
 use Rattle.drive.specs.Passes.{stops}
-use Rattle.drive.specs.Rounds.{taken, Rounding, rounds, roundsFrom}
+use Rattle.drive.specs.Rounds.{taken, rounds, roundsFrom}
 use Rattle.drive.specs.Driving.{leftRounds}
 use Rattle.drive.proofs.CourseLaws.{stays, picks-turn}
 use Rattle.drive.proofs.IssueLaws.{issued-is-pick, issued-work}
@@ -32,10 +32,10 @@ use Rattle.drive.proofs.RoundLaws.{roundRun, leavesFrom, rounds-stop, rounds-sp
 use Rattle.lanes.specs.Rounds.{Dispatched, roundOf, round, goesOn, dispatch}
 use Rattle.lanes.specs.Rounds as lane
 use Rattle.lanes.proofs.Turns.{InTurn, round-turns}
-use Rattle.orders.specs.Demand.{Job, Accepted, startOn, played}
+use Rattle.orders.specs.Demand.{Job, startOn, played}
 use Rattle.orders.proofs.Plays.{FitsJob, JobAccepted, job-accepted, started-job, play-fits, played-is}
 use Rattle.machine.proofs.StartLaws.{fresh-fits}
-use Rattle.rounds.specs.Jobs.{machineOf, span, dispatched}
+use Rattle.rounds.specs.Jobs.{machineOf, span}
 use Rattle.rounds.specs.Course.{SameRounds, CourseIsDispatch}
 use Rattle.rounds.proofs.Machine.{spans-hold}
 

@@ -1,29 +1,27 @@
 -- The dispatcher of every accepted job.
 use Prim.Native.Nat.{ℕ, _+_, _<_}
-use mathlib.Core.Path.{_≡_, refl, sym, ap, _∙_, subst, subst⁻¹}
+use mathlib.Core.Path.{_≡_, sym, ap, _∙_, subst, subst⁻¹}
 use mathlib.Core.Bool.{true}
 use mathlib.Core.List.{List, []}
 use native.Mathlib.Omega.{arith}
 use lib.Dec.{leb}
 use borrow.Author.Tests.{leb-true}
 use Rattle.facts.proofs.Tests.{both-true}
-use Rattle.image.specs.Layout.{programOf}
 use Rattle.drive.specs.declared.State.{State}
 use Rattle.drive.specs.Ending.{jobEnded}
-use Rattle.drive.specs.Shape.{shape}
 use Rattle.drive.specs.Courses.{Run}
 use Rattle.drive.specs.Rounds.{Rounding, roundsFrom}
 use Rattle.drive.proofs.ShapeLaws.{fits-shape}
 use Rattle.machine.specs.declared.Dispatched.{Dispatched}
-use Rattle.machine.specs.Dispatching.{lanesAllowed, dispatchNo, dispatched}
+use Rattle.machine.specs.Dispatching.{lanesAllowed}
 use Rattle.machine.proofs.PickLaws.{Passed}
 use Rattle.machine.proofs.StartLaws.{fresh-fits}
 use Rattle.machine.proofs.DispatchLaws.{passed-dispatch, dispatch-accepted}
 use Rattle.orders.specs.Demand.{Job, Accepted, startOn, playedOf, played}
 use Rattle.orders.proofs.Plays.{FitsJob, JobAccepted, job-accepted, started-job, play-fits, played-is}
 use Rattle.lanes.specs.Rounds as lane
-use Rattle.rounds.specs.Jobs.{machineOf, JobOnLanes, dispatched as budgeted}
-use Rattle.rounds.specs.Dispatcher.{dispatchOf, DispatchAnswers, EveryDispatch, AddsUp, DispatchesAdd}
+use Rattle.rounds.specs.Jobs.{JobOnLanes, dispatched as budgeted}
+use Rattle.rounds.specs.Dispatcher.{dispatchOf, EveryDispatch, DispatchesAdd}
 use Rattle.rounds.proofs.Jobs.{every-job-on-lanes, rounds-add}
 use Rattle.rounds.proofs.Course.{dispatch-fits, same-rounds}
 

@@ -1,5 +1,5 @@
 -- `dispatch_job` meets its contract.
-use mathlib.Core.Path.{refl, sym, subst⁻¹}
+use mathlib.Core.Path.{refl}
 use Rattle.job.proofs.Replaying.{accepted-ends}
 use Rattle.job.proofs.Running.{interval-small, rounds-agree}
 use borrow.Author.Needs.{needs}

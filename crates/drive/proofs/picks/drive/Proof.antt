@@ -1,7 +1,7 @@
 -- `drive` meets its contract: at the loop's head the course stands where the state is, whichever course it is. What each turn does is in
 -- `proofs/Planning.antt`, a statement for each kind; here the code's places are tied to it.
 use mathlib.Core.Path.{_≡_, refl, sym, ap, ap₂, _∙_, subst⁻¹}
-use mathlib.Core.Logic.{_⊎_, inl, inr}
+use mathlib.Core.Logic.{inl, inr}
 use mathlib.Core.Bool.{Bool, true, false, cond, not, _&&_}
 use mathlib.Core.List.{List}
 use Prim.Native.Nat.{ℕ, _+_, _-_, _*_, _/_, _%_, _<_, _≤_}
@@ -15,7 +15,6 @@ use Rattle.facts.proofs.Tests.{clash, both-true}
 use Rattle.image.specs.declared.Instruction.{Instruction}
 use Rattle.image.specs.Layout.{programOf}
 use Rattle.agreement.specs.Slots.{due}
-use Rattle.task.specs.declared.Executed.{Executed}
 use Rattle.task.specs.declared.Register.{Register}
 use Rattle.task.specs.declared.Task.{Task}
 use Rattle.task.specs.declared.Value.{Value}
@@ -26,16 +25,13 @@ use Rattle.task.proofs.Executing.{after}
 use Rattle.task.proofs.Sizes.{length-by}
 use Rattle.task.proofs.StretchLaws.{length-reads}
 use Rattle.drive.specs.declared.State.{State}
-use Rattle.turns.specs.declared.moves.Moves.{Moves}
 use Rattle.turns.specs.declared.course.Stretch.{Stretch}
 use Rattle.drive.specs.Slots.{at, Sized, ticked, slotsOf}
 use Rattle.drive.specs.Issue.{issued}
 use Rattle.drive.specs.Ending.{isEnd, jobEnded}
 use Rattle.turns.specs.declared.course.Position.{Position}
-use Rattle.turns.specs.declared.rows.Row.{Row}
-use Rattle.turns.specs.Rows.{withSlot, looksOn}
-use Rattle.turns.specs.Stretches.{nowhere, nextStretch, lanesOf, roundsOf}
-use Rattle.turns.specs.Walk.{goneBy, pickedOn, stoppedAt, width}
+use Rattle.turns.specs.Stretches.{nextStretch, lanesOf, roundsOf}
+use Rattle.turns.specs.Walk.{pickedOn, stoppedAt, width}
 use Rattle.turns.specs.Moving.{forkMoves}
 use Rattle.drive.proofs.Copying.{filling}
 use Rattle.drive.proofs.InPlace.{withTaskAt, storedAt}
@@ -48,7 +44,7 @@ use Rattle.drive.proofs.Positions.{Walks, Goes, goes, Kept, picked-kept
 use Rattle.drive.proofs.RowLaws.{Gathers, Looks, looks, unit-most, gather-begins, gather-passes, gather-takes, gather-ends}
 use Rattle.drive.proofs.Readiness.{its-instruction, s-small, r-small, label-small, left-read, right-read, ready}
 use Rattle.drive.proofs.SettleLaws.{sides-decide, without-room}
-use Rattle.drive.proofs.SettleSafety.{due-joinable, fits-safe}
+use Rattle.drive.proofs.SettleSafety.{due-joinable}
 use Rattle.drive.proofs.ShapeLaws.{shape-allowed, shape-fits}
 use Rattle.drive.proofs.Owning.{own-allowed, own-fits, places-most}
 use Rattle.drive.proofs.Covering.{width-inside, width-some, width-others, width-quiet}

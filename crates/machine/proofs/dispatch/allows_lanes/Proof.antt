@@ -1,6 +1,5 @@
 -- `allows_lanes` meets its contract.
 use borrow.Author.Tests.{le-leb, lt-leb}
-use borrow.Author.Needs.{needs}
 use Rattle.machine.proofs.dispatch.allows_lanes.Statement.{statement}
 use Rattle.machine.proofs.dispatch.allows_lanes.Tie as tie
 
