@@ -175,6 +175,8 @@ mod tests {
         let assembly = tpasm::assemble(b"main:\n  jump main\n").unwrap();
         let example = Example {
             name: "endless".to_string(),
+            source: "endless.tpal".into(),
+            options: String::new(),
             job: tpasm::job(&assembly.image, &assembly.settings),
             output: String::new(),
         };

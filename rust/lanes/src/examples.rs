@@ -10,6 +10,9 @@ use std::path::{Path, PathBuf};
 pub struct Example {
     /// The folder, and the job where it is not the folder's own: `sum`, `sum/serial`.
     pub name: String,
+    /// Its text, and the options of `tpasm job` that make the job of it.
+    pub source: PathBuf,
+    pub options: String,
     pub job: Vec<u8>,
     pub output: String,
 }
@@ -50,6 +53,8 @@ fn example(output: &Path) -> Result<Example, String> {
     Ok(Example {
         name: name(output),
         job: tpasm::job(&assembly.image, &settings),
+        source,
+        options,
         output: fs::read_to_string(output).map_err(|error| at(output, error))?,
     })
 }

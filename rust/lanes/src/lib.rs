@@ -8,5 +8,4 @@ pub mod examples;
 mod options;
 pub mod page;
 pub mod plot;
-mod svg;
 pub mod table;

@@ -1,48 +1,26 @@
-//! The options of `tpasm job` as the examples have them. The assembler's own reading of them is a part
-//! of its program and not of its library; the tests compare what comes of these with the stored
-//! outputs.
+//! The options of `tpasm job` as the examples have them, in one line of text.
 
 use checks::run_program::at_the_root;
-use std::fs;
+use tpasm::command::{Changes, Failure};
 use tpasm::{Assembly, Settings};
 
-/// The text's settings, with those of the options in their place.
+/// The text's settings, with those of the options in their place. A path begins at the root.
 pub fn changed(assembly: &Assembly, options: &str) -> Result<Settings, String> {
-    let mut settings = assembly.settings.clone();
+    let mut changes = Changes::default();
     let mut words = options.split_whitespace();
     while let Some(option) = words.next() {
         let value = words.next().unwrap_or_default();
-        change(&mut settings, assembly, option, value)
-            .ok_or_else(|| format!("cannot read the option '{} {}'", option, value))?;
+        let value = match option {
+            "--words" => at_the_root(value).into(),
+            _ => value.into(),
+        };
+        changes.note(option, value)?;
     }
-    Ok(settings)
-}
-
-/// None: no such option, or not with this value.
-fn change(settings: &mut Settings, assembly: &Assembly, option: &str, value: &str) -> Option<()> {
-    match option {
-        "--places" => settings.places = Some(Settings::allowed_places(value.parse().ok()?)?),
-        "--interval" => settings.interval = Some(Settings::allowed_interval(value.parse().ok()?)?),
-        "--set" => {
-            let (name, integer) = value.split_once('=')?;
-            let register = assembly.registers.number(name)?;
-            settings.registers[usize::from(register)] = Some(integer.parse().ok()?);
-        }
-        "--words" => settings.words = file_words(value)?,
-        _ => return None,
-    }
-    Some(())
-}
-
-/// The words of a file, whose path begins at the root.
-fn file_words(path: &str) -> Option<Vec<i64>> {
-    let bytes = fs::read(at_the_root(path)).ok()?;
-    let whole = bytes.chunks_exact(8);
-    if !whole.remainder().is_empty() {
-        return None;
-    }
-    let word = |chunk: &[u8]| chunk.try_into().ok().map(i64::from_le_bytes);
-    whole.map(word).collect()
+    changes
+        .applied(&assembly.settings, &assembly.registers)
+        .map_err(|failure| match failure {
+            Failure::Usage(what) | Failure::File(what) => what,
+        })
 }
 
 #[cfg(test)]

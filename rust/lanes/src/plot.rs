@@ -2,7 +2,7 @@
 //! rounds that the bound allows.
 
 use crate::counts::{Counts, MAX_LANES};
-use crate::svg::{dot, line, text, Anchor, Point};
+use svg::{dot, line, text, Anchor, Point};
 
 /// Examples that differ in how much runs side by side, and their colours. These and the grey stand
 /// out from white and from black by 4 to 1: the picture has no ground of its own.

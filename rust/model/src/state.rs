@@ -129,6 +129,42 @@ fn read_slot(bytes: &[u8]) -> Option<Slot> {
     Some(Slot { status, task })
 }
 
+/// Number of slots of the state that `bytes` stand for.
+pub fn places(bytes: &[u8]) -> u64 {
+    number_at(bytes, 0)
+}
+
+pub fn work(bytes: &[u8]) -> u64 {
+    number_at(bytes, 2)
+}
+
+fn slot_bytes(bytes: &[u8], number: usize) -> &[u8] {
+    let at = numbers::BYTES * JOB_NUMBERS + SLOT_BYTES * number;
+    &bytes[at..at + SLOT_BYTES]
+}
+
+/// One slot alone. None: its bytes stand for none.
+pub fn slot(bytes: &[u8], number: usize) -> Option<Slot> {
+    read_slot(slot_bytes(bytes, number))
+}
+
+/// Whether a slot of two states is the same.
+pub fn is_same_slot(one: &[u8], other: &[u8], number: usize) -> bool {
+    slot_bytes(one, number) == slot_bytes(other, number)
+}
+
+/// Bit k is set when slot k has a running task.
+pub fn running_slots(bytes: &[u8]) -> u64 {
+    let bit = |number| u64::from(number_at(slot_bytes(bytes, number), 0) == 1) << number;
+    (0..places(bytes) as usize).map(bit).sum()
+}
+
+/// A task that has ended its side is put back to running, at the first instruction of all.
+pub fn set_running(bytes: &mut [u8], number: usize) {
+    let at = numbers::BYTES * JOB_NUMBERS + SLOT_BYTES * number;
+    numbers::write([1, 0], &mut bytes[at..]);
+}
+
 fn record(continuation: u64, depth: u64) -> Option<Record> {
     Some(Record {
         continuation: continuation.try_into().ok()?,

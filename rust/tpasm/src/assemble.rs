@@ -3,6 +3,7 @@
 use crate::cursor::Parser;
 use crate::message::{Message, Position, Span};
 use crate::names::Registers;
+use crate::origins::Origins;
 use crate::settings::Settings;
 use crate::text::without_mark;
 use crate::token::tokens;
@@ -13,6 +14,7 @@ pub struct Assembly {
     pub image: Vec<u8>,
     pub registers: Registers,
     pub settings: Settings,
+    pub origins: Origins,
     /// In order of place.
     pub warnings: Vec<Message>,
 }
@@ -33,6 +35,7 @@ pub fn assemble(source: &[u8]) -> Result<Assembly, Vec<Message>> {
         warnings: parser.notes.warnings(&program, &parser.labels),
         registers: parser.registers,
         settings,
+        origins: parser.origins,
     })
 }
 

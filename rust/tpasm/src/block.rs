@@ -4,6 +4,7 @@ use crate::cursor::Parser;
 use crate::describe::Fitting;
 use crate::message::Message;
 use crate::notation;
+use crate::origins::Label;
 use crate::text::quoted;
 use crate::token::{Kind, Token};
 use model::{opcode, Block, Instruction, Program, MAX_BLOCKS, MAX_INSTRUCTIONS};
@@ -52,6 +53,10 @@ impl<'a> Parser<'a> {
     fn block(&mut self, program: &mut Program) {
         let name = self.next();
         self.check_label(name, program.blocks.len());
+        self.origins.blocks.push(Label {
+            name: name.text.to_string(),
+            position: name.position,
+        });
         self.next();
         self.notes.begin_block(program.blocks.len());
         let annotation = self.annotation().unwrap_or_else(|error| {
@@ -96,8 +101,10 @@ impl<'a> Parser<'a> {
                 let expected = format!("at most {} instructions", MAX_INSTRUCTIONS);
                 self.report(Message::expected(self.peek(), expected, "one more"));
             }
+            let first = self.peek();
             let (instruction, now) = self.next_instruction(last);
             program.instructions.push(instruction);
+            self.origins.instructions.push(self.statement_since(first));
             last = now;
         }
     }

@@ -4,6 +4,7 @@ use crate::describe::Fitting;
 use crate::message::{Message, Span};
 use crate::names::{looks_numbered, Labels, Registers};
 use crate::notation;
+use crate::origins::Origins;
 use crate::show::MAX_MESSAGES;
 use crate::text::quoted;
 use crate::token::{Kind, Token};
@@ -21,6 +22,8 @@ pub struct Parser<'a> {
     pub doubtful: HashSet<&'a str>,
     pub labels: Labels<'a>,
     pub notes: Notes,
+    /// Of the blocks and instructions so far.
+    pub origins: Origins,
     /// In order of place, since each is reported where parsing has come to.
     pub errors: Vec<Message>,
 }
@@ -34,6 +37,7 @@ impl<'a> Parser<'a> {
             registers: Registers::default(),
             doubtful: HashSet::new(),
             notes: Notes::default(),
+            origins: Origins::default(),
             errors: Vec::new(),
         }
     }
@@ -152,6 +156,14 @@ impl<'a> Parser<'a> {
     pub fn since(&self, first: Token) -> Span {
         let first = Span::from(first);
         self.last().map_or(first, |last| first.up_to(last.into()))
+    }
+
+    /// From a token, which was taken, to the last one taken but for what ended the statement.
+    pub fn statement_since(&self, first: Token) -> Span {
+        let taken = self.tokens[..self.at].iter().rev();
+        let last = taken.copied().find(|token| !token.ends_statement());
+        let first = Span::from(first);
+        last.map_or(first, |last| first.up_to(last.into()))
     }
 
     pub fn at_integer(&self) -> bool {

@@ -6,6 +6,7 @@ mod settings;
 
 use crate::refusal::Refusal;
 use line::{text, Line};
+pub use program::written;
 use model::{Job, MARK};
 
 /// Bytes of a job before its image.
@@ -34,7 +35,7 @@ pub fn list_file(bytes: &[u8], offsets: bool) -> Result<String, Refusal> {
 }
 
 /// The image's mark stands behind the image's length. An image has another letter there.
-fn is_job(bytes: &[u8]) -> bool {
+pub fn is_job(bytes: &[u8]) -> bool {
     let image = bytes.get(IMAGE_AT..).unwrap_or_default();
     image.starts_with(&MARK)
 }

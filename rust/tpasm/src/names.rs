@@ -1,8 +1,10 @@
 //! Names of registers and of blocks. They share one set of names with the instructions' words, so
 //! that a name means one thing in the whole source.
 
+use crate::origins::Origins;
 use crate::token::{Kind, Token};
 use model::REGISTERS;
+use std::borrow::Cow;
 use std::collections::HashMap;
 
 /// The register that `r0` to `r15` names.
@@ -48,6 +50,42 @@ impl Registers {
 
     pub(crate) fn declare(&mut self, name: &str, number: u8) {
         self.names[usize::from(number)] = Some(name.to_string());
+    }
+}
+
+/// What blocks and registers are called where a program is written out.
+#[derive(Clone, Debug, PartialEq, Eq)]
+pub struct Names {
+    blocks: Vec<String>,
+    registers: Registers,
+}
+
+impl Names {
+    /// Those of a source.
+    pub fn new(origins: &Origins, registers: &Registers) -> Self {
+        Names {
+            blocks: origins.blocks.iter().map(|label| label.name.clone()).collect(),
+            registers: registers.clone(),
+        }
+    }
+
+    /// `b0`, `b1`, .. and `r0` to `r15`.
+    pub fn numbered(block_count: usize) -> Self {
+        Names {
+            blocks: (0..block_count).map(|number| format!("b{}", number)).collect(),
+            registers: Registers::default(),
+        }
+    }
+
+    pub fn block(&self, number: usize) -> &str {
+        &self.blocks[number]
+    }
+
+    pub fn register(&self, number: u8) -> Cow<'_, str> {
+        match self.registers.name(number) {
+            Some(name) => name.into(),
+            None => format!("r{}", number).into(),
+        }
     }
 }
 

@@ -1,6 +1,6 @@
-//! Why an image or a job is not accepted.
+//! Refusals and faults in words.
 
-use model::question;
+use model::{fault, question};
 use std::fmt;
 
 /// The number of the first question that was answered with no.
@@ -37,3 +37,24 @@ impl fmt::Display for Refusal {
 }
 
 impl std::error::Error for Refusal {}
+
+/// The number of the first of an instruction's questions that was answered with no.
+#[derive(Clone, Copy, Debug, PartialEq, Eq)]
+pub struct Fault(pub u8);
+
+impl fmt::Display for Fault {
+    fn fmt(&self, f: &mut fmt::Formatter) -> fmt::Result {
+        let words = match self.0 {
+            fault::INTEGERS => "an operand, an index or the register of if-jump is not an integer",
+            fault::DIVISOR => "the divisor is 0",
+            fault::INDEX => "the index is outside the call record",
+            fault::RECORD => "the operand of fork or join is no join record that fits",
+            fault::TARGET => "the target of a jump or fork is not a label",
+            fault::JOIN_TARGET => "the operand of jralloc is not the label of a join target",
+            fault::PLACES => "the task has not two places to fork",
+            fault::OPEN_FORK => "a fork is open at halt",
+            _ => "a question without words",
+        };
+        write!(f, "fault {}: {}", self.0, words)
+    }
+}

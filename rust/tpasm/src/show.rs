@@ -38,16 +38,29 @@ fn write_all(out: &mut String, file: &str, source: &str, messages: &[Message]) -
 fn write_message(out: &mut String, file: &str, source: &str, message: &Message) -> fmt::Result {
     let (severity, position) = (message.severity, message.span.position);
     writeln!(out, "{}:{}: {}: {}", file, position, severity, message.text)?;
-    let line = lines(source).nth(position.line - 1).unwrap_or_default();
-    let excerpt = Excerpt::of(line, message.span);
-    let number = format!("{:>5} | {}", position.line, excerpt.text);
-    writeln!(out, "{}", number.trim_end())?;
-    let carets = "^".repeat(excerpt.carets);
-    writeln!(out, "      | {}{}", " ".repeat(excerpt.before), carets)?;
+    write_excerpt(out, source, message.span)?;
     match &message.hint {
         None => Ok(()),
         Some(hint) => writeln!(out, "      hint: {}", hint),
     }
+}
+
+/// The line of a source that a place is in, and carets under the place.
+pub fn excerpt(source: &[u8], span: Span) -> String {
+    let mut shown = String::new();
+    let source = String::from_utf8_lossy(without_mark(source));
+    write_excerpt(&mut shown, &source, span).expect("a string takes all that is written");
+    shown
+}
+
+fn write_excerpt(out: &mut String, source: &str, span: Span) -> fmt::Result {
+    let number = span.position.line;
+    let line = lines(source).nth(number - 1).unwrap_or_default();
+    let excerpt = Excerpt::of(line, span);
+    let numbered = format!("{:>5} | {}", number, excerpt.text);
+    writeln!(out, "{}", numbered.trim_end())?;
+    let carets = "^".repeat(excerpt.carets);
+    writeln!(out, "      | {}{}", " ".repeat(excerpt.before), carets)
 }
 
 /// A line as it is shown, the columns before the place, and those of the place.

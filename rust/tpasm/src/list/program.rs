@@ -1,9 +1,10 @@
 //! A program's blocks and instructions as text.
 
 use super::line::Line;
+use crate::names::Names;
 use crate::notation::{self, Form, INTEGER, LABEL, POLICIES, REGISTER};
 use model::{Block, Instruction, Program, BLOCK_BYTES, HEADER_BYTES, INSTRUCTION_BYTES};
-use std::fmt;
+use std::borrow::Cow;
 
 /// How many blocks and instructions there are, in words.
 pub fn counts(program: &Program) -> String {
@@ -20,12 +21,13 @@ pub fn counts(program: &Program) -> String {
 
 /// The image of the program stands in the file at `at`.
 pub fn lines(program: &Program, image: &[u8], at: usize) -> Vec<Line> {
+    let names = Names::numbered(program.blocks.len());
     let blocks_end = HEADER_BYTES + BLOCK_BYTES * program.blocks.len();
     let record = |offset: usize, length: usize| (at + offset, &image[offset..offset + length]);
     let mut lines = Vec::new();
     for (number, block) in program.blocks.iter().enumerate() {
         let (offset, bytes) = record(HEADER_BYTES + BLOCK_BYTES * number, BLOCK_BYTES);
-        let text = format!("b{}:{}", number, annotation(block));
+        let text = format!("{}:{}", names.block(number), annotation(block));
         lines.push(Line::at(text, &format!("block {}", number), offset, bytes));
         let first = usize::from(block.first);
         let end = match program.blocks.get(number + 1) {
@@ -35,7 +37,7 @@ pub fn lines(program: &Program, image: &[u8], at: usize) -> Vec<Line> {
         for (number, instruction) in (first..end).zip(&program.instructions[first..end]) {
             let offset = blocks_end + INSTRUCTION_BYTES * number;
             let (offset, bytes) = record(offset, INSTRUCTION_BYTES);
-            let text = format!("  {}", written(instruction));
+            let text = format!("  {}", written(instruction, &names));
             lines.push(Line::at(text, &number.to_string(), offset, bytes));
         }
     }
@@ -62,29 +64,27 @@ fn annotation(block: &Block) -> String {
     )
 }
 
-fn written(instruction: &Instruction) -> String {
+/// An instruction as it is written, of a program that its questions were put to.
+pub fn written(instruction: &Instruction, names: &Names) -> String {
     let row = notation::of_opcode(instruction.opcode).expect("the reader has asked question 8");
-    let (r, s, v) = (instruction.r, instruction.s, Operand(instruction));
+    let (r, s) = (names.register(instruction.r), names.register(instruction.s));
+    let v = operand(instruction, names);
     match row.form {
-        Form::Move => format!("r{} := {}", r, v),
-        Form::Operation => format!("r{} := r{} {} {}", r, s, row.text, v),
-        Form::Result => format!("r{} := {} {}", r, row.text, v),
-        Form::Two => format!("{} r{}, {}", row.text, s, v),
+        Form::Move => format!("{} := {}", r, v),
+        Form::Operation => format!("{} := {} {} {}", r, s, row.text, v),
+        Form::Result => format!("{} := {} {}", r, row.text, v),
+        Form::Two => format!("{} {}, {}", row.text, s, v),
         Form::One => format!("{} {}", row.text, v),
         Form::Alone => row.text.to_string(),
     }
 }
 
-/// An instruction's operand as it is written.
-struct Operand<'a>(&'a Instruction);
-
-impl fmt::Display for Operand<'_> {
-    fn fmt(&self, f: &mut fmt::Formatter) -> fmt::Result {
-        match self.0.kind {
-            REGISTER => write!(f, "r{}", self.0.operand),
-            LABEL => write!(f, "b{}", self.0.operand),
-            INTEGER => write!(f, "{}", self.0.operand as i64),
-            _ => Ok(()),
-        }
+fn operand<'a>(instruction: &Instruction, names: &'a Names) -> Cow<'a, str> {
+    let number = instruction.operand;
+    match instruction.kind {
+        REGISTER => names.register(number as u8),
+        LABEL => names.block(number as usize).into(),
+        INTEGER => (number as i64).to_string().into(),
+        _ => "".into(),
     }
 }

@@ -54,7 +54,7 @@ impl Place {
 
     pub fn write(&self, bytes: &[u8]) -> Result<(), String> {
         let written = match self {
-            Place::File(path) => fs::write(path, bytes),
+            Place::File(path) => write_whole(path, bytes),
             Place::Standard => {
                 let mut out = io::stdout();
                 out.write_all(bytes).and_then(|()| out.flush())
@@ -68,6 +68,27 @@ impl Place {
             format!("{}: {}", name, error)
         })
     }
+}
+
+/// Writes a file whole or not at all: the bytes go to a new file beside it, which then takes its
+/// place. What is no file, and what stands in a folder that takes none, is written where it stands.
+fn write_whole(path: &Path, bytes: &[u8]) -> io::Result<()> {
+    let target = fs::canonicalize(path).unwrap_or_else(|_| path.to_path_buf());
+    let old = fs::metadata(&target).ok();
+    let is_other = old.as_ref().map_or(false, |old| !old.is_file());
+    let mut name = target.file_name().unwrap_or_default().to_os_string();
+    name.push(format!(".{}.new", std::process::id()));
+    let beside = target.with_file_name(name);
+    if is_other || fs::File::create(&beside).is_err() {
+        return fs::write(path, bytes);
+    }
+    let written = fs::write(&beside, bytes)
+        .and_then(|()| old.map_or(Ok(()), |old| fs::set_permissions(&beside, old.permissions())))
+        .and_then(|()| fs::rename(&beside, &target));
+    if written.is_err() {
+        let _ = fs::remove_file(&beside);
+    }
+    written
 }
 
 /// Messages. Where standard error takes none, the status is left to say it.

@@ -1,0 +1,127 @@
+//! A job's states along an order, each reached in one call of the engine and not pick by pick.
+
+use crate::order::{Order, Turns};
+use crate::player::Player;
+use crate::state::State;
+use model::{Call, Job, Status};
+
+/// An order whose states can be asked for by their number of picks.
+pub struct Course<'a> {
+    player: &'a Player,
+    order: Order,
+    /// The picks of the whole order, or so many as the budget allows. Of a list those that are refused
+    /// count.
+    pub length: u64,
+}
+
+impl<'a> Course<'a> {
+    /// The orders that depend on which tasks run are drawn up as a list first.
+    pub fn new(player: &'a Player, order: &Order, budget: u64) -> Result<Self, String> {
+        let order = match order {
+            Order::Passes | Order::Listed(_) => order.clone(),
+            drawn => Order::Listed(drawn_up(player, drawn, budget)?),
+        };
+        let mut course = Course {
+            player,
+            order,
+            length: budget,
+        };
+        course.length = match &course.order {
+            Order::Listed(slots) if player.replay(slots).work() <= budget => slots.len() as u64,
+            Order::Listed(slots) => course.position(budget, slots.len() as u64),
+            _ => player.run(budget).work(),
+        };
+        Ok(course)
+    }
+
+    pub fn order(&self) -> &Order {
+        &self.order
+    }
+
+    /// The state after the first picks of the order.
+    pub fn after(&self, picks: u64) -> State {
+        match &self.order {
+            Order::Listed(slots) => self.player.replay(&slots[..picks as usize]),
+            _ => self.player.run(picks),
+        }
+    }
+
+    pub fn last(&self) -> State {
+        self.after(self.length)
+    }
+
+    /// How far the order is gone when this work is done, if it ever is; at most `limit`.
+    pub fn position(&self, work: u64, limit: u64) -> u64 {
+        let (mut low, mut high) = (0, limit);
+        while low < high {
+            let middle = low + (high - low) / 2;
+            if self.after(middle).work() < work {
+                low = middle + 1;
+            } else {
+                high = middle;
+            }
+        }
+        low
+    }
+
+    /// The order from there on.
+    pub fn turns(&self, picks: u64) -> Turns<'_> {
+        let last = match (&self.order, picks) {
+            (Order::Passes, 1..) => {
+                let before = self.after(picks - 1);
+                Some(before.picked(&self.after(picks)))
+            }
+            _ => None,
+        };
+        Turns::behind(&self.order, picks as usize, last)
+    }
+}
+
+/// The slots of an order, drawn up on the model, since a call of the engine for each pick would take a
+/// thousand times as long. The engine then carries the list out, and has to accept every pick of it; of
+/// first and last it also has to refuse every slot that the order passes over.
+fn drawn_up(player: &Player, order: &Order, budget: u64) -> Result<Vec<u8>, String> {
+    let slots = guessed(player.job(), order, budget)
+        .map_err(|number| format!("the job was refused {}", number))?;
+    let work = slots.len() as u64;
+    let confirmed = player.replay(&slots).work() == work
+        && player
+            .replay(&with_passed_over(order, &slots, player.first().places()))
+            .work()
+            == work;
+    match confirmed {
+        true => Ok(slots),
+        false => Err("the engine does not carry out the order as it was drawn up".to_string()),
+    }
+}
+
+fn guessed(job: &[u8], order: &Order, budget: u64) -> Result<Vec<u8>, u8> {
+    let job = Job::parse(job)?;
+    let call = Call::new(&job.program, &job.words)?;
+    let mut machine = job.start()?;
+    let mut turns = Turns::new(order);
+    let mut slots = Vec::new();
+    while machine.end().is_none() && (slots.len() as u64) < budget {
+        let bit = |(number, slot): (usize, &model::Slot)| {
+            u64::from(slot.status == Status::Running) << number
+        };
+        let running = machine.slots().iter().enumerate().map(bit).sum();
+        match turns.next(running) {
+            Some(slot) if machine.pick_in(call, slot).is_ok() => slots.push(slot as u8),
+            _ => break,
+        }
+    }
+    Ok(slots)
+}
+
+/// The list with the slots that come before each in the order, and must not run.
+fn with_passed_over(order: &Order, slots: &[u8], places: usize) -> Vec<u8> {
+    let places = places as u8;
+    let passed_over = |slot: u8| match order {
+        Order::First => 0..slot,
+        Order::Last => slot + 1..places,
+        _ => 0..0,
+    };
+    let tried = slots.iter().flat_map(|&slot| passed_over(slot).chain([slot]));
+    tried.collect()
+}
