@@ -46,12 +46,8 @@ pub fn plot(counts: &[Counts]) -> Result<String, String> {
 }
 
 fn head() -> String {
-    format!(
-        "<svg xmlns=\"http://www.w3.org/2000/svg\" width=\"{0}\" height=\"{1}\" \
-         viewBox=\"0 0 {0} {1}\" font-family=\"sans-serif\" font-size=\"13\" role=\"img\">\n\
-         <title>Speed of the examples on 1 to {2} lanes</title>\n",
-        WIDTH, HEIGHT, MAX_LANES
-    )
+    let title = format!("Speed of the examples on 1 to {} lanes", MAX_LANES);
+    svg::head((WIDTH, HEIGHT), 13, &title)
 }
 
 /// What the two kinds of lines are.

@@ -6,8 +6,8 @@ mod settings;
 
 use crate::refusal::Refusal;
 use line::{text, Line};
-pub use program::written;
 use model::{Job, MARK};
+pub use program::written;
 
 /// Bytes of a job before its image.
 const IMAGE_AT: usize = 2;

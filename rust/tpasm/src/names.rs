@@ -64,7 +64,11 @@ impl Names {
     /// Those of a source.
     pub fn new(origins: &Origins, registers: &Registers) -> Self {
         Names {
-            blocks: origins.blocks.iter().map(|label| label.name.clone()).collect(),
+            blocks: origins
+                .blocks
+                .iter()
+                .map(|label| label.name.clone())
+                .collect(),
             registers: registers.clone(),
         }
     }
@@ -72,7 +76,9 @@ impl Names {
     /// `b0`, `b1`, .. and `r0` to `r15`.
     pub fn numbered(block_count: usize) -> Self {
         Names {
-            blocks: (0..block_count).map(|number| format!("b{}", number)).collect(),
+            blocks: (0..block_count)
+                .map(|number| format!("b{}", number))
+                .collect(),
             registers: Registers::default(),
         }
     }

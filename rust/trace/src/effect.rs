@@ -21,11 +21,18 @@ pub enum Effect {
     /// On to the next instruction, with a register written or with none.
     Onward(Option<Change>),
     /// Into a block.
-    Entered { block: usize },
+    Entered {
+        block: usize,
+    },
     /// The beat: into the handler of the block that was to be entered.
-    Promoted { block: usize, handler: usize },
+    Promoted {
+        block: usize,
+        handler: usize,
+    },
     /// The child sits in this slot.
-    Forked { child: usize },
+    Forked {
+        child: usize,
+    },
     Ended(Side),
     /// The job has ended.
     Halted,

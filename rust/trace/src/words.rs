@@ -83,7 +83,10 @@ fn forked(subject: &Subject, pick: &Pick, child: usize) -> String {
         places => format!("{} places", places),
     };
     let block = subject.block(task.pc.into());
-    format!("forks: the child in slot {} at {}, {} each", child, block, each)
+    format!(
+        "forks: the child in slot {} at {}, {} each",
+        child, block, each
+    )
 }
 
 fn ended(subject: &Subject, pick: &Pick, side: &Side, faults: &Faults) -> String {
@@ -144,7 +147,11 @@ fn passed_outward(pick: &Pick, side: &Side, faults: &Faults) -> Vec<String> {
         let others = faults.carried(other.slot).map(|fault| fault.number);
         lines.push(outward(pick.before, [region, other], [own, others]));
         let is_parent = region.slot < other.slot;
-        own = if is_parent { own.or(others) } else { others.or(own) };
+        own = if is_parent {
+            own.or(others)
+        } else {
+            others.or(own)
+        };
     }
     lines
 }

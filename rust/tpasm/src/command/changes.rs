@@ -50,11 +50,7 @@ impl Changes {
     }
 
     /// These settings, with those of the options in their place.
-    pub fn applied(
-        &self,
-        settings: &Settings,
-        registers: &Registers,
-    ) -> Result<Settings, Failure> {
+    pub fn applied(&self, settings: &Settings, registers: &Registers) -> Result<Settings, Failure> {
         let mut settings = settings.clone();
         settings.places = self.places.or(settings.places);
         settings.interval = self.interval.or(settings.interval);

@@ -83,7 +83,11 @@ fn write_whole(path: &Path, bytes: &[u8]) -> io::Result<()> {
         return fs::write(path, bytes);
     }
     let written = fs::write(&beside, bytes)
-        .and_then(|()| old.map_or(Ok(()), |old| fs::set_permissions(&beside, old.permissions())))
+        .and_then(|()| {
+            old.map_or(Ok(()), |old| {
+                fs::set_permissions(&beside, old.permissions())
+            })
+        })
         .and_then(|()| fs::rename(&beside, &target));
     if written.is_err() {
         let _ = fs::remove_file(&beside);

@@ -1,6 +1,8 @@
 //! Sources, images, jobs and files at fault: status 1, and nothing is written.
 
 use crate::{image, Folder, BAD, BAD_LINES};
+use std::fs;
+use std::process::Command;
 
 #[test]
 fn a_bad_source_changes_no_file() {
@@ -111,4 +113,31 @@ fn bad_files() {
         folder.failure("job good.tpal --words many -o new.job"),
         "tpasm: many: expected at most 4096 words, found 4097\n"
     );
+}
+
+/// What needs the engine is a program of its own; the assembler is built without it.
+#[test]
+fn the_other_program_is_missing() {
+    let folder = Folder::new("the_other_program");
+    let alone = folder.0.join("tpasm");
+    fs::copy(env!("CARGO_BIN_EXE_tpasm"), &alone).unwrap();
+    for command in ["trace", "picture", "profile"] {
+        let output = Command::new(&alone).arg(command).output().unwrap();
+        let said = String::from_utf8(output.stderr).unwrap();
+        assert_eq!(output.status.code(), Some(1));
+        assert!(said.contains("tpasm-trace: "), "{}", said);
+        assert!(said.contains("; `make` at the repository's root builds it"));
+    }
+}
+
+/// A file that is written takes the other's place whole, with its permissions; nothing is left beside
+/// it.
+#[test]
+fn an_old_file_is_replaced_whole() {
+    let folder = Folder::new("replaced_whole");
+    folder.write("old.tpb", &[7; 10_000]);
+    let before = folder.files().len();
+    assert_eq!(folder.output("image good.tpal -o old.tpb"), b"");
+    assert_eq!(folder.read("old.tpb"), image());
+    assert_eq!(folder.files().len(), before);
 }

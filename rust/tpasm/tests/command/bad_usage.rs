@@ -6,10 +6,13 @@ use crate::Folder;
 fn bad_command_lines() {
     let folder = Folder::new("bad_command_lines");
     for (arguments, line) in [
-        ("", "expected image, job, list or names"),
+        (
+            "",
+            "expected image, job, list, names, trace, picture or profile",
+        ),
         (
             "run good.tpal",
-            "expected image, job, list or names, found 'run'",
+            "expected image, job, list, names, trace, picture or profile, found 'run'",
         ),
         ("image", "expected a file to read"),
         (
@@ -89,7 +92,7 @@ fn near_commands_and_registers() {
     for (arguments, line) in [
         (
             "imgae good.tpal",
-            "expected image, job, list or names, found 'imgae': did you mean 'image'?",
+            "expected image, job, list, names, trace, picture or profile, found 'imgae': did you mean 'image'?",
         ),
         (
             "job total.tpal --set totl=1",

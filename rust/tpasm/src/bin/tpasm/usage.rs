@@ -6,11 +6,14 @@ usage: tpasm image SOURCE [-o FILE] [--deny-warnings]
                  [--set REGISTER=INTEGER].. [--words FILE]
        tpasm list FILE [-o FILE] [--offsets]
        tpasm names SOURCE [-o FILE]
+       tpasm trace|picture|profile FILE [OPTIONS], see 'tpasm trace --help'
 
 image  assembles SOURCE and writes its image
 job    assembles SOURCE and writes a job for the run program
 list   writes the source of an image or of a job
 names  writes the registers that SOURCE names, a line 'rN NAME' for each
+trace, picture, profile
+       run a text, an image or a job on the engine, and show what it does
 
 --deny-warnings  writes nothing where there are warnings
 --offsets        adds numbers, offsets and bytes to the listing, as comments

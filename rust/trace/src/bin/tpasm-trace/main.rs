@@ -9,8 +9,10 @@ use options::{Options, Request};
 use std::env;
 use std::io::{self, BufWriter, ErrorKind, Write};
 use tpasm::command::{at_fault, check_output, finish, Failure, Place};
+use trace::order::Order;
 use trace::subject::Subject;
-use trace::trace::Stop;
+use trace::text::{self, Stop};
+use trace::{picture, profile};
 
 fn main() {
     finish(match options::parse(env::args_os().skip(1)) {
@@ -29,34 +31,52 @@ fn run(options: &Options) -> Result<(), Failure> {
     let order = options.order()?;
     let bytes = options.input.read().map_err(at_fault)?;
     let subject = Subject::new(options.input.name(), bytes, &options.changes)?;
-    let request = trace::trace::Request {
-        order,
-        budget: options.budget,
-        from: if options.summary { 1 } else { options.from },
-        to: if options.summary { 0 } else { options.to },
-        slots: options.slots,
-    };
     match options.output {
         // A trace is long: it is printed as it comes.
         Place::Standard => {
             let out = &mut BufWriter::new(io::stdout());
-            stopped(write(options, &subject, request, out))
+            stopped(write(options, order, &subject, out))
         }
         Place::File(_) => {
             let mut text = Vec::new();
-            stopped(write(options, &subject, request, &mut text))?;
+            stopped(write(options, order, &subject, &mut text))?;
             options.output.write(&text).map_err(at_fault)
         }
     }
 }
 
 fn write(
-    _options: &Options,
+    options: &Options,
+    order: Order,
     subject: &Subject,
-    request: trace::trace::Request,
     out: &mut dyn Write,
 ) -> Result<(), Stop> {
-    trace::trace::write(subject, &request, out)
+    let budget = options.budget;
+    match options.command {
+        "trace" => {
+            let request = text::Request {
+                order,
+                budget,
+                from: options.from,
+                to: if options.summary { 0 } else { options.to },
+                slots: options.slots,
+            };
+            return text::write(subject, &request, out);
+        }
+        "profile" => {
+            let profile = profile::text(subject, &order, budget)?;
+            out.write_all(profile.as_bytes())?;
+        }
+        _ => {
+            let request = picture::Request {
+                order,
+                named: options.order_in_words(),
+                budget,
+            };
+            out.write_all(picture::svg(subject, &request)?.as_bytes())?;
+        }
+    }
+    Ok(out.flush()?)
 }
 
 /// A reader that has seen enough is no failure.

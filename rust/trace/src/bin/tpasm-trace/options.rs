@@ -121,6 +121,16 @@ impl Options {
         Ok(())
     }
 
+    /// How the job is run.
+    pub fn order_in_words(&self) -> String {
+        match (self.lanes, &self.order) {
+            (Some(1), _) => "1 lane".to_string(),
+            (Some(lanes), _) => format!("{} lanes", lanes),
+            (None, None) => "order passes".to_string(),
+            (None, Some(word)) => format!("order {}", word.to_string_lossy()),
+        }
+    }
+
     /// The order of picks, read from its file where it is one.
     pub fn order(&self) -> Result<Order, Failure> {
         if let Some(lanes) = self.lanes {
@@ -146,7 +156,10 @@ fn natural(name: &str, expected: &str, value: &OsStr) -> Result<u64, String> {
 fn listed(file: &OsString) -> Result<Order, Failure> {
     let place = Place::of(file.clone());
     let text = place.read().map_err(|error| {
-        let near = nearest(&file.to_string_lossy(), ["passes", "first", "last"].into_iter());
+        let near = nearest(
+            &file.to_string_lossy(),
+            ["passes", "first", "last"].into_iter(),
+        );
         let hint = near.map_or(error, |near| format!("did you mean '{}'?", near));
         Failure::Usage(format!("{}: {}", wrong("--order", ORDERS, file), hint))
     })?;
