@@ -5,6 +5,9 @@
 #                    make run JOB=examples/f/f.tpal OPTIONS='--places 1' BUDGET=5000000
 #                  JOB is a path, OPTIONS are those of `tpasm job`, BUDGET the most picks (1,000,000).
 #                  It ends with 'Error n' unless the job halts: 1 refused, 2 a fault, 3 spent, 4 not run.
+# make trace       what the same job does, pick by pick; make picture and make profile likewise:
+#                    make trace JOB=examples/sum/sum.tpal OPTIONS='--summary'
+#                    make picture JOB=examples/sum/sum.tpal OPTIONS='-o sum.svg'
 # make test        the whole gate, as .ci/run
 # make rust-test   the model's tests, and the engine compared with the model
 # make c-test      the engine called from C, the installation, header and exports
@@ -17,9 +20,10 @@
 # make soak-dispatch jobs on lanes on both: make soak-dispatch JOBS=.. SEED=..
 # make limit       the work limit of 4,294,967,295 reached on the engine, about half a minute
 # make lanes       docs/lanes.md's table of the examples' rounds on 1 to 8 lanes, and docs/lanes.svg
+# make traces      the stored traces of the examples, and the pictures of docs/, anew
 # make mutants     wrong definitions with code to match: which check catches each; minutes for each, hours for
 #                  all: make mutants MUTANTS='28 work_limit' AT_ONCE=2
-# make install     tpal.h, libtpal.a, libtpal.so, tpal.pc, tpal_run and tpasm below PREFIX, /usr/local:
+# make install     tpal.h, libtpal.a, libtpal.so, tpal.pc, tpal_run, tpasm and tpasm-trace below PREFIX, /usr/local:
 #                    make install PREFIX=/opt/tpal DESTDIR=stage
 # make uninstall   removes them again, with the same PREFIX and DESTDIR
 # make tools       installs gcc and cargo where they are missing, from Debian's packages
@@ -56,14 +60,16 @@ budgeted = target/c/run
 on_lanes = target/c/lanes
 assembler = rust/target/release/tpasm
 sources = crates.txt $(shell find crates -type f -not -path '*/must-fail/*')
+tracer = rust/target/release/tpasm-trace
 rust_sources = rust/Cargo.toml rust/Cargo.lock $(shell find rust/tpasm rust/model -type f)
+all_rust_sources = $(shell find rust -name target -prune -o -type f -print)
 in_rust = --release --offline --manifest-path rust/Cargo.toml
 
 # rt's checks share target/: one at a time.
 .NOTPARALLEL:
 .DELETE_ON_ERROR:
 .PHONY: all run lib test rust-test c-test bench soak soak-jobs soak-steps soak-orders soak-replay soak-dispatch limit \
-        lanes mutants install uninstall tools clean distclean help
+        lanes traces trace picture profile mutants install uninstall tools clean distclean help
 
 all: tools $(program) lib
 	cargo build $(in_rust)
@@ -71,6 +77,10 @@ all: tools $(program) lib
 run: tools $(program) $(assembler) $(if $(BUDGET),$(budgeted)) $(if $(LANES),$(on_lanes))
 	@sh scripts/run.sh $(if $(LANES),-l '$(LANES)') $(if $(BUDGET),-b '$(BUDGET)') "$$JOB" $(OPTIONS)
 run: export JOB := $(JOB)
+
+trace picture profile: tools $(assembler) $(tracer)
+	@$(assembler) $@ "$$JOB" $(OPTIONS)
+trace picture profile: export JOB := $(JOB)
 
 lib: $(static) $(shared)
 
@@ -114,6 +124,9 @@ limit: tools $(archive)
 lanes: tools $(archive)
 	cargo run $(in_rust) --bin lanes -- page docs/lanes.md
 	cargo run $(in_rust) --bin lanes -- plot >docs/lanes.svg
+
+traces: tools $(assembler) $(tracer)
+	@sh scripts/traces.sh
 
 mutants: tools $(archive)
 	@sh scripts/mutants.sh -j $(AT_ONCE) $(MUTANTS)
@@ -161,13 +174,17 @@ $(assembler): $(rust_sources)
 	@cargo build --quiet $(in_rust) -p tpasm
 	@touch $@
 
+$(tracer): $(archive) $(all_rust_sources)
+	@cargo build --quiet $(in_rust) -p trace
+	@touch $@
+
 # ---- Installed
 
 to = $(DESTDIR)$(PREFIX)
 installed = include/tpal.h lib/libtpal.a lib/libtpal.so lib/$(soname) lib/libtpal.so.$(version) \
-            lib/pkgconfig/tpal.pc bin/tpal_run bin/tpasm
+            lib/pkgconfig/tpal.pc bin/tpal_run bin/tpasm bin/tpasm-trace
 
-install: lib $(program) $(assembler)
+install: lib $(program) $(assembler) $(tracer)
 	@case '$(PREFIX)' in *[[:space:]]*|[!/]*|'') echo 'PREFIX is a path from / on, without spaces'; exit 1;; esac
 	install -d '$(to)/include' '$(to)/lib/pkgconfig' '$(to)/bin'
 	install -m 644 c/tpal.h '$(to)/include'
@@ -176,7 +193,7 @@ install: lib $(program) $(assembler)
 	ln -sf $(soname) '$(to)/lib/libtpal.so'
 	sed -e 's|@PREFIX@|$(PREFIX)|' -e 's|@VERSION@|$(version)|' c/tpal.pc.in >'$(to)/lib/pkgconfig/tpal.pc'
 	chmod 644 '$(to)/lib/pkgconfig/tpal.pc'
-	install -m 755 $(program) $(assembler) '$(to)/bin'
+	install -m 755 $(program) $(assembler) $(tracer) '$(to)/bin'
 
 uninstall:
 	rm -f $(foreach file,$(installed),'$(to)/$(file)')

@@ -2,7 +2,7 @@
 # Installs to a scratch folder, compiles a C and a C++ program against what is there through
 # pkg-config, with the static library and with the shared one, runs them, and uninstalls. The last line
 # is the total. Needs make, g++ and pkg-config, and installs them from Debian's packages where they are
-# missing. Nothing is proved or compiled anew but for the assembler.
+# missing. Nothing is proved or compiled anew but for the assembler and what shows jobs.
 set -eu
 cd "$(dirname "$0")/.."
 . c/counting.sh
@@ -63,6 +63,7 @@ files "$stage" >"$room/files"
 cat >"$room/expected" <<END
 .$prefix/bin/tpal_run
 .$prefix/bin/tpasm
+.$prefix/bin/tpasm-trace
 .$prefix/include/tpal.h
 .$prefix/lib/libtpal.a
 .$prefix/lib/libtpal.so
@@ -78,6 +79,7 @@ holds 'the installed header' cmp c/tpal.h "$at/include/tpal.h"
 "$at/bin/tpasm" image examples/f/f.tpal -o "$room/f.image"
 "$at/bin/tpasm" job examples/f/f.tpal -o "$room/f.job"
 holds 'the run program' prints examples/f/f.out "$room/f.job" "$at/bin/tpal_run"
+holds 'a trace' prints examples/f/f.out /dev/null "$at/bin/tpasm" trace "$room/f.job" --summary
 
 holds 'a C program compiles' build 'gcc -std=c99' run c/run.c
 holds 'it needs the shared library' needs "$room/run"

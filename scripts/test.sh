@@ -73,8 +73,18 @@ holds 'make run, a path with spaces' says 0 'end halt\nwork 9\n' make run "JOB=$
 holds 'make run, an option' says 2 'end fault 37\n' make run "JOB=$spaced" 'OPTIONS=--places 1'
 holds 'make run, a budget' says 2 'end spent\nwork 3\n' make run BUDGET=3
 holds 'the status that make prints' complains 'run\] Error 3'
+holds 'make trace' says 0 '   pick slot line  block  instruction         what it changed\n' make trace
+holds 'make trace, an option' says 0 'end fault 37\nwork 2\n' make trace "JOB=$spaced" \
+    'OPTIONS=--places 1 --summary'
+holds 'make picture' says 0 '<svg xmlns="http://www.w3.org/2000/svg".*\n' \
+    sh -c 'make -s -o target/bin/tpal_run -o target/staticlib/libjob.a picture | sed "1s/svg\" .*/svg\".*/"'
+holds 'make profile' says 0 'end halt, work 9, span 7\n' make profile
+holds 'the stored traces' sh scripts/traces.sh "$room"
+for trace in rust/trace/tests/data/*.trace; do
+    holds "${trace##*/}" cmp "$trace" "$room/${trace##*/}"
+done
 holds 'make help' says 0 'The block engine.*\n' sh -c 'make help | sed "1s/engine.*/engine.*/"'
-for target in all run install uninstall clean help; do
+for target in all run trace traces install uninstall clean help; do
     holds "a line for $target" grep -q "^make ${target#all}" "$room/out"
 done
 

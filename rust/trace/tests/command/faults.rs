@@ -47,15 +47,15 @@ fn three_faults_in_three_tasks() {
         let (_, story) = end.split_once("\n\n").unwrap();
         let heads: Vec<&str> = story.split("\n\n").collect();
         assert_eq!(heads.len(), 3, "{}: {}", order, story);
-        let winner = "three.tpal:13:3: fault 33: the index is outside the call record\n   \
-                      13 |   x := word 3\n      |   ^^^^^^^^^^^\n      pick ";
+        let winner = "three.tpal:14:3: fault 33: the index is outside the call record\n   \
+                      14 |   x := word 3\n      |   ^^^^^^^^^^^\n      pick ";
         assert!(heads[0].starts_with(winner), "{}", story);
         assert!(
             heads[0].contains("slot 1, block bad-word\n      outward: slot 1, joined to slot 0 at")
         );
         assert_eq!(heads[0].matches("joined to slot 0 at pick").count(), 2);
         let aside = "(set aside, the parent's number counts)";
-        for place in ["three.tpal:10:3: fault 32", "three.tpal:16:3: fault 34"] {
+        for place in ["three.tpal:11:3: fault 32", "three.tpal:17:3: fault 34"] {
             let found = heads[1..].iter().find(|head| head.starts_with(place));
             let found = found.unwrap_or_else(|| panic!("{}: {}", place, story));
             assert!(found.lines().next().unwrap().ends_with(aside));
@@ -76,23 +76,29 @@ fn in_words_where_they_come_up() {
          slot 0 is faulted with 33"
     ));
     assert!(line(8).ends_with("fault 32: the divisor is 0; waits for slot 3"));
-    assert!(
-        line(9).ends_with(
-            "fault 34: the target of a jump or fork is not a label; \
+    assert!(line(9).ends_with(
+        "fault 34: the target of a jump or fork is not a label; \
          set aside, the parent's number counts (slot 2, 32); slot 2 is faulted with 32; \
-         slot 0 faulted too: set aside, the parent's number counts; slot 0 is faulted with 33; \
+         set aside, the parent's number counts (slot 0, 33); slot 0 is faulted with 33; \
          the job ends"
-        ) || line(9).contains("set aside, the parent's number counts (slot 0, 33)")
-    );
+    ));
+    let trace = folder.printed("trace three.tpal");
+    assert!(trace.lines().nth(9).unwrap().ends_with(
+        "slot 1 had faulted; slot 0 is faulted with 33; \
+         slot 2 faulted too: set aside, the parent's number counts; slot 0 is faulted with 33; \
+         the job ends"
+    ));
 }
 
 #[test]
 fn where_tasks_stand_beside_a_fault() {
     let folder = Folder::with("beside_a_fault", "three.tpal", THREE);
     let trace = folder.printed("trace three.tpal --order last --budget 5 --summary");
-    assert!(trace.contains("waits for slot"), "{}", trace);
-    assert!(trace.contains("is faulted with 34, from three.tpal:16:3, and waits for slot 2"));
-    assert!(trace.contains("stands at three.tpal:"));
+    assert!(trace.ends_with(
+        "the budget of 5 picks is spent:\n\
+         slot 0 stands at three.tpal:6:3: block main, fork jr, bad-word\n\
+         slot 2 is faulted with 32, from three.tpal:11:3, and waits for slot 0\n"
+    ));
 }
 
 /// Faults of 64 tasks, each found.
