@@ -14,7 +14,7 @@ mod job;
 mod list;
 mod message;
 mod names;
-mod notation;
+pub mod notation;
 mod origins;
 mod recover;
 mod refusal;

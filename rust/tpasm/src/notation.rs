@@ -77,6 +77,12 @@ pub fn of_text(text: &str) -> Option<&'static Row> {
     ROWS.iter().find(|row| row.text == text)
 }
 
+/// Whether it writes its register r.
+pub fn writes_register(opcode: u8) -> bool {
+    let form = of_opcode(opcode).map(|row| row.form);
+    matches!(form, Some(Form::Move | Form::Operation | Form::Result))
+}
+
 /// Jump, halt and join.
 pub fn ends_block(opcode: u8) -> bool {
     matches!(opcode, opcode::JUMP | opcode::HALT | opcode::JOIN)

@@ -50,8 +50,12 @@ impl<'a> Course<'a> {
         self.after(self.length)
     }
 
-    /// How far the order is gone when this work is done, if it ever is; at most `limit`.
+    /// How far the order is gone when this work is done, if it ever is; at most `limit`. In a list some
+    /// picks may be refused.
     pub fn position(&self, work: u64, limit: u64) -> u64 {
+        if self.order == Order::Passes {
+            return work.min(limit);
+        }
         let (mut low, mut high) = (0, limit);
         while low < high {
             let middle = low + (high - low) / 2;

@@ -2,7 +2,8 @@
 
 use crate::player::Player;
 use crate::state::{Region, State};
-use model::{opcode, Instruction, Program, Status, Task, Value, REGISTERS};
+use model::{opcode, Instruction, Program, Status, Task, Value};
+use tpasm::notation::{ends_block, writes_register, LABEL, REGISTER};
 
 /// A pick that was carried out.
 pub struct Pick<'a> {
@@ -86,7 +87,7 @@ fn effect(player: &Player, program: &Program, [before, after]: [&State; 2], slot
             child: slot + usize::from(new.task.places),
         };
     }
-    if !ends_block(instruction) && new.task.pc == old.task.pc + 1 {
+    if !ends_block(instruction.opcode) && new.task.pc == old.task.pc + 1 {
         return Effect::Onward(change(instruction, &old.task, &new.task));
     }
     let block = block_of(program, new.task.pc.into());
@@ -100,22 +101,11 @@ fn effect(player: &Player, program: &Program, [before, after]: [&State; 2], slot
     }
 }
 
-fn ends_block(instruction: &Instruction) -> bool {
-    matches!(
-        instruction.opcode,
-        opcode::JUMP | opcode::JOIN | opcode::HALT
-    )
-}
-
-/// The register that an instruction writes. `if-jump` and `fork` write none.
+/// The register that an instruction writes.
 fn change(instruction: &Instruction, old: &Task, new: &Task) -> Option<Change> {
-    let writes = !matches!(instruction.opcode, opcode::IF_JUMP | opcode::FORK);
-    let written = usize::from(instruction.r);
-    let changed = |number: &usize| old.registers[*number] != new.registers[*number];
-    let register = (0..REGISTERS).find(changed);
-    let register = register.or_else(|| writes.then_some(written))?;
-    Some(Change {
-        register: register as u8,
+    let register = usize::from(instruction.r);
+    writes_register(instruction.opcode).then(|| Change {
+        register: instruction.r,
         old: old.registers[register],
         new: new.registers[register],
     })
@@ -134,8 +124,6 @@ fn target(instruction: &Instruction, task: &Task) -> Option<usize> {
 
 /// The value of an instruction's operand.
 pub fn operand(instruction: &Instruction, task: &Task) -> Value {
-    const REGISTER: u8 = 1;
-    const LABEL: u8 = 2;
     match instruction.kind {
         REGISTER => task.registers[instruction.operand as usize],
         LABEL => Value::Label(instruction.operand as u8),

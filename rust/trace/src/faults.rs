@@ -1,7 +1,6 @@
 //! What becomes of each fault: it waits, is passed outward, or is set aside for the parent's.
 
 use crate::effect::{Effect, Pick, Side};
-use crate::state::State;
 use std::collections::BTreeMap;
 
 /// A fault inside a task.
@@ -15,6 +14,18 @@ pub struct Fault {
     pub pc: usize,
     /// The slots of the joined tasks that it was passed to, and their picks.
     pub outward: Vec<(usize, u64)>,
+}
+
+/// A join of two sides of which one or both faulted.
+#[derive(Clone, Copy, Debug, PartialEq, Eq)]
+pub struct Passed {
+    /// Of the joined task, which is faulted with `number`.
+    pub slot: usize,
+    pub number: u8,
+    /// The slot of the side that had ended before.
+    pub other: usize,
+    /// The faults of the side that has ended now, and of the other.
+    pub numbers: [Option<u8>; 2],
 }
 
 /// The faults of a job so far.
@@ -32,13 +43,17 @@ impl Faults {
         self.carried.get(&slot)
     }
 
-    pub fn note(&mut self, pick: &Pick) {
-        if let Effect::Ended(side) = &pick.effect {
-            self.note_side(pick, side);
+    /// Notes what a pick did to faults, and hands back the joins of sides of which one or both faulted,
+    /// from the innermost outward.
+    pub fn note(&mut self, pick: &Pick) -> Vec<Passed> {
+        match &pick.effect {
+            Effect::Ended(side) => self.note_side(pick, side),
+            _ => Vec::new(),
         }
     }
 
-    fn note_side(&mut self, pick: &Pick, side: &Side) {
+    fn note_side(&mut self, pick: &Pick, side: &Side) -> Vec<Passed> {
+        let mut passed = Vec::new();
         let mut winner = side.fault.map(|number| Fault {
             number,
             pick: pick.number,
@@ -46,35 +61,45 @@ impl Faults {
             pc: pick.pc,
             outward: Vec::new(),
         });
-        let depths = (side.now.depth + 1..=side.own.depth).rev();
-        for depth in depths {
-            winner = self.joined(pick, depth, winner);
+        for depth in (side.now.depth + 1..=side.own.depth).rev() {
+            let region = pick.before.region(pick.slot, depth);
+            let other = pick.before.other_side(region).slot;
+            let others = self.carried.remove(&other);
+            let numbers = [&winner, &others].map(|fault| Some(fault.as_ref()?.number));
+            winner = self.joined(region.slot < other, winner, others);
+            if let Some(fault) = &mut winner {
+                let slot = region.slot.min(other);
+                fault.outward.push((slot, pick.number));
+                passed.push(Passed {
+                    slot,
+                    other,
+                    numbers,
+                    number: fault.number,
+                });
+            }
         }
         if let Some(fault) = winner {
             self.carried.insert(side.now.slot, fault);
         }
+        passed
     }
 
-    /// The fault of the task that the two sides at this depth were joined to.
-    fn joined(&mut self, pick: &Pick, depth: usize, own: Option<Fault>) -> Option<Fault> {
-        let state: &State = pick.before;
-        let region = state.region(pick.slot, depth);
-        let other = state.other_side(region);
-        let others = self.carried.remove(&other.slot);
-        let (parent, child) = if region.slot < other.slot {
+    /// The parent's fault if it has one, else the child's.
+    fn joined(
+        &mut self,
+        is_parent: bool,
+        own: Option<Fault>,
+        others: Option<Fault>,
+    ) -> Option<Fault> {
+        let (parent, child) = if is_parent {
             (own, others)
         } else {
             (others, own)
         };
-        let mut winner = match (parent, child) {
-            (Some(parent), child) => {
-                self.aside.extend(child);
-                parent
-            }
-            (None, child) => child?,
-        };
-        let joined = region.slot.min(other.slot);
-        winner.outward.push((joined, pick.number));
-        Some(winner)
+        if parent.is_none() {
+            return child;
+        }
+        self.aside.extend(child);
+        parent
     }
 }

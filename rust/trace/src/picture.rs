@@ -43,8 +43,11 @@ pub fn svg(subject: &Subject, request: &Request) -> Result<String, Stop> {
     };
     let first = subject.player.first().clone();
     let state = watch.until(request.budget, first, &mut turns, &mut recorder)?;
-    if let Order::Lanes(lanes) = request.order {
-        confirm(&subject.player, lanes, turns.rounds(), &state)?;
+    match request.order {
+        Order::Lanes(lanes) if state.end().is_some() => {
+            confirm(&subject.player, lanes, turns.rounds())?;
+        }
+        _ => {}
     }
     let chart = recorder.finished();
     let drawing = Drawing {
@@ -63,11 +66,10 @@ pub fn svg(subject: &Subject, request: &Request) -> Result<String, Stop> {
 }
 
 /// The dispatcher counts the same rounds.
-fn confirm(player: &Player, lanes: u64, rounds: u64, state: &State) -> Result<(), Stop> {
+fn confirm(player: &Player, lanes: u64, rounds: u64) -> Result<(), Stop> {
     let mut report = [0; DISPATCH_BYTES];
-    let counted = engine::job_dispatch(player.job(), lanes, rounds, &mut report);
-    let same = counted.is_ok() && number_at(&report, NUMBERS) == rounds;
-    if same || state.end().is_none() {
+    let counted = engine::job_dispatch(player.job(), lanes, u64::MAX, &mut report);
+    if counted.is_ok() && number_at(&report, NUMBERS) == rounds {
         return Ok(());
     }
     Err(Stop::Order(

@@ -1,8 +1,7 @@
 //! What a pick did, in words.
 
 use crate::effect::{operand, Change, Effect, Pick, Side};
-use crate::faults::Faults;
-use crate::state::{Region, State};
+use crate::faults::Passed;
 use crate::subject::Subject;
 use model::{opcode, Status, Value};
 use tpasm::Fault;
@@ -22,8 +21,8 @@ pub fn value(subject: &Subject, value: Value) -> String {
     }
 }
 
-/// What this pick changed. `faults` are those before it.
-pub fn words(subject: &Subject, pick: &Pick, faults: &Faults) -> String {
+/// What this pick changed, and how it passed faults outward.
+pub fn words(subject: &Subject, pick: &Pick, passed: &[Passed]) -> String {
     match &pick.effect {
         Effect::Onward(Some(change)) => changed(subject, change),
         Effect::Onward(None) => format!("{}on", condition(subject, pick)),
@@ -33,7 +32,7 @@ pub fn words(subject: &Subject, pick: &Pick, faults: &Faults) -> String {
         }
         Effect::Promoted { block, handler } => promoted(subject, pick, *block, *handler),
         Effect::Forked { child } => forked(subject, pick, *child),
-        Effect::Ended(side) => ended(subject, pick, side, faults),
+        Effect::Ended(side) => ended(subject, pick, side, passed),
         Effect::Halted => "the job ends".to_string(),
     }
 }
@@ -89,7 +88,7 @@ fn forked(subject: &Subject, pick: &Pick, child: usize) -> String {
     )
 }
 
-fn ended(subject: &Subject, pick: &Pick, side: &Side, faults: &Faults) -> String {
+fn ended(subject: &Subject, pick: &Pick, side: &Side, passed: &[Passed]) -> String {
     let mut said = match side.fault {
         Some(number) => Fault(number).to_string(),
         None => String::new(),
@@ -104,10 +103,9 @@ fn ended(subject: &Subject, pick: &Pick, side: &Side, faults: &Faults) -> String
     }
     if pick.after.slot(side.now.slot).status == Status::Running {
         say(joined(subject, pick, side));
-    } else {
-        for line in passed_outward(pick, side, faults) {
-            say(line);
-        }
+    }
+    for join in passed {
+        say(outward(join));
     }
     if pick.after.end().is_some() {
         say("the job ends".to_string());
@@ -137,39 +135,17 @@ fn joined(subject: &Subject, pick: &Pick, side: &Side) -> String {
     }
 }
 
-/// Each join of two sides of which one or both faulted.
-fn passed_outward(pick: &Pick, side: &Side, faults: &Faults) -> Vec<String> {
-    let mut lines = Vec::new();
-    let mut own = side.fault;
-    for depth in (side.now.depth + 1..=side.own.depth).rev() {
-        let region = pick.before.region(pick.slot, depth);
-        let other = pick.before.other_side(region);
-        let others = faults.carried(other.slot).map(|fault| fault.number);
-        lines.push(outward(pick.before, [region, other], [own, others]));
-        let is_parent = region.slot < other.slot;
-        own = if is_parent {
-            own.or(others)
-        } else {
-            others.or(own)
-        };
-    }
-    lines
-}
-
-fn outward(state: &State, [own, other]: [Region; 2], numbers: [Option<u8>; 2]) -> String {
-    let [own_number, other_number] = numbers;
-    let parent = own.slot.min(other.slot);
-    let is_parent = own.slot == parent;
-    let has = match (state.slot(other.slot).status, own_number, other_number) {
-        (_, Some(_), Some(_)) if is_parent => format!("slot {} faulted too: {}", other.slot, ASIDE),
-        (_, Some(_), Some(number)) => format!("{} (slot {}, {})", ASIDE, other.slot, number),
-        (_, Some(_), None) => format!("slot {} had waited", other.slot),
-        (_, None, _) => format!("slot {} had faulted", other.slot),
+/// A join of two sides of which one or both faulted.
+fn outward(passed: &Passed) -> String {
+    let other = passed.other;
+    let has = match passed.numbers {
+        [Some(_), Some(_)] if passed.slot < other => {
+            format!("slot {} faulted too: {}", other, ASIDE)
+        }
+        [Some(_), Some(number)] => format!("{} (slot {}, {})", ASIDE, other, number),
+        [Some(_), None] => format!("slot {} had waited", other),
+        [None, _] => format!("slot {} had faulted", other),
     };
-    let number = match is_parent {
-        true => own_number.or(other_number),
-        false => other_number.or(own_number),
-    };
-    let number = number.unwrap_or_default();
-    format!("{}; slot {} is faulted with {}", has, parent, number)
+    let (slot, number) = (passed.slot, passed.number);
+    format!("{}; slot {} is faulted with {}", has, slot, number)
 }

@@ -169,7 +169,25 @@ impl<'a> Recorder<'a> {
         }
     }
 
+    fn forked(&mut self, pick: &Pick, child: usize, step: u64) {
+        let target = pick.after.slot(child).task.pc.into();
+        let target = block_of(&self.subject.program, target);
+        self.begin(child, step + 1, Kind::Block(target));
+        self.chart.forks.push(Link {
+            at: step,
+            from: pick.slot,
+            to: child,
+        });
+    }
+
     fn side_ended(&mut self, pick: &Pick, side: &Side, step: u64) {
+        if let Some(number) = side.fault {
+            self.chart.marks.push(Mark {
+                at: step,
+                slot: pick.slot,
+                number,
+            });
+        }
         for depth in (side.now.depth + 1..=side.own.depth).rev() {
             let region = pick.before.region(pick.slot, depth);
             let other = pick.before.other_side(region).slot;
@@ -208,26 +226,8 @@ impl Observer for Recorder<'_> {
         }
         self.set(slot, step, Kind::Block(block));
         match &pick.effect {
-            Effect::Forked { child } => {
-                let target = pick.after.slot(*child).task.pc.into();
-                let target = block_of(&self.subject.program, target);
-                self.begin(*child, step + 1, Kind::Block(target));
-                self.chart.forks.push(Link {
-                    at: step,
-                    from: slot,
-                    to: *child,
-                });
-            }
-            Effect::Ended(side) => {
-                if let Some(number) = side.fault {
-                    self.chart.marks.push(Mark {
-                        at: step,
-                        slot,
-                        number,
-                    });
-                }
-                self.side_ended(pick, side, step);
-            }
+            Effect::Forked { child } => self.forked(pick, *child, step),
+            Effect::Ended(side) => self.side_ended(pick, side, step),
             _ => {}
         }
         Ok(())

@@ -69,13 +69,12 @@ impl Observer for Columns<'_, '_> {
             false => mark(pick.before.slot(slot).status),
         });
         let cells: Vec<String> = cells.collect();
+        let passed = self.shown.faults.note(pick);
         let what = match pick.effect {
             Effect::Onward(_) | Effect::Entered { .. } => String::new(),
-            _ => words(subject, pick, self.shown.faults),
+            _ => words(subject, pick, &passed),
         };
-        self.write(&pick.number.to_string(), &cells, &what)?;
-        self.shown.faults.note(pick);
-        Ok(())
+        self.write(&pick.number.to_string(), &cells, &what)
     }
 
     fn refused(&mut self, slot: usize, number: u8) -> io::Result<()> {

@@ -71,7 +71,8 @@ impl<'a, 'w> Lines<'a, 'w> {
 impl Observer for Lines<'_, '_> {
     fn picked(&mut self, pick: &Pick, _: &Turns) -> io::Result<()> {
         let subject = self.shown.subject;
-        let what = words(subject, pick, self.shown.faults);
+        let passed = self.shown.faults.note(pick);
+        let what = words(subject, pick, &passed);
         let cells = [
             &pick.number.to_string(),
             &pick.slot.to_string(),
@@ -79,9 +80,7 @@ impl Observer for Lines<'_, '_> {
             subject.block(pick.pc),
             &*subject.instruction(pick.pc),
         ];
-        self.write(cells, &what)?;
-        self.shown.faults.note(pick);
-        Ok(())
+        self.write(cells, &what)
     }
 
     fn refused(&mut self, slot: usize, number: u8) -> io::Result<()> {
