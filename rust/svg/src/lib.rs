@@ -103,6 +103,19 @@ pub fn rects(rects: &[Rect], colour: &str, style: &str) -> String {
     format!("<path d=\"{}\" fill=\"{}\" {}/>\n", path, colour, style)
 }
 
+/// Level lines of one colour as one shape: where each begins, and how far to the right it goes.
+pub fn levels(lines: &[(Point, f64)], colour: &str, style: &str) -> String {
+    let mut path = String::new();
+    for &((x, y), right) in lines {
+        let [x, y, right] = [x, y, right].map(short);
+        write!(path, "M{} {}H{}", x, y, right).expect("a string takes all that is written");
+    }
+    format!(
+        "<path d=\"{}\" fill=\"none\" stroke=\"{}\" {}/>\n",
+        path, colour, style
+    )
+}
+
 /// With one decimal, or with none where it would be 0.
 fn short(number: f64) -> String {
     let written = format!("{:.1}", number);

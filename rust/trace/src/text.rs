@@ -76,15 +76,15 @@ fn part(
         course: &course,
     };
     if request.from > request.to {
-        skim.note(0, course.length, faults);
+        skim.note(0, course.length, faults)?;
         return Ok(course.last());
     }
     let begin = course.position(request.from.saturating_sub(1), course.length);
     let end = course.position(request.to, course.length);
-    skim.note(0, begin, faults);
+    skim.note(0, begin, faults)?;
     let at = (course.after(begin), course.turns(begin));
     show(subject, request, at, faults, out)?;
-    skim.note(end, course.length, faults);
+    skim.note(end, course.length, faults)?;
     Ok(course.last())
 }
 

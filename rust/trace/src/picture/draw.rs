@@ -7,7 +7,7 @@ use super::legend;
 use super::thin::thinned;
 use crate::subject::Subject;
 use std::collections::BTreeMap;
-use svg::{dot, line, rects, text, Anchor, Rect};
+use svg::{dot, levels, rects, text, Anchor, Rect};
 
 pub struct Drawing<'a> {
     pub subject: &'a Subject,
@@ -153,7 +153,7 @@ impl Drawing<'_> {
 fn links(field: &Field, links: &[Link], style: &str) -> String {
     const ROOM: f64 = 6.0;
     let mut drawn: BTreeMap<(usize, usize), f64> = BTreeMap::new();
-    let mut lines = String::new();
+    let mut lines = Vec::new();
     for link in links {
         let y = field.y(link.at + 1);
         let last = drawn.entry((link.from, link.to)).or_insert(-ROOM);
@@ -162,8 +162,7 @@ fn links(field: &Field, links: &[Link], style: &str) -> String {
         }
         *last = y;
         let (left, right) = (link.from.min(link.to), link.from.max(link.to));
-        let points = [(field.x(left) + field.bar, y), (field.x(right), y)];
-        lines += &line(&points, INK, style);
+        lines.push(((field.x(left) + field.bar, y), field.x(right)));
     }
-    lines
+    levels(&lines, INK, style)
 }

@@ -156,10 +156,7 @@ fn natural(name: &str, expected: &str, value: &OsStr) -> Result<u64, String> {
 fn listed(file: &OsString) -> Result<Order, Failure> {
     let place = Place::of(file.clone());
     let text = place.read().map_err(|error| {
-        let near = nearest(
-            &file.to_string_lossy(),
-            ["passes", "first", "last"].into_iter(),
-        );
+        let near = nearest(&file.to_string_lossy(), ["passes", "first", "last"]);
         let hint = near.map_or(error, |near| format!("did you mean '{}'?", near));
         Failure::Usage(format!("{}: {}", wrong("--order", ORDERS, file), hint))
     })?;
