@@ -76,11 +76,12 @@ case $(head -n 1 "$room/said") in
     exit 1
     ;;
 'end fault '*)
-    echo 'status 2: a fault; docs/numbers.md says what the number means' >&2
+    echo 'status 2: a fault; docs/numbers.md says what the number means, and make trace where it came up' >&2
     exit 2
     ;;
 'end spent')
-    echo 'status 3: spent; the job had not ended after this work (make run BUDGET=n allows n picks)' >&2
+    echo 'status 3: spent; the job had not ended after this work (make run BUDGET=n allows n picks;' >&2
+    echo "make trace OPTIONS='--summary --budget n' says where each task stands)" >&2
     exit 3
     ;;
 *)

@@ -7,7 +7,7 @@ use checks::assemble::{
 use checks::layout::{pair, program_f};
 use checks::product::product;
 use model::opcode;
-use tpasm::{assemble, job};
+use tpasm::{assemble, job, notation, written, Names};
 use Operand::{Int, Lab, Reg};
 
 fn image(source: &str) -> Vec<u8> {
@@ -155,4 +155,37 @@ fn the_examples_of_document_01_are_the_proved_programs() {
     assert_eq!(image(f), program_f());
     let figure_2 = include_str!("../../../examples/product/product.tpal");
     assert_eq!(image(figure_2), product());
+}
+
+/// Lines and columns of labels and instructions, and these with the text's names.
+#[test]
+fn where_blocks_and_instructions_stand() {
+    let source = "reg x = r0\nmain: // first\n  x := x + -1 ;  jump  last // on\n\nlast: halt\n";
+    let assembly = assemble(source.as_bytes()).unwrap();
+    let blocks = assembly.origins.blocks.iter();
+    let blocks: Vec<_> = blocks
+        .map(|label| (label.name.as_str(), label.position.to_string()))
+        .collect();
+    assert_eq!(blocks, [("main", "2:1".into()), ("last", "5:1".into())]);
+    let spans = assembly.origins.instructions.iter();
+    let spans: Vec<_> = spans
+        .map(|span| (span.position.to_string(), span.width))
+        .collect();
+    let expected = [("3:3", 11), ("3:18", 10), ("5:7", 4)];
+    assert_eq!(spans, expected.map(|(at, width)| (at.to_string(), width)));
+
+    let names = Names::new(&assembly.origins, &assembly.registers);
+    let program = model::read(&assembly.image).unwrap();
+    let instructions = program.instructions.iter();
+    let texts: Vec<String> = instructions
+        .map(|instruction| written(instruction, &names))
+        .collect();
+    assert_eq!(texts, ["x := x + -1", "jump last", "halt"]);
+}
+
+/// The first of an instruction's fields is what it writes, where it has one.
+#[test]
+fn instructions_that_write_a_register() {
+    let writing = (1..=15).filter(|opcode| notation::writes_register(*opcode));
+    assert!(writing.eq([1, 2, 3, 4, 5, 6, 7, 8, 9, 11]));
 }

@@ -1,6 +1,6 @@
 //! What docs/assembly.md shows is what is printed.
 
-use tpasm::{assemble, job, list_file, show};
+use tpasm::{assemble, job, list_file, show, Fault};
 
 const PAGE: &str = include_str!("../../../docs/assembly.md");
 
@@ -34,4 +34,19 @@ fn the_listing() {
     let listing = list_file(&job, true).unwrap();
     let first: Vec<&str> = listing.lines().take(9).collect();
     has(&first.join("\n"));
+}
+
+/// A fault is said in the same words from C.
+#[test]
+fn the_words_of_faults() {
+    let header = include_str!("../../../c/tpal.h");
+    for number in model::fault::FIRST..=model::fault::LAST {
+        let said = Fault(number).to_string();
+        let words = said.strip_prefix(&format!("fault {}: ", number)).unwrap();
+        assert!(
+            header.contains(&format!("return \"{}\";", words)),
+            "{}",
+            said
+        );
+    }
 }

@@ -151,3 +151,30 @@ fn places_of_the_job() {
         }
     }
 }
+
+#[test]
+fn one_slot_alone() {
+    let bytes = forked();
+    assert_eq!((places(&bytes), work(&bytes)), (4, 2));
+    assert_eq!(running_slots(&bytes), 0b101);
+    let machine = read(&bytes).unwrap();
+    for (number, expected) in machine.slots().iter().enumerate() {
+        assert_eq!(slot(&bytes, number).as_ref(), Some(expected));
+    }
+    let damaged = with(bytes.clone(), SLOT_2, 5);
+    assert_eq!(slot(&damaged, 2), None);
+    assert!(is_same_slot(&bytes, &damaged, 0));
+    assert!(!is_same_slot(&bytes, &damaged, 2));
+}
+
+/// The child waits for its parent. Put back to running it is at the first instruction, and the state
+/// still meets the shape test.
+#[test]
+fn an_ended_side_runs_again() {
+    let mut bytes = bytes(&after(&f(), 4, &[0, 0, 2, 2]));
+    assert_eq!(running_slots(&bytes), 0b001);
+    set_running(&mut bytes, 2);
+    assert_eq!(running_slots(&bytes), 0b101);
+    assert_eq!(slot(&bytes, 2).unwrap().task.pc, 0);
+    assert!(is_taken(&bytes));
+}
