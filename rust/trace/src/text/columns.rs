@@ -11,11 +11,16 @@ use model::Status;
 use std::io;
 
 const MAX_CELL: usize = 26;
+/// Where the columns would be wider together, they have the lines alone, and the instruction stands
+/// behind them.
+const MAX_WIDTH: usize = 180;
+const LINE: usize = 4;
 
 pub struct Columns<'a, 'w> {
     shown: Shown<'a, 'w>,
     places: usize,
     cell: usize,
+    is_narrow: bool,
 }
 
 impl<'a, 'w> Columns<'a, 'w> {
@@ -23,14 +28,22 @@ impl<'a, 'w> Columns<'a, 'w> {
     pub fn new(shown: Shown<'a, 'w>, state: &State) -> io::Result<Self> {
         let subject = shown.subject;
         let all = 0..subject.program.instructions.len();
-        let cells = all.map(|pc| cell(subject, pc));
+        let cells = all.map(|pc| whole_cell(subject, pc));
+        let cell = width(cells, "slot 63", MAX_CELL);
+        let places = state.places();
+        let is_narrow = places * (cell + 2) > MAX_WIDTH;
         let mut columns = Columns {
-            cell: width(cells, "slot 63", MAX_CELL),
-            places: state.places(),
+            cell: if is_narrow { LINE } else { cell },
+            places,
+            is_narrow,
             shown,
         };
-        writeln!(columns.shown.out, "| runs, ~ waits, ! is faulted and waits")?;
-        let heads = (0..columns.places).map(|slot| format!("slot {}", slot));
+        let marks = "| runs, ~ waits, ! is faulted and waits";
+        writeln!(columns.shown.out, "{}", marks)?;
+        let heads = (0..columns.places).map(|slot| match is_narrow {
+            true => slot.to_string(),
+            false => format!("slot {}", slot),
+        });
         let heads: Vec<String> = heads.collect();
         columns.write("pick", &heads, "")?;
         Ok(columns)
@@ -47,7 +60,7 @@ impl<'a, 'w> Columns<'a, 'w> {
 }
 
 /// Line and instruction.
-fn cell(subject: &Subject, pc: usize) -> String {
+fn whole_cell(subject: &Subject, pc: usize) -> String {
     format!("{} {}", subject.line(pc), subject.instruction(pc))
 }
 
@@ -65,15 +78,19 @@ impl Observer for Columns<'_, '_> {
     fn picked(&mut self, pick: &Pick, _: &Turns) -> io::Result<()> {
         let subject = self.shown.subject;
         let cells = (0..self.places).map(|slot| match slot == pick.slot {
-            true => cell(subject, pick.pc),
+            true if self.is_narrow => subject.line(pick.pc).to_string(),
+            true => whole_cell(subject, pick.pc),
             false => mark(pick.before.slot(slot).status),
         });
         let cells: Vec<String> = cells.collect();
         let passed = self.shown.faults.note(pick);
-        let what = match pick.effect {
+        let mut what = match pick.effect {
             Effect::Onward(_) | Effect::Entered { .. } => String::new(),
             _ => words(subject, pick, &passed),
         };
+        if self.is_narrow {
+            what = format!("{}  {}", subject.instruction(pick.pc), what);
+        }
         self.write(&pick.number.to_string(), &cells, &what)
     }
 

@@ -104,3 +104,15 @@ fn one_column_a_slot() {
          joins slot 1: one task in slot 0, at comb, other = 7"
     );
 }
+
+/// Columns for 64 instructions would be too wide: there are lines alone.
+#[test]
+fn columns_of_many_slots() {
+    let f = all().into_iter().find(|example| example.name == "f");
+    let trace = of_example("trace", &f.unwrap(), &["--slots", "--places", "64"]);
+    let lines: Vec<&str> = trace.lines().collect();
+    assert!(lines[1].starts_with("   pick  0     1     2     3 "));
+    assert!(lines[5].starts_with("      4  13    "));
+    assert!(lines[5].ends_with("  x := x + 1"));
+    assert_eq!(lines[5].find('|'), Some(9 + 6 * 32));
+}
