@@ -8,7 +8,7 @@ use mathlib.Core.List.{[]}
 use native.Mathlib.Omega.{arith}
 use lib.Dec.{leb}
 use borrow.Author.Tests.{leb-true, leb-false}
-use Rattle.facts.proofs.Tests.{clash, by-test}
+use Rattle.facts.proofs.Tests.{clash, never, by-test, by-below}
 use Rattle.agreement.specs.Plain.{Ran, out, ran}
 use Rattle.agreement.proofs.PlainLaws.{out-not-ran}
 use Rattle.serial.specs.Serial.{spent, done, withinBudget}
@@ -26,7 +26,7 @@ use Rattle.orders.proofs.Shapes.{every-order-meets}
 use Rattle.orders.proofs.Runs.{order-passes, run-is-order}
 use Rattle.report.specs.Report.{reportOf}
 use Rattle.report.proofs.ReportLaws.{spent-report, ended-report}
-use Rattle.outcomes.specs.Outcomes.{allowed, reportFrom, RunIsPlain}
+use Rattle.outcomes.specs.Outcomes.{allowance, reportFrom, RunIsPlain}
 
 -- ---- The report of a state, by whether the job has ended there
 
@@ -43,7 +43,8 @@ module _ (s : State) (picks n : ℕ) (counted : picks ≡ s .work) where
       ∙ (λ i. record { end = NotEnded; picks = (counted ∙ all) i; work = all i; span = 0; registers = zeros })
 
   -- the job has ended as an evaluation of the work W did
-  report-done : (e : Frame) (W : ℕ) → jobEnded s ≡ true → SameResult s e W → W ≤ n → reportOf s picks ≡ reportFrom n (done e (n - W))
+  report-done : (e : Frame) (W : ℕ) → jobEnded s ≡ true → SameResult s e W → W ≤ n
+      → reportOf s picks ≡ reportFrom n (done e (n - W))
   report-done e W o same fits =
       let rest : W ≡ n - (n - W) = omega (arith, fits) in
       let work = same .same-work ∙ rest in
@@ -66,7 +67,7 @@ module _ (j : Job) (accepted : Accepted j) (m : State) (budget : ℕ) where
   s = r .state
 
   abbrev n : ℕ
-  n = allowed budget
+  n = allowance budget
 
   is-run : IsRun j (startOn j m) budget r
   unfolding playedOf
@@ -79,8 +80,8 @@ module _ (j : Job) (accepted : Accepted j) (m : State) (budget : ℕ) where
   counted : r .picks ≡ s .work
   counted = omega (arith, start-work, is-run .is-order .rise-in-work)
 
-  within-allowed : s .work ≤ n
-  within-allowed =
+  within-allowance : s .work ≤ n
+  within-allowance =
       let o = is-run .is-order in
       omega (arith, counted, o .within-budget, o .within-limit (omega (arith, start-work)))
 
@@ -89,8 +90,8 @@ module _ (j : Job) (accepted : Accepted j) (m : State) (budget : ℕ) where
   all-used o = by (is-run .spent-when o)
     where
       by : (r .picks ≡ budget) ⊎ (workLimit ≤ s .work) → s .work ≡ n
-      by (inl p) = omega (arith, counted, within-allowed)
-      by (inr p) = omega (arith, within-allowed)
+      by (inl p) = omega (arith, counted, within-allowance)
+      by (inr p) = omega (arith, within-allowance)
 
   -- demand 3
   agrees : (e : Frame) (W : ℕ) → Ends j e W → Agrees j s e W
@@ -98,8 +99,8 @@ module _ (j : Job) (accepted : Accepted j) (m : State) (budget : ℕ) where
       let o = is-run .is-order in
       subst⁻¹ (λ (x : State). Agrees j x e W) (o .leads-here) (demand-3 j accepted m (o .order) .where-it-ends e W t)
 
-  never : ((e : Frame) (W : ℕ) → Ends j e W → ⊥) → jobEnded s ≡ false
-  never none =
+  never-ended : ((e : Frame) (W : ℕ) → Ends j e W → ⊥) → jobEnded s ≡ false
+  never-ended none =
       let o = is-run .is-order in
       ap jobEnded (o .leads-here) ∙ demand-3 j accepted m (o .order) .where-it-does-not-end none .never-ended
 
@@ -110,20 +111,20 @@ module _ (j : Job) (accepted : Accepted j) (m : State) (budget : ℕ) where
   ended-within e W t fits = by-test (jobEnded s) (λ o. o)
       (λ o. let a = agrees e W t in a .ended-when-equal (omega (arith, all-used o, a .work-never-above)))
 
-  -- more than is allowed is not
+  -- more than is allowed is not: where it is above the limit too, no order ends the job
   open-above : (e : Frame) (W : ℕ) → evaluation j workLimit ≡ ran e W → n < W → jobEnded s ≡ false
-  open-above e W t above = by-test (leb W workLimit)
-      (λ l. by-test (jobEnded s)
-      (λ o. absurd (omega (arith, above, within-allowed, agrees e W (record { evaluates = t; within-limit = leb-true W workLimit l }) .equal-when-ended o)))
-      (λ o. o))
-      (λ l. never (λ f U h.
+  open-above e W t above = by-below workLimit W
+      (λ over. never-ended (λ f U h.
       let q : ran e W ≡ ran f U = sym t ∙ h .evaluates in
       let same : W ≡ U = cc in
-      absurd (omega (arith, same, h .within-limit, leb-false W workLimit l))))
+      omega (arith, same, h .within-limit, over)))
+      (λ within. never (jobEnded s) (λ o.
+      let w = agrees e W (record { evaluates = t; within-limit = within }) .equal-when-ended o in
+      omega (arith, above, within-allowance, w)))
 
   by-evaluation : (x : Ran Frame) → evaluation j workLimit ≡ x → reportOf s (r .picks) ≡ reportFrom n (withinBudget n x)
   by-evaluation out t =
-      let o = never (λ e W h. out-not-ran (sym t ∙ h .evaluates)) in
+      let o = never-ended (λ e W h. out-not-ran (sym t ∙ h .evaluates)) in
       report-spent s (r .picks) n counted o (all-used o)
   by-evaluation (ran e W) t = by-test (leb W n)
       (λ l.

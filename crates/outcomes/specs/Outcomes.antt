@@ -15,18 +15,17 @@ use Rattle.orders.specs.Runs.{run}
 use Rattle.report.specs.declared.Report.{Report}
 use Rattle.report.specs.Report.{reportOf}
 
--- the instructions that a budget allows: the work of a state has a limit (24), which no budget passes
-abbrev pub allowed : ℕ → ℕ
-allowed budget = min budget workLimit
+-- the instructions that a budget allows: a state's work has a limit (24), whatever the budget
+abbrev pub allowance : ℕ → ℕ
+allowance budget = min budget workLimit
 
--- what a job's plain evaluation comes to within n instructions. (One that has no fuel left with the limit's, and one that ended with more
--- work than n, are both spent)
-abbrev pub plainly : Job → ℕ → Outcome Frame
-plainly j n = withinBudget n (evaluation j workLimit)
+-- what a job's plain evaluation comes to within n instructions. (Where it runs out of its fuel, and where it ends with more work than n, it
+-- is spent)
+abbrev pub plainOutcome : Job → ℕ → Outcome Frame
+plainOutcome j n = withinBudget n (evaluation j workLimit)
 
--- The report of what an evaluation came to within n instructions. One that is done ended as its task did, by halt or by a fault; its work is
--- what is not left of n, and the span and the registers are the task's. One that is spent issued all n, and reports these alone. Each
--- instruction is one pick
+-- The report of what an evaluation came to within n instructions, each of them a pick. Done: it ended as its task did, by halt or by a
+-- fault, its work is what is not left of n, and span and registers are the task's. Spent: all n were issued, and the work alone is reported
 abbrev pub reportFrom : ℕ → Outcome Frame → Report
 reportFrom n (done e left) = record {
   end = endOf e;
@@ -45,4 +44,4 @@ abbrev pub RunIsPlain : Type 0
 RunIsPlain =
     (j : Job) → Accepted j → (m : State) (budget : ℕ)
     → let r = run j (startOn j m) budget in
-    reportOf (r .state) (r .picks) ≡ reportFrom (allowed budget) (plainly j (allowed budget))
+    reportOf (r .state) (r .picks) ≡ reportFrom (allowance budget) (plainOutcome j (allowance budget))
