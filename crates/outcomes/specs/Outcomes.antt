@@ -1,5 +1,5 @@
 -- What a job's run hands out is a function of what the job's plain evaluation comes to within the budget: which slots the run picked, and
--- in which order, doesn't show. So an engine may evaluate in any order of its own, with slots or without, and hand out the same report.
+-- in which order, doesn't show. So code that finds this outcome in another way, with no slots and no state, hands out the same report.
 -- `proofs/Reports.antt` proves it. It rests on serial's `withinBudget` (an evaluation's outcome within a budget), orders' Demand (the
 -- evaluation of a job) and Runs (the budgeted run), and report's `reportOf` (the report of a run).
 use Prim.Native.Nat.{ℕ, _-_, min}
