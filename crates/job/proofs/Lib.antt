@@ -2,3 +2,4 @@ pub mod Ends
 pub mod Asking
 pub mod Replaying
 pub mod Running
+pub mod PlainReport

@@ -1,0 +1,2 @@
+-- The definition, and the statement.
+pub mod Outcomes

@@ -1,0 +1,4 @@
+-- The proof, in its order.
+pub mod Equations
+pub mod Plugging
+pub mod SerialLaws

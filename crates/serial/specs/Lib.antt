@@ -1,0 +1,2 @@
+-- Definitions, and the statement.
+pub mod Serial
