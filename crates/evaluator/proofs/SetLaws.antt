@@ -1,0 +1,32 @@
+-- Each way through an arm that sets a register.
+use mathlib.Core.Path.{_≡_, refl, sym, ap, _∙_}
+use mathlib.Core.Bool.{Bool, true, false, true≢false}
+use mathlib.Core.List.{List}
+use Prim.Native.Nat.{ℕ, _<_}
+use lib.IntN.{ℤ}
+use lib.ListN.{getD, set}
+use mir.Syntax.{w64}
+use mir.Val.{toZ}
+use Rattle.task.specs.declared.Value.{Value}
+use Rattle.task.specs.declared.Value.the-variants.{Int}
+use Rattle.task.specs.declared.Register.{Register}
+use Rattle.task.specs.Effect.{Effect, stores}
+use Rattle.evaluator.specs.Registers.{valueOf, registersOf, Sized, inRegister}
+use Rattle.evaluator.specs.Arms.{Sets, computing}
+use Rattle.evaluator.proofs.RegisterLaws.{written, integer-at}
+
+-- it leaves all as it was
+pub unset : {r : ℕ} {registers : List Register} {e : Effect} → Sets false r registers registers e
+unset = record { did = λ q. absurd (true≢false (sym q)); did-not = λ q. refl }
+
+-- it stores bits of a kind
+pub sets : (nums kinds : List ℕ) (r u k : ℕ) {nums′ kinds′ : List ℕ} {e : Effect} (w : Value) → valueOf k u ≡ w → e ≡ stores w
+    → nums′ ≡ set nums r u → kinds′ ≡ set kinds r k → Sets true r (registersOf nums kinds) (registersOf nums′ kinds′) e
+sets nums kinds r u k w h e p q = record { did = λ t. (w, e, rw (p, q) (written nums kinds r u k ∙ rw h)); did-not = λ t. absurd (true≢false t) }
+
+-- it stores what an operation gives of the integer in s and b
+pub sets-computed : (nums kinds : List ℕ) (r s u b : ℕ) {nums′ kinds′ : List ℕ} → Sized nums kinds → s < 16 → getD kinds s 0 ≡ 0
+    → nums′ ≡ set nums r u → kinds′ ≡ set kinds r 0 → (op : ℤ → ℤ → Value) → Int (toZ w64 u) ≡ op (toZ w64 (getD nums s 0)) (toZ w64 b)
+    → Sets true r (registersOf nums kinds) (registersOf nums′ kinds′) (computing op (inRegister s (registersOf nums kinds)) (Int (toZ w64 b)))
+sets-computed nums kinds r s u b h l i x y op z =
+    sets nums kinds r u 0 (op (toZ w64 (getD nums s 0)) (toZ w64 b)) z (rw (integer-at nums kinds s h l i)) x y
