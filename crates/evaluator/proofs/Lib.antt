@@ -3,12 +3,12 @@ pub mod RegisterLaws
 pub mod ValueLaws
 pub mod SetLaws
 pub mod LeadLaws
--- pub mod CodeLaws
--- pub mod TurnLaws
--- pub mod RunLaws
--- pub mod StepLaws
--- pub mod JoinLaws
--- pub mod PassLaws
+pub mod CodeLaws
+pub mod TurnLaws
+pub mod RunLaws
+pub mod StepLaws
+pub mod JoinLaws
+pub mod PassLaws
 -- pub mod PendingLaws
 -- pub mod LoopLaws
 -- pub mod Measure

@@ -2,15 +2,21 @@
 use mathlib.Core.Path.{_≡_, refl, sym, ap, _∙_}
 use mathlib.Core.Bool.{Bool, true, false, true≢false}
 use mathlib.Core.List.{List}
-use Prim.Native.Nat.{ℕ, _<_}
-use lib.IntN.{ℤ}
-use lib.ListN.{getD, set}
+use Prim.Native.Nat.{ℕ, _^_, _<_}
+use lib.IntN.{ℤ, pos}
+use lib.ListN.{length, getD, set}
 use mir.Syntax.{w64}
-use mir.Val.{toZ}
+use mir.Val.{SFits, toZ, ofZ}
+use mir.ValLaws.{toZ-ofZ}
+use borrow.Author.Tests.{lt-ltb}
+use Rattle.image.specs.Program.{Program}
 use Rattle.task.specs.declared.Value.{Value}
 use Rattle.task.specs.declared.Value.the-variants.{Int}
 use Rattle.task.specs.declared.Register.{Register}
-use Rattle.task.specs.Effect.{Effect, stores}
+use Rattle.task.specs.declared.Fork.{Fork}
+use Rattle.task.specs.declared.Active.{Active}
+use Rattle.task.specs.Choices.{Choices}
+use Rattle.task.specs.Effect.{Effect, stores, asked, word, effectOf}
 use Rattle.evaluator.specs.Registers.{valueOf, registersOf, Sized, inRegister}
 use Rattle.evaluator.specs.Arms.{Sets, computing}
 use Rattle.evaluator.proofs.RegisterLaws.{written, integer-at}
@@ -30,3 +36,16 @@ pub sets-computed : (nums kinds : List ℕ) (r s u b : ℕ) {nums′ kinds′ : 
     → Sets true r (registersOf nums kinds) (registersOf nums′ kinds′) (computing op (inRegister s (registersOf nums kinds)) (Int (toZ w64 b)))
 sets-computed nums kinds r s u b h l i x y op z =
     sets nums kinds r u 0 (op (toZ w64 (getD nums s 0)) (toZ w64 b)) z (rw (integer-at nums kinds s h l i)) x y
+
+-- ---- word v of the call record, where v is an integer's bits
+
+small-bits : (u : ℕ) → u < 2 ^ 63 → toZ w64 u ≡ pos u
+small-bits u h = rw (lt-ltb u (2 ^ 63) h)
+
+pub gives-word : (words : List ℤ) (v u : ℕ) (p : Program) (c : Choices) (s : Value) (t : Active) (o : List Fork) → v < length words → v < 2 ^ 63
+    → SFits w64 (getD words v (pos 0)) → u ≡ ofZ w64 (toZ w64 (ofZ w64 (getD words v (pos 0))))
+    → effectOf p words c s (Int (toZ w64 v)) t o word ≡ stores (Int (toZ w64 u))
+unfolding asked
+gives-word words v u p c s t o inside small fits e =
+    let q : toZ w64 u ≡ getD words v (pos 0) = ap (toZ w64) (e ∙ ap (ofZ w64) (toZ-ofZ w64 _ fits)) ∙ toZ-ofZ w64 _ fits in
+    rw (small-bits v small, q, lt-ltb v (length words) inside)
