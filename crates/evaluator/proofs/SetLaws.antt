@@ -1,8 +1,9 @@
 -- Each way through an arm that sets a register.
-use mathlib.Core.Path.{_≡_, refl, sym, ap, _∙_}
+use mathlib.Core.Path.{_≡_, refl, sym, ap, subst, _∙_}
 use mathlib.Core.Bool.{Bool, true, false, true≢false}
 use mathlib.Core.List.{List}
-use Prim.Native.Nat.{ℕ, _^_, _<_}
+use Prim.Native.Nat.{ℕ, _+_, _*_, _^_, _<_, _≤_}
+use native.Mathlib.Omega.{arith}
 use lib.IntN.{ℤ, pos}
 use lib.ListN.{length, getD, set}
 use mir.Syntax.{w64}
@@ -16,9 +17,9 @@ use Rattle.task.specs.declared.Register.{Register}
 use Rattle.task.specs.declared.Fork.{Fork}
 use Rattle.task.specs.declared.Active.{Active}
 use Rattle.task.specs.Choices.{Choices}
-use Rattle.task.specs.Effect.{Effect, stores, asked, word, effectOf}
-use Rattle.evaluator.specs.Registers.{valueOf, registersOf, Sized, inRegister}
-use Rattle.evaluator.specs.Arms.{Sets, computing}
+use Rattle.task.specs.Effect.{Effect, stores, asked, word, unknown, opcodes, effectOf}
+use Rattle.evaluator.specs.Registers.{valueOf, registersOf, Sized, inRegister, operandBy}
+use Rattle.evaluator.specs.Arms.{Sets, SetsAs, computing}
 use Rattle.evaluator.proofs.RegisterLaws.{written, integer-at}
 
 -- it leaves all as it was
@@ -49,3 +50,15 @@ unfolding asked
 gives-word words v u p c s t o inside small fits e =
     let q : toZ w64 u ≡ getD words v (pos 0) = ap (toZ w64) (e ∙ ap (ofZ w64) (toZ-ofZ w64 _ fits)) ∙ toZ-ofZ w64 _ fits in
     rw (small-bits v small, q, lt-ltb v (length words) inside)
+
+-- ---- an arm by its number: N + 16 K is n + 16 k for no other n and k
+
+module _ (words : List ℤ) (on : Bool) (r s v : ℕ) (nums kinds nums′ kinds′ : List ℕ) where
+  abbrev Does : ℕ → ℕ → Type 0
+  Does n k = SetsAs words (getD opcodes n unknown) on r nums kinds nums′ kinds′ (inRegister s) (operandBy k v)
+
+  pub as-numbered : (N K : ℕ) → N ≤ 15 → {arm : ℕ} → arm ≡ N + 16 * K → Does N K → (n k : ℕ) → n ≤ 15 → arm ≡ n + 16 * k → Does n k
+  as-numbered N K few e h n k low q =
+      let p : N ≡ n = omega (arith, few, low, e, q) in
+      let z : K ≡ k = omega (arith, few, low, e, q) in
+      subst (λ i. Does i k) p (subst (λ j. Does N j) z h)

@@ -6,10 +6,10 @@ use Prim.Native.Nat.{ℕ, zero, suc, _+_, _*_, _-_, _/_, _%_, _<_, _≤_}
 use native.Mathlib.Omega.{arith}
 use lib.IntN.{ℤ}
 use lib.ListN.{getD, set}
-use borrow.Author.Tests.{ne-eqb}
 use Rattle.image.specs.declared.Instruction.{Instruction}
 use Rattle.image.specs.Layout.{blockCount, instructionCount, instructionOf, programOf}
 use Rattle.image.proofs.Accepted.{accepted, InstructionAccepted}
+use Rattle.facts.proofs.Tests.{clash, by-test}
 use Rattle.agreement.specs.Plain.{one}
 use Rattle.task.specs.declared.Value.{Value}
 use Rattle.task.specs.declared.Register.{Register}
@@ -41,6 +41,7 @@ pub record Named (x : Instruction) (n k v : ℕ) : Type 0 where
   pub its-opcode : x .opcode ≡ n
   pub its-kind : x .kind ≡ k
   pub its-operand : v ≡ x .operand
+  pub known : k ≤ 3
 
 -- what an arm may rest on
 pub record Fetched (cells : List ℕ) (pc arm r s v : ℕ) : Type 0 where
@@ -80,6 +81,7 @@ module _ {cells : List ℕ} {pc arm r s v : ℕ} (d : Fetched cells pc arm r s v
         its-opcode = omega (arith, c .0, e, p, d .its .opcode-most);
         its-kind = omega (arith, c .0, e, p, d .its .opcode-most);
         its-operand = c .1;
+        known = q;
       }
 
   pub register-small : (n : ℕ) → Named x n 1 v → v < 16
@@ -88,8 +90,18 @@ module _ {cells : List ℕ} {pc arm r s v : ℕ} (d : Fetched cells pc arm r s v
   pub label-below : (n : ℕ) → Named x n 2 v → v < blockCount cells
   label-below n h = omega (arith, h .its-operand, d .its .label-below (h .its-kind))
 
-  pub next-below : (n k : ℕ) → n < 13 → Named x n k v → pc / 4 + 1 < instructionCount cells
-  next-below n k l h = d .its .next-below (omega (arith, l, h .its-opcode))
+  pub next-below : (n : ℕ) → n < 13 → x .opcode ≡ n → pc / 4 + 1 < instructionCount cells
+  next-below n l h = d .its .next-below (omega (arith, l, h))
+
+  -- whatever arm it is, but for the plain jumps
+  pub named-so : arm < 64 → Named x (x .opcode) (x .kind) v
+  named-so l = record { its-opcode = refl; its-kind = refl; its-operand = d .decoded .armed .common l .1; known = d .its .kind-known }
+
+  pub register-operand : 16 ≤ arm → arm < 32 → v < 16
+  register-operand l h =
+      let c = d .decoded .armed .common (omega (arith, h)) in
+      let k : x .kind ≡ 1 = omega (arith, c .0, l, h, d .its .opcode-most) in
+      omega (arith, c .1, d .its .register-small k)
 
   -- a plain jump: the label b that stands in the instruction
   pub record Jumps (n : ℕ) : Type 0 where
@@ -105,7 +117,7 @@ module _ {cells : List ℕ} {pc arm r s v : ℕ} (d : Fetched cells pc arm r s v
       let u = d .block-inside (x .operand) v below p refl in
       record {
         label = x .operand;
-        jump-named = record { its-opcode = omega (arith, p .plain-arm, p .to-label, e); its-kind = p .to-label; its-operand = refl };
+        jump-named = record { its-opcode = omega (arith, p .plain-arm, p .to-label, e); its-kind = p .to-label; its-operand = refl; known = omega arith };
         unready-there = u;
         place-small = omega (arith, u .its-first, u .first-inside, d .few);
       }
@@ -127,20 +139,20 @@ module _ (cells : List ℕ) (words : List ℤ) (interval places depth pc beat le
   counter-is = omega (arith, counts)
 
   -- the operand by its kind
-  operand-is : (g : Frame) (i : Instruction) (k : ℕ) → i .kind ≡ k → operand g i ≡ operandBy k (i .operand) (g .registers)
+  operand-is : (g : Frame) (i : Instruction) (k : ℕ) → k ≤ 3 → i .kind ≡ k → operand g i ≡ operandBy k (i .operand) (g .registers)
   unfolding operand
-  operand-is g i zero e = rw e
-  operand-is g i (suc zero) e = rw e
-  operand-is g i (suc (suc zero)) e = rw e
-  operand-is g i (suc (suc (suc k))) e =
-      rw (e, ne-eqb (suc (suc (suc k))) 1 (λ q. omega (arith, q)), ne-eqb (suc (suc (suc k))) 2 (λ q. omega (arith, q)))
+  operand-is g i zero l e = rw e
+  operand-is g i (suc zero) l e = rw e
+  operand-is g i (suc (suc zero)) l e = rw e
+  operand-is g i (suc (suc (suc zero))) l e = rw e
+  operand-is g i (suc (suc (suc (suc k)))) l e = absurd (omega (arith, l))
 
   module _ (n k s v : ℕ) (h : Named y n k v) (same-s : s ≡ y .s) where
     means : (forks : List Fork) (span : ℕ)
         → executed (programOf cells) words (chosen interval) y (register (f forks span) (y .s)) (operand (f forks span) y) (activeOf (f forks span .task)) forks
         ≡ answered (programOf cells) words (chosen interval) (inRegister s before) (operandBy k v before) a forks (getD opcodes n unknown)
     unfolding executed
-    means forks span = rw (operand-is (f forks span) y k (h .its-kind), h .its-opcode, h .its-operand, same-s, counter-is)
+    means forks span = rw (operand-is (f forks span) y k (h .known) (h .its-kind), h .its-opcode, h .its-operand, same-s, counter-is)
 
     -- it sets a register
     pub turned-sets : (on : Bool) (after : List Register) (r : ℕ) → r ≡ y .r → (on ≡ true → pc / 4 + 1 < instructionCount cells)
@@ -163,7 +175,7 @@ module _ (cells : List ℕ) (words : List ℤ) (interval places depth pc beat le
             × (after ≡ set before r (record { value = w }))
             → step (programOf cells) words (chosen interval) (f forks span) ≡ one (frameAt places depth forks ((pc + 4) / 4) (beat - left) (span + 1) after)
         go forks span (w, is, now) =
-            step-executed (programOf cells) words (chosen interval) (f forks span) ∙ rw (means forks span, is, place, now, same, counter-is)
+            step-executed (programOf cells) words (chosen interval) (f forks span) ∙ rw (means forks span, is, place, now, same)
 
     -- it goes elsewhere
     pub turned-leads : (g : Gone)
@@ -177,3 +189,29 @@ module _ (cells : List ℕ) (words : List ℤ) (interval places depth pc beat le
       counted = e [] .counted;
       beat-most = e [] .beat-most;
     }
+
+  -- it does not go on by itself
+  turned-off : (on : Bool) (after : List Register) → on ≡ false → after ≡ before
+      → Turned cells words interval places depth pc beat left before (record { on = on; pc = pc + 4; beat = beat }) after
+  turned-off on after q e = record {
+    steps = λ t. clash t q;
+    stays = λ t. e;
+    aligned = omega (arith, aligned);
+    inside = λ t. clash t q;
+    counted = omega (arith, counts);
+    beat-most = omega arith;
+  }
+
+  -- all the arms that set a register
+  pub turned-set : {arm r s v : ℕ} → Fetched cells pc arm r s v → (on : Bool) (after : List Register) → (on ≡ true → (arm % 16 < 13) × (arm < 64))
+      → ((n k : ℕ) → n ≤ 15 → arm ≡ n + 16 * k → (t : Active) (o : List Fork)
+      → Sets on r before after (effectOf (programOf cells) words (chosen interval) (inRegister s before) (operandBy k v before) t o (getD opcodes n unknown)))
+      → Turned cells words interval places depth pc beat left before (record { on = on; pc = pc + 4; beat = beat }) after
+  turned-set {arm} {r} {s} {v} d on after known h = by-test on
+      (λ q.
+      let low = known q .1 in
+      let c = d .decoded .armed .common low .0 in
+      turned-sets (y .opcode) (y .kind) s v (named-so d low) (d .decoded .same-s) on after r (d .decoded .same-r)
+      (λ t. next-below d (y .opcode) (omega (arith, known q .0, c, d .its .opcode-most)) refl)
+      (λ t o. h (y .opcode) (y .kind) (d .its .opcode-most) c t o))
+      (λ q. turned-off on after q (h (arm % 16) (arm / 16) (omega arith) (omega arith) a [] .did-not q))

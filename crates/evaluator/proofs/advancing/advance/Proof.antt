@@ -1,69 +1,90 @@
+-- `advance` meets its contract.
+use mathlib.Core.Path.{sym, _∙_}
+use Prim.Native.Nat.{_%_}
+use native.Mathlib.Omega.{arith}
+use Rattle.evaluator.specs.Registers.{Sized}
+use Rattle.evaluator.proofs.StepLaws.{accepts, span-below, label-small, s-small, r-small, operand-small, ready, steps, fork-room}
 use borrow.Author.Needs.{needs}
 use Rattle.evaluator.proofs.advancing.advance.Statement.{statement}
 use Rattle.evaluator.proofs.advancing.advance.Tie as tie
-use Rattle.evaluator.proofs.advancing.advance.Reads as reads
-use Rattle.evaluator.proofs.advancing.advance.Lts as lts
-use Rattle.evaluator.proofs.advancing.apply.Reads as apply-reads
-use Rattle.evaluator.proofs.rows.value_of.Reads as value-of-reads
-use Rattle.image.proofs.layout.instruction_of.Reads as instruction-of-reads
-use Rattle.task.proofs.execution.execute.Reads as execute-reads
-use Rattle.task.proofs.execution.operand.Reads as operand-reads
 
--- src/advancing.rt:136:50
 cast-instruction-of : tie.Need-cast-instruction-of
 cast-instruction-of c = search needs
 
--- src/advancing.rt:136:9
 instruction-of-requires : tie.Need-instruction-of-requires
-instruction-of-requires c κs = ?
+instruction-of-requires c κs = let a = c .before .before .before .before .before .before in omega (arith, accepts (a .args .cells .now) (a .args .words .now) (a .args .interval) (a .args .own) (a .pre) .is-stored)
 
--- src/advancing.rt:139:22
 array-read-value-of : tie.Need-array-read-value-of
-array-read-value-of c = ?
+array-read-value-of c =
+    let a = c .before .before .before .before .before .before .before .before in
+    let z : Sized (a .args .own .nums) (a .args .own .kinds) = (search (needs, a .good .1 .1 .1 .0), search (needs, a .good .1 .1 .1 .0)) in
+    let x = c .before .instruction-of in
+    omega (arith, s-small (a .args .cells .now) (a .args .words .now) (a .args .interval) (a .args .own) (a .pre) z (x .result) (x .ensures))
 
--- src/advancing.rt:139:35
 mul-value-of : tie.Need-mul-value-of
-mul-value-of c = ?
+mul-value-of c =
+    let a = c .before .before .before .before .before .before .before .before in
+    let z : Sized (a .args .own .nums) (a .args .own .kinds) = (search (needs, a .good .1 .1 .1 .0), search (needs, a .good .1 .1 .1 .0)) in
+    let x = c .before .instruction-of in
+    omega (arith, s-small (a .args .cells .now) (a .args .words .now) (a .args .interval) (a .args .own) (a .pre) z (x .result) (x .ensures))
 
--- src/advancing.rt:139:35
 array-read-value-of-2 : tie.Need-array-read-value-of-2
-array-read-value-of-2 c = ?
+array-read-value-of-2 c =
+    let a = c .before .before .before .before .before .before .before .before in
+    let z : Sized (a .args .own .nums) (a .args .own .kinds) = (search (needs, a .good .1 .1 .1 .0), search (needs, a .good .1 .1 .1 .0)) in
+    let x = c .before .instruction-of in
+    omega (arith, s-small (a .args .cells .now) (a .args .words .now) (a .args .interval) (a .args .own) (a .pre) z (x .result) (x .ensures))
 
--- src/advancing.rt:139:9
 value-of-requires : tie.Need-value-of-requires
-value-of-requires c κs = ?
+value-of-requires c κs =
+    let a = c .before .before .before .before .before .before .before .before in
+    let z : Sized (a .args .own .nums) (a .args .own .kinds) = (search (needs, a .good .1 .1 .1 .0), search (needs, a .good .1 .1 .1 .0)) in
+    let x = c .before .instruction-of in
+    label-small (a .args .cells .now) (a .args .words .now) (a .args .interval) (a .args .own) (a .pre) z (x .result .s) (s-small (a .args .cells .now) (a .args .words .now) (a .args .interval) (a .args .own) (a .pre) z (x .result) (x .ensures))
 
--- src/advancing.rt:140:25
 array-read-value-of-3 : tie.Need-array-read-value-of-3
 array-read-value-of-3 c = search needs
 
--- src/advancing.rt:140:38
 mul-value-of-2 : tie.Need-mul-value-of-2
 mul-value-of-2 c = search needs
 
--- src/advancing.rt:140:38
 array-read-value-of-4 : tie.Need-array-read-value-of-4
 array-read-value-of-4 c = search needs
 
--- src/advancing.rt:140:9
 value-of-requires-2 : tie.Need-value-of-requires-2
-value-of-requires-2 c κs = ?
+value-of-requires-2 c κs =
+    let a = c .before .before .before .before .before .before .before .before .before in
+    let z : Sized (a .args .own .nums) (a .args .own .kinds) = (search (needs, a .good .1 .1 .1 .0), search (needs, a .good .1 .1 .1 .0)) in
+    let x = c .before .before .instruction-of in
+    label-small (a .args .cells .now) (a .args .words .now) (a .args .interval) (a .args .own) (a .pre) z (x .result .operand % 16) (omega arith)
 
--- src/advancing.rt:141:9
 operand-requires : tie.Need-operand-requires
-operand-requires c κs = ?
+operand-requires c κs =
+    let a = c .before .before .before .before .before .before .before .before .before .before in
+    let z : Sized (a .args .own .nums) (a .args .own .kinds) = (search (needs, a .good .1 .1 .1 .0), search (needs, a .good .1 .1 .1 .0)) in
+    let x = c .before .before .before .instruction-of in
+    operand-small (a .args .cells .now) (a .args .words .now) (a .args .interval) (a .args .own) (a .pre) z (x .result) (x .ensures)
 
--- src/advancing.rt:148:9
 execute-requires : tie.Need-execute-requires
-execute-requires c κs = ?
+execute-requires c κs =
+    let a = c .before .before .before .before .before .before .before .before .before .before .before in
+    let z : Sized (a .args .own .nums) (a .args .own .kinds) = (search (needs, a .good .1 .1 .1 .0), search (needs, a .good .1 .1 .1 .0)) in
+    let x = c .before .before .before .before .instruction-of in
+    ready (a .args .cells .now) (a .args .words .now) (a .args .interval) (a .args .own) (a .pre) z (x .result) (x .ensures) (c .before .before .value-of .result) (c .before .value-of2 .result) (c .operand .result) (c .before .before .value-of .ensures) (c .before .value-of2 .ensures) (c .operand .ensures)
 
--- src/advancing.rt:149:5
 apply-requires : tie.Need-apply-requires
-apply-requires c κs = ?
+apply-requires c κs =
+    let a = c .before .before .before .before .before .before .before .before .before .before .before .before in
+    let z : Sized (a .args .own .nums) (a .args .own .kinds) = (search (needs, a .good .1 .1 .1 .0), search (needs, a .good .1 .1 .1 .0)) in
+    let x = c .before .before .before .before .before .instruction-of in
+    (r-small (a .args .cells .now) (a .args .words .now) (a .args .interval) (a .args .own) (a .pre) z (x .result) (x .ensures), span-below (a .args .cells .now) (a .args .words .now) (a .args .interval) (a .args .own) (a .pre), fork-room (a .args .cells .now) (a .args .words .now) (a .args .interval) (a .args .own) (a .pre) z (x .result) (x .ensures) (c .before .before .before .value-of .result) (c .before .before .value-of2 .result) (c .before .operand .result) (c .before .before .before .value-of .ensures) (c .before .before .value-of2 .ensures) (c .before .operand .ensures) (c .execute .result) (c .execute .ensures), a .pre .runs)
 
--- src/advancing.rt:127:1
 returns : tie.Need-returns
-returns c = ?
+returns c =
+    let a = c .before .before .before .before .before .before .before .before .before .before .before .before .before in
+    let z : Sized (a .args .own .nums) (a .args .own .kinds) = (search (needs, a .good .1 .1 .1 .0), search (needs, a .good .1 .1 .1 .0)) in
+    let x = c .before .before .before .before .before .before .instruction-of in
+    (steps (a .args .cells .now) (a .args .words .now) (a .args .interval) (a .args .own) (a .pre) z (x .result) (x .ensures) (c .before .before .before .before .value-of .result) (c .before .before .before .value-of2 .result) (c .before .before .operand .result) (c .before .before .before .before .value-of .ensures) (c .before .before .before .value-of2 .ensures) (c .before .before .operand .ensures) (c .before .execute .result) (c .before .execute .ensures) ∙ sym (c .apply .ensures .0), c .apply .ensures .1)
 
 pub advance-spec : {M : Type 1} → statement M
 advance-spec =

@@ -1,74 +1,88 @@
+-- `decode_one` meets its contract.
+use mathlib.Core.Path.{_≡_, sym, subst}
+use Prim.Native.Nat.{_<_, _≤_}
+use native.Mathlib.Omega.{arith}
+use Rattle.image.specs.declared.Instruction.{Instruction}
+use Rattle.image.specs.Layout.{blockCount}
+use Rattle.image.proofs.Accepted.{accepted}
+use Rattle.evaluator.proofs.CodeLaws.{long1, long2, long3, decodes-one}
 use borrow.Author.Needs.{needs}
 use Rattle.evaluator.proofs.decoding.decode_one.Statement.{statement}
 use Rattle.evaluator.proofs.decoding.decode_one.Tie as tie
-use Rattle.evaluator.proofs.decoding.decode_one.Reads as reads
-use Rattle.evaluator.proofs.decoding.decode_one.Lts as lts
-use Rattle.evaluator.proofs.decoding.arm_of.Reads as arm-of-reads
-use Rattle.image.proofs.layout.instruction_of.Reads as instruction-of-reads
 
--- src/decoding.rt:58:9
 instruction-of-requires : tie.Need-instruction-of-requires
-instruction-of-requires c κs = ?
+instruction-of-requires c κs = let a = c .before .before in accepted (a .args .cells .now) (a .pre .0) .instruction (a .args .i) (a .pre .1) .is-stored
 
--- src/decoding.rt:59:9
 arm-of-requires : tie.Need-arm-of-requires
-arm-of-requires c κs = ?
+arm-of-requires c κs =
+    let a = c .before .before .before in
+    let cells = a .args .cells .now in
+    let i = accepted cells (a .pre .0) .instruction (a .args .i) (a .pre .1) in
+    let z =
+        subst (λ (y : Instruction). (y .opcode ≤ 15) × (y .kind ≤ 3) × (y .kind ≡ 2 → y .operand < blockCount cells)) (sym (c .instruction-of .ensures))
+        (i .opcode-most, i .kind-known, i .label-below) in
+    (a .pre .0, z .0, z .1, z .2)
 
--- src/decoding.rt:60:14
 mul-at : tie.Need-mul-at
 mul-at c = search needs
 
--- src/decoding.rt:61:5
 mul-code : tie.Need-mul-code
 mul-code c = search needs
 
--- src/decoding.rt:61:5
 slice-write-code : tie.Need-slice-write-code
 slice-write-code c = search needs
 
--- src/decoding.rt:62:10
 add-code : tie.Need-add-code
 add-code c = search needs
 
--- src/decoding.rt:62:5
 mul-code-2 : tie.Need-mul-code-2
 mul-code-2 c = search needs
 
--- src/decoding.rt:62:5
 slice-write-code-2 : tie.Need-slice-write-code-2
-slice-write-code-2 c = ?
+slice-write-code-2 c =
+    let a = c .before .before .before .before in
+    let x = c .before .instruction-of in
+    let r = c .arm-of in
+    let l = long1 (a .args .cells .now) (a .args .code .now) (a .args .i) (r .result .number) (r .result .operand) (x .result) (x .ensures) (r .ensures) (a .pre .2) in
+    omega (arith, a .pre .2, l)
 
--- src/decoding.rt:63:10
 add-code-2 : tie.Need-add-code-2
 add-code-2 c = search needs
 
--- src/decoding.rt:63:5
 mul-code-3 : tie.Need-mul-code-3
 mul-code-3 c = search needs
 
--- src/decoding.rt:63:5
 slice-write-code-3 : tie.Need-slice-write-code-3
-slice-write-code-3 c = ?
+slice-write-code-3 c =
+    let a = c .before .before .before .before in
+    let x = c .before .instruction-of in
+    let r = c .arm-of in
+    let l = long2 (a .args .cells .now) (a .args .code .now) (a .args .i) (r .result .number) (r .result .operand) (x .result) (x .ensures) (r .ensures) (a .pre .2) in
+    omega (arith, a .pre .2, l)
 
--- src/decoding.rt:64:10
 add-code-3 : tie.Need-add-code-3
 add-code-3 c = search needs
 
--- src/decoding.rt:64:5
 mul-code-4 : tie.Need-mul-code-4
 mul-code-4 c = search needs
 
--- src/decoding.rt:64:5
 slice-write-code-4 : tie.Need-slice-write-code-4
-slice-write-code-4 c = ?
+slice-write-code-4 c =
+    let a = c .before .before .before .before in
+    let x = c .before .instruction-of in
+    let r = c .arm-of in
+    let l = long3 (a .args .cells .now) (a .args .code .now) (a .args .i) (r .result .number) (r .result .operand) (x .result) (x .ensures) (r .ensures) (a .pre .2) in
+    omega (arith, a .pre .2, l)
 
--- src/decoding.rt:54:1
 same-length : tie.Need-same-length
 same-length c = search needs
 
--- src/decoding.rt:54:1
 returns : tie.Need-returns
-returns c = ?
+returns c =
+    let a = c .before .before .before .before in
+    let x = c .before .instruction-of in
+    let r = c .arm-of in
+    decodes-one (a .args .cells .now) (a .args .code .now) (a .args .i) (r .result .number) (r .result .operand) (x .result) (x .ensures) (r .ensures) (a .pre .2)
 
 pub decode-one-spec : {M : Type 1} → statement M
 decode-one-spec =

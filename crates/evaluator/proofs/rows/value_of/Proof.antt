@@ -1,37 +1,30 @@
+-- `value_of` meets its contract.
+use native.Mathlib.Omega.{arith}
+use Rattle.evaluator.proofs.ValueLaws.{value-int, value-label, value-record}
 use borrow.Author.Needs.{needs}
 use Rattle.evaluator.proofs.rows.value_of.Statement.{statement}
 use Rattle.evaluator.proofs.rows.value_of.Tie as tie
-use Rattle.evaluator.proofs.rows.value_of.Reads as reads
-use Rattle.evaluator.proofs.rows.value_of.Lts as lts
-use Rattle.int64.proofs.number.Reads as number-reads
 
--- src/rows.rt:25:27
 number-requires : tie.Need-number-requires
 number-requires c κs = search needs
 
--- src/rows.rt:25:9
 returns : tie.Need-returns
-returns c = ?
+returns c = value-int (c .before .before .args .kind) (c .before .before .args .num) (c .number .result) (c .before .if1 .taken) (c .number .ok) (c .number .ensures)
 
--- src/rows.rt:28:29
 cast-t5 : tie.Need-cast-t5
-cast-t5 c = ?
+cast-t5 c = omega (arith, c .before .before .pre (c .if2 .taken))
 
--- src/rows.rt:28:9
 returns-2 : tie.Need-returns-2
-returns-2 c = ?
+returns-2 c = value-label (c .before .before .args .kind) (c .before .before .args .num) (c .if2 .taken)
 
--- src/rows.rt:30:19
 cast-t7 : tie.Need-cast-t7
 cast-t7 c = search needs
 
--- src/rows.rt:30:46
 cast-t9 : tie.Need-cast-t9
 cast-t9 c = search needs
 
--- src/rows.rt:20:1
 returns-3 : tie.Need-returns-3
-returns-3 c = ?
+returns-3 c = value-record (c .before .before .args .kind) (c .before .before .args .num) (c .before .if1 .left) (c .if2 .left)
 
 pub value-of-spec : {M : Type 1} → statement M
 value-of-spec =
