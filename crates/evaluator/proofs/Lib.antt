@@ -9,6 +9,6 @@ pub mod RunLaws
 pub mod StepLaws
 pub mod JoinLaws
 pub mod PassLaws
--- pub mod PendingLaws
--- pub mod LoopLaws
--- pub mod Measure
+pub mod PendingLaws
+pub mod LoopLaws
+pub mod Measure

@@ -1,6 +1,7 @@
 -- `fetch_number` meets its contract.
 use mathlib.Core.Path.{refl}
 use native.Mathlib.Omega.{arith}
+use Rattle.evaluator.specs.Registers.{registersOf}
 use Rattle.evaluator.proofs.RegisterLaws.{still-sized}
 use Rattle.evaluator.proofs.SetLaws.{unset, sets, gives-word}
 use borrow.Author.Needs.{needs}
@@ -39,7 +40,7 @@ returns-2 c =
     (still-sized nums kinds (a .args .r) _ _ (a .pre .0) (put .0) (put .1),
     λ p k t o.
     sets nums kinds (a .args .r) (b .result) 0 _ refl
-    (gives-word (a .args .words .now) (a .args .v) (b .result) p k (s _) t o (c .before .before .before .before .before .before .before .before .before .if1 .left) (omega (arith, mul-bits (c .before .before .before .before .before .before .before .before .before))) (search needs) (b .ensures)) (put .0) (put .1))
+    (gives-word (a .args .words .now) (a .args .v) (b .result) p k (s (registersOf nums kinds)) t o (c .before .before .before .before .before .before .before .before .before .if1 .left) (omega (arith, mul-bits (c .before .before .before .before .before .before .before .before .before))) (search needs) (b .ensures)) (put .0) (put .1))
 
 pub fetch-number-spec : {M : Type 1} → statement M
 fetch-number-spec =
