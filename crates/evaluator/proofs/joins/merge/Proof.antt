@@ -1,0 +1,77 @@
+-- `merge` meets its contract.
+use mathlib.Core.Path.{_≡_, refl}
+use Prim.Native.Nat.{_%_}
+use native.Mathlib.Omega.{arith}
+use borrow.Author.Needs.{needs}
+use Rattle.task.specs.Step.{copied}
+use Rattle.evaluator.specs.Registers.{registersOf, Sized}
+use Rattle.evaluator.proofs.RegisterLaws.{still-sized}
+use Rattle.evaluator.proofs.JoinLaws.{merges-one, merges-none}
+use Rattle.evaluator.proofs.joins.merge.Statement.{statement}
+use Rattle.evaluator.proofs.joins.merge.Tie as tie
+
+abbrev Inv-loop : tie.InvT-loop
+Inv-loop nums₀ kinds₀ theirs marks count bytes pairs₀ packed₀ nums kinds pairs packed =
+    Sized nums kinds × (copied (registersOf theirs marks) count bytes (registersOf nums₀ kinds₀) ≡ copied (registersOf theirs marks) pairs packed (registersOf nums kinds))
+
+abbrev μ-loop : tie.MeasureT-loop
+μ-loop nums₀ kinds₀ theirs marks count bytes pairs₀ packed₀ nums kinds pairs packed = pairs
+
+loop-holds : tie.Need-loop-holds Inv-loop μ-loop
+loop-holds c = (c .before .before .before .before .pre .0, refl)
+
+mul-num : tie.Need-mul-num Inv-loop μ-loop
+mul-num c = search needs
+
+shared-slice-read-num : tie.Need-shared-slice-read-num Inv-loop μ-loop
+shared-slice-read-num c = omega (arith, c .before .before .before .before .before .before .before .pre .1 .0)
+
+shared-slice-read-kind : tie.Need-shared-slice-read-kind Inv-loop μ-loop
+shared-slice-read-kind c = omega (arith, c .before .before .before .before .before .before .before .before .pre .1 .1)
+
+put-requires : tie.Need-put-requires Inv-loop μ-loop
+put-requires c κs = (c .before .before .before .before .before .loop .inv .0, omega arith)
+
+sub-pairs : tie.Need-sub-pairs Inv-loop μ-loop
+sub-pairs c = omega (arith, c .before .before .before .before .before .before .before .before .before .loop-test .taken)
+
+loop-less : tie.Need-loop-less Inv-loop μ-loop
+loop-less c = omega (arith, c .before .before .before .before .before .before .before .before .before .loop-test .taken)
+
+loop-again : tie.Need-loop-again Inv-loop μ-loop
+loop-again c =
+    let a = c .before .before .before .before .before .before .before .before .before .before .before .before .before .before .before in
+    let l = c .before .before .before .before .before .before .before .before .before .before .loop in
+    let put = c .before .before .before .before .put in
+    (still-sized (l .nums) (l .kinds) (l .packed % 16) _ _ (l .inv .0) (put .ensures .0) (put .ensures .1),
+    merges-one (l .nums) (l .kinds) (a .args .theirs .now) (a .args .marks .now) (l .pairs) (l .packed) _ (a .pre .1) (c .before .before .before .before .before .before .before .before .before .loop-test .taken) (l .inv .1) (put .ensures .0) (put .ensures .1))
+
+same-length : tie.Need-same-length Inv-loop μ-loop
+same-length c = omega (arith, c .before .loop .inv .0 .0, c .before .before .before .before .before .before .pre .0 .0)
+
+same-length-2 : tie.Need-same-length-2 Inv-loop μ-loop
+same-length-2 c = omega (arith, c .before .loop .inv .0 .1, c .before .before .before .before .before .before .pre .0 .1)
+
+returns : tie.Need-returns Inv-loop μ-loop
+returns c =
+    let a = c .before .before .before .before .before .before in
+    let l = c .before .loop in
+    (l .inv .0, merges-none (l .nums) (l .kinds) (a .args .theirs .now) (a .args .marks .now) (l .pairs) (l .packed) _ (c .loop-test .left) (l .inv .1))
+
+pub merge-spec : {M : Type 1} → statement M
+merge-spec =
+    tie.close
+    (tie.spec
+    Inv-loop
+    μ-loop
+    loop-holds
+    mul-num
+    shared-slice-read-num
+    shared-slice-read-kind
+    put-requires
+    sub-pairs
+    loop-less
+    loop-again
+    same-length
+    same-length-2
+    returns)

@@ -1,0 +1,48 @@
+-- `fetch_register` meets its contract.
+use Rattle.evaluator.proofs.RegisterLaws.{integer-at}
+use Rattle.evaluator.proofs.SetLaws.{unset}
+use borrow.Author.Needs.{needs}
+use Rattle.evaluator.proofs.moves.fetch_register.Statement.{statement}
+use Rattle.evaluator.proofs.moves.fetch_register.Tie as tie
+
+slice-read-if1 : tie.Need-slice-read-if1
+slice-read-if1 c = search needs
+
+returns : tie.Need-returns
+returns c = λ s. (c .before .before .before .before .pre .0, λ p k t o. unset)
+
+mul-u : tie.Need-mul-u
+mul-u c = search needs
+
+slice-read-u : tie.Need-slice-read-u
+slice-read-u c = search needs
+
+fetch-number-requires : tie.Need-fetch-number-requires
+fetch-number-requires c κs = search needs
+
+same-length : tie.Need-same-length
+same-length c = search needs
+
+same-length-2 : tie.Need-same-length-2
+same-length-2 c = search needs
+
+returns-2 : tie.Need-returns-2
+returns-2 c =
+    let a = c .before .before .before .before .before .before .before .before .before .before .before .before in
+    let word = c .before .before .before .before .fetch-number .ensures in
+    λ s.
+    (word s .0,
+    λ p k t o. rw (integer-at (a .args .nums .now) (a .args .kinds .now) (a .args .v) (a .pre .0) (a .pre .2) (c .before .before .before .before .before .before .before .before .if1 .left)) (word s .1 p k t o))
+
+pub fetch-register-spec : {M : Type 1} → statement M
+fetch-register-spec =
+    tie.close
+    (tie.spec
+    slice-read-if1
+    returns
+    mul-u
+    slice-read-u
+    fetch-number-requires
+    same-length
+    same-length-2
+    returns-2)

@@ -1,0 +1,8 @@
+-- What the contracts of `evaluator` cite.
+pub mod Registers
+pub mod Code
+pub mod Arms
+pub mod Turns
+pub mod Sides
+pub mod Passes
+pub mod Evaluation

@@ -1,0 +1,99 @@
+-- Turns of the loop: instructions that the task in hand carries out by itself, held against `step` and against `serial`'s run. The task is
+-- given by its numbers. Its counter is the difference of `beat` and what is left of the budget, so that an instruction counts both at once.
+use mathlib.Core.Path.{_≡_}
+use mathlib.Core.Bool.{Bool, true, false}
+use mathlib.Core.List.{List}
+use Prim.Native.Nat.{ℕ, _+_, _*_, _-_, _/_, _<_, _≤_}
+use lib.IntN.{ℤ}
+use Rattle.image.specs.Layout.{instructionCount, programOf}
+use Rattle.image.specs.Questions.{programNo}
+use Rattle.agreement.specs.Plain.{one, Rules}
+use Rattle.serial.specs.Serial.{Pending, held, run}
+use Rattle.task.specs.declared.Register.{Register}
+use Rattle.task.specs.declared.Status.the-variants.{Running}
+use Rattle.task.specs.declared.Fork.{Fork}
+use Rattle.task.specs.declared.Frame.{Frame}
+use Rattle.task.specs.Frames.{running}
+use Rattle.task.specs.Choices.{chosen}
+use Rattle.task.specs.Formed.{valueFits, formed, within}
+use Rattle.task.specs.Step.{step, join}
+use Rattle.evaluator.specs.declared.Gone.{Gone}
+use Rattle.evaluator.specs.declared.Stopped.{Stopped}
+use Rattle.evaluator.specs.Registers.{registersOf, Sized, inRegister}
+use Rattle.evaluator.specs.Code.{Decodes}
+
+-- a running task with these numbers and registers
+abbrev pub frameAt : ℕ → ℕ → List Fork → ℕ → ℕ → ℕ → List Register → Frame
+frameAt places depth forks pc counter span registers = record {
+  task = record { status = Running; places = places; pc = pc; counter = counter; span = span; depth = depth; forks = forks };
+  registers = registers;
+}
+
+-- what the tasks of a job do by themselves
+abbrev pub rules : List ℕ → List ℤ → ℕ → Rules Frame
+rules cells words interval =
+    record { running = running; step = step (programOf cells) words (chosen interval); join = join (programOf cells) }
+
+-- ---- What they rest on
+
+-- a task at the place pc of the decoded code
+pub record At (cells code nums kinds : List ℕ) (left beat pc : ℕ) : Type 0 where
+  pub accepted-program : programNo cells ≡ 0
+  pub decodes : Decodes cells code
+  pub sized : Sized nums kinds
+  pub on-place : pc ≡ 4 * (pc / 4)
+  pub inside-program : pc / 4 < instructionCount cells
+  pub counter-least : left < beat
+  pub values-fit : (i : ℕ) → valueFits (programOf cells) (inRegister i (registersOf nums kinds)) ≡ true
+
+-- a task where instructions by itself begin: well-formed
+pub record Starts (cells code nums kinds : List ℕ) (places depth left beat pc : ℕ) : Type 0 where
+  pub rank : ℕ
+  pub height : ℕ
+  pub forks : List Fork
+  pub span : ℕ
+  pub room : rank ≤ 6
+  pub is-formed : formed (programOf cells) rank height (frameAt places depth forks (pc / 4) (beat - left) span (registersOf nums kinds)) ≡ true
+  pub accepted-program : programNo cells ≡ 0
+  pub decodes : Decodes cells code
+  pub sized : Sized nums kinds
+  pub on-place : pc ≡ 4 * (pc / 4)
+  pub inside-program : pc / 4 < instructionCount cells
+  pub counter-least : left ≤ beat
+
+-- ---- What they do
+
+module _ (cells : List ℕ) (words : List ℤ) (interval places depth : ℕ) where
+  -- one instruction, after which `left` is left
+  pub record Turned (pc beat left : ℕ) (before : List Register) (g : Gone) (after : List Register) : Type 0 where
+    pub steps : g .on ≡ true → (forks : List Fork) (span : ℕ)
+        → step (programOf cells) words (chosen interval) (frameAt places depth forks (pc / 4) (beat - (left + 1)) span before)
+        ≡ one (frameAt places depth forks (g .pc / 4) (g .beat - left) (span + 1) after)
+    pub stays : g .on ≡ false → after ≡ before
+    pub aligned : g .pc ≡ 4 * (g .pc / 4)
+    pub inside : g .on ≡ true → g .pc / 4 < instructionCount cells
+    pub counted : left ≤ g .beat
+    pub beat-most : g .beat ≤ beat
+
+  -- several: they are the run so far, whatever the task's open forks, its span and the forks pending
+  pub record Runs (pc beat left : ℕ) (before : List Register) (pc′ beat′ left′ : ℕ) (after : List Register) : Type 0 where
+    pub same-run : (forks : List Fork) (span : ℕ) (s : Pending Frame)
+        → run (rules cells words interval) left (held (frameAt places depth forks (pc / 4) (beat - left) span before) s)
+        ≡ run (rules cells words interval) left′ (held (frameAt places depth forks (pc′ / 4) (beat′ - left′) (span + (left - left′)) after) s)
+    pub keeps-formed : (forks : List Fork) (span D h : ℕ) → D ≤ 6
+        → formed (programOf cells) D h (frameAt places depth forks (pc / 4) (beat - left) span before) ≡ true
+        → formed (programOf cells) D h (frameAt places depth forks (pc′ / 4) (beat′ - left′) (span + (left - left′)) after) ≡ true
+    pub keeps-within : (forks : List Fork) (span W : ℕ)
+        → within W (frameAt places depth forks (pc / 4) (beat - left) span before) ≡ true
+        → within (W + (left - left′)) (frameAt places depth forks (pc′ / 4) (beat′ - left′) (span + (left - left′)) after) ≡ true
+    pub aligned : pc′ ≡ 4 * (pc′ / 4)
+    pub inside : pc′ / 4 < instructionCount cells
+    pub counted : left′ ≤ beat′
+    pub beat-most : beat′ ≤ beat
+    pub fewer : left′ ≤ left
+
+  -- until one that the task does not carry out by itself, or the budget is used up
+  pub record RunsUntil (pc beat left : ℕ) (before : List Register) (z : Stopped) (after : List Register) : Type 0 where
+    pub runs : Runs pc beat left before (z .pc) (z .beat) (z .left) after
+    pub when-spent : z .on ≡ true → z .left ≡ 0
+    pub when-not : z .on ≡ false → 0 < z .left
