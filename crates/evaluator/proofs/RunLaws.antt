@@ -34,7 +34,8 @@ module _ (cells : List ℕ) (words : List ℤ) (interval : ℕ) where
       ∙ ap (λ x. run (rules cells words interval) n x) (onward-runs (rules cells words interval) g s h)
 
   module _ (accept : programNo cells ≡ 0) (places depth pc beat left : ℕ) (before : List Register) where
-    pub runs-start : pc ≡ 4 * (pc / 4) → pc / 4 < instructionCount cells → left ≤ beat → Runs cells words interval places depth pc beat left before pc beat left before
+    pub runs-start : pc ≡ 4 * (pc / 4) → pc / 4 < instructionCount cells → left ≤ beat → Runs cells words interval places depth pc beat left before
+        pc beat left before
     runs-start a h l = record {
       same-run = λ forks span s. rw same;
       keeps-formed = λ forks span D h r x. rw same x;
