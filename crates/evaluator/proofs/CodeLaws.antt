@@ -8,7 +8,7 @@ use lib.Seq.{getD-set-same, getD-set-other}
 use Rattle.image.specs.declared.Instruction.{Instruction}
 use Rattle.image.specs.Layout.{instructionOf, blockOf}
 use Rattle.facts.proofs.Tests.{by-order}
-use Rattle.evaluator.specs.Code.{Plain, Armed, Decoded, DecodedAt, DecodesOne}
+use Rattle.evaluator.specs.Code.{Armed, Decoded, DecodedAt, DecodesOne}
 
 -- ---- the arm
 

@@ -1,23 +1,22 @@
 -- The pairs of a join, and the task that two sides make.
-use mathlib.Core.Path.{_≡_, refl, sym, ap, _∙_}
-use mathlib.Core.Bool.{Bool, true, false}
-use mathlib.Core.List.{List, [], _∷_}
-use Prim.Native.Nat.{ℕ, zero, suc, _+_, _*_, _-_, _/_, _%_, _^_, _<_, _≤_}
+use mathlib.Core.Path.{_≡_, sym, ap, _∙_}
+use mathlib.Core.Bool.{Bool, true}
+use mathlib.Core.List.{List}
+use Prim.Native.Nat.{ℕ, suc, _-_, _/_, _%_, _^_, _<_, _≤_}
 use native.Mathlib.Omega.{arith}
 use native.Mathlib.Nat.{pow-le-pow-right}
 use lib.Dec.{ltb}
-use lib.ListN.{length, getD, set, replicate}
+use lib.ListN.{getD, set}
 use borrow.Author.Tests.{lt-ltb}
 use Rattle.image.specs.Layout.{programOf}
 use Rattle.task.specs.declared.Register.{Register}
-use Rattle.task.specs.declared.Frame.{Frame}
 use Rattle.task.specs.declared.Joint.{Joint}
-use Rattle.task.specs.Frames.{zeroRegister, zeros, zeroFork}
+use Rattle.task.specs.Frames.{zeroRegister, zeroFork}
 use Rattle.task.specs.Formed.{isTarget}
 use Rattle.task.specs.Step.{copied, join}
 use Rattle.task.specs.Execute.{Joinable, jointOf, jointRegisters}
 use Rattle.task.proofs.Copying.{copies-first, copies-none, join-joint}
-use Rattle.task.proofs.Formation.{Formed, formed-is, target-below}
+use Rattle.task.proofs.Formation.{formed-is, target-below}
 use Rattle.evaluator.specs.declared.Side.{Side}
 use Rattle.evaluator.specs.Registers.{valueOf, registersOf, Sized}
 use Rattle.evaluator.specs.Sides.{frameOf}

@@ -1,6 +1,6 @@
 -- Each way through an arm that goes elsewhere.
-use mathlib.Core.Path.{_≡_, refl, sym, ap, _∙_}
-use mathlib.Core.Bool.{Bool, true, false, true≢false}
+use mathlib.Core.Path.{_≡_, refl, sym, _∙_}
+use mathlib.Core.Bool.{true, false, true≢false}
 use mathlib.Core.List.{List}
 use Prim.Native.Nat.{ℕ, _+_, _*_, _-_, _/_, _<_, _≤_}
 use native.Mathlib.Omega.{arith}
@@ -20,7 +20,6 @@ use Rattle.task.specs.Effect.{ifJump, jump}
 use Rattle.task.specs.Formed.{valueFits}
 use Rattle.task.specs.Step.{promotes}
 use Rattle.task.specs.Execute.{going, entering, answered}
-use Rattle.evaluator.specs.declared.Gone.{Gone}
 use Rattle.evaluator.specs.Registers.{registersOf, Sized, inRegister}
 use Rattle.evaluator.specs.Arms.{active, Leads, Unready}
 use Rattle.evaluator.proofs.RegisterLaws.{integer-at, label-at}

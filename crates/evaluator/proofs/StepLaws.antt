@@ -12,7 +12,6 @@ use Rattle.image.specs.Layout.{blockCount, instructionOf, programOf}
 use Rattle.image.proofs.Accepted.{accepted, InstructionAccepted}
 use Rattle.agreement.specs.Plain.{Stepped, one, two}
 use Rattle.task.specs.declared.Value.{Value}
-use Rattle.task.specs.declared.Status.the-variants.{Running}
 use Rattle.task.specs.declared.Fork.{Fork}
 use Rattle.task.specs.declared.Task.{Task}
 use Rattle.task.specs.declared.Frame.{Frame}

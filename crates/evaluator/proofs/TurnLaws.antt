@@ -1,6 +1,6 @@
 -- One turn: what is known of the decoded instruction, and an arm held against `step`.
-use mathlib.Core.Path.{_≡_, refl, sym, ap, _∙_}
-use mathlib.Core.Bool.{Bool, true, false, true≢false}
+use mathlib.Core.Path.{_≡_, refl, ap, _∙_}
+use mathlib.Core.Bool.{Bool, true, false}
 use mathlib.Core.List.{List, []}
 use Prim.Native.Nat.{ℕ, zero, suc, _+_, _*_, _-_, _/_, _%_, _<_, _≤_}
 use native.Mathlib.Omega.{arith}
@@ -16,11 +16,10 @@ use Rattle.task.specs.declared.Register.{Register}
 use Rattle.task.specs.declared.Fork.{Fork}
 use Rattle.task.specs.declared.Frame.{Frame}
 use Rattle.task.specs.declared.Active.{Active}
-use Rattle.task.specs.declared.Executed.{Executed}
 use Rattle.task.specs.Choices.{chosen}
 use Rattle.task.specs.Effect.{stores, unknown, opcodes, effectOf}
 use Rattle.task.specs.Step.{register, operand, activeOf, step}
-use Rattle.task.specs.Execute.{countedActive, answered, executed}
+use Rattle.task.specs.Execute.{answered, executed}
 use Rattle.task.proofs.Executing.{step-executed}
 use Rattle.evaluator.specs.declared.Gone.{Gone}
 use Rattle.evaluator.specs.Registers.{inRegister, operandBy}

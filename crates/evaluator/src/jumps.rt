@@ -6,7 +6,7 @@ ghost use mathlib.Core.Path.{_≡_};
 ghost use mathlib.Core.Bool.{true};
 ghost use mathlib.Core.List.{List};
 ghost use Prim.Native.Nat.{ℕ, _+_, _*_, _-_, _/_, _<_, _≤_};
-ghost use Rattle.image.specs.Layout.{blockCount, instructionCount, blockOf, programOf};
+ghost use Rattle.image.specs.Layout.{blockCount, instructionCount, programOf};
 ghost use Rattle.image.specs.Questions.{programNo};
 ghost use Rattle.task.specs.declared.Value.{Value};
 ghost use Rattle.task.specs.declared.Value.the-variants.{Label};

@@ -1,7 +1,6 @@
 // Arms for opcodes 1 and 9: r := v, and r := word v of the call record. Each answers whether it did; a word that is not in the record is a fault,
 // and left to the slow path. `set_register` alone calls them, with registers of an accepted program.
 use crate::rows::put;
-ghost use mathlib.Core.Path.{_≡_};
 ghost use mathlib.Core.List.{List};
 ghost use Prim.Native.Nat.{_<_};
 ghost use lib.IntN.{ℤ};
