@@ -8,7 +8,7 @@ use lib.Seq.{getD-set-same, getD-set-other}
 use Rattle.image.specs.declared.Instruction.{Instruction}
 use Rattle.image.specs.Layout.{instructionOf, blockOf}
 use Rattle.facts.proofs.Tests.{by-order}
-use Rattle.evaluator.specs.Code.{Plain, Armed, Decoded, DecodedAt, DecodesOne}
+use Rattle.evaluator.specs.Code.{Armed, Decoded, DecodedAt, DecodesOne}
 
 -- ---- the arm
 
@@ -25,7 +25,8 @@ module _ (cells : List ℕ) (x : Instruction) (few : x .opcode ≤ 15) (known : 
 
 -- ---- one instruction
 
-module _ (cells code : List ℕ) (i arm v : ℕ) (x : Instruction) (e : x ≡ instructionOf cells i) (armed : Armed cells x arm v) (room : 4 * i + 4 ≤ length code) where
+module _ (cells code : List ℕ) (i arm v : ℕ) (x : Instruction) (e : x ≡ instructionOf cells i) (armed : Armed cells x arm v)
+    (room : 4 * i + 4 ≤ length code) where
   abbrev first : List ℕ
   first = set code (4 * i) arm
 
@@ -83,7 +84,13 @@ module _ (cells code : List ℕ) (i arm v : ℕ) (x : Instruction) (e : x ≡ in
     same-length = length-set third (4 * i + 3) v ∙ long3;
     here = rw (at-arm, at-r, at-s, at-v, ← e) is-decoded;
     below = λ j l d.
-        rw (stays (4 * j) (omega (arith, l)), stays (4 * j + 1) (omega (arith, l)), stays (4 * j + 2) (omega (arith, l)), stays (4 * j + 3) (omega (arith, l))) d;
+        rw (
+          stays (4 * j) (omega (arith, l)),
+          stays (4 * j + 1) (omega (arith, l)),
+          stays (4 * j + 2) (omega (arith, l)),
+          stays (4 * j + 3)
+              (omega (arith, l)),
+        ) d;
   }
 
 -- ---- all

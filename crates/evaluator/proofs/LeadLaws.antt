@@ -1,6 +1,6 @@
 -- Each way through an arm that goes elsewhere.
-use mathlib.Core.Path.{_≡_, refl, sym, ap, _∙_}
-use mathlib.Core.Bool.{Bool, true, false, true≢false}
+use mathlib.Core.Path.{_≡_, refl, sym, _∙_}
+use mathlib.Core.Bool.{true, false, true≢false}
 use mathlib.Core.List.{List}
 use Prim.Native.Nat.{ℕ, _+_, _*_, _-_, _/_, _<_, _≤_}
 use native.Mathlib.Omega.{arith}
@@ -20,7 +20,6 @@ use Rattle.task.specs.Effect.{ifJump, jump}
 use Rattle.task.specs.Formed.{valueFits}
 use Rattle.task.specs.Step.{promotes}
 use Rattle.task.specs.Execute.{going, entering, answered}
-use Rattle.evaluator.specs.declared.Gone.{Gone}
 use Rattle.evaluator.specs.Registers.{registersOf, Sized, inRegister}
 use Rattle.evaluator.specs.Arms.{active, Leads, Unready}
 use Rattle.evaluator.proofs.RegisterLaws.{integer-at, label-at}
@@ -42,7 +41,8 @@ leads-to cells most first beat left pc p h l b q = rw p (record {
 })
 
 -- it leaves all as it was
-pub stays : (cells : List ℕ) (pc beat left : ℕ) {e : Executed} → pc ≡ 4 * (pc / 4) → left ≤ beat → Leads cells beat left (record { on = false; pc = pc; beat = beat }) e
+pub stays : (cells : List ℕ) (pc beat left : ℕ) {e : Executed} → pc ≡ 4 * (pc / 4) → left ≤ beat → Leads cells beat left
+    (record { on = false; pc = pc; beat = beat }) e
 stays cells pc beat left p l = record {
   leads = λ t. absurd (true≢false (sym t));
   aligned = p;
@@ -62,7 +62,8 @@ module _ (cells : List ℕ) (accept : programNo cells ≡ 0) (interval b places 
   enters-handler p f =
       let k = accepted cells accept in
       let z : left - left ≡ 0 = omega arith in
-      leads-to cells beat first left left (4 * first) refl (rw f (k .block (blockOf cells b .label) (k .block b below .label-below) .first-below)) (omega arith) l (rw (p, f, z))
+      leads-to cells beat first left left (4 * first) refl (rw f (k .block (blockOf cells b .label) (k .block b below .label-below) .first-below))
+      (omega arith) l (rw (p, f, z))
 
   pub enters-block : promotes (programOf cells) (chosen interval) b (beat - left) places ≡ false → first ≡ blockOf cells b .first
       → Leads cells beat left (record { on = true; pc = 4 * first; beat = beat }) (entering (programOf cells) (chosen interval) b t)

@@ -2,7 +2,7 @@
 use mathlib.Core.Path.{_≡_, refl, sym, ap, subst, _∙_}
 use mathlib.Core.Bool.{Bool, true, false}
 use mathlib.Core.List.{List, [], _∷_}
-use Prim.Native.Nat.{ℕ, zero, suc, _+_, _-_, _<_, _≤_}
+use Prim.Native.Nat.{ℕ, suc, _+_, _-_, _<_, _≤_}
 use native.Mathlib.Omega.{arith}
 use lib.IntN.{ℤ}
 use lib.ListN.{length, getD, set, length-set}
@@ -93,7 +93,8 @@ module _ (cells code : List ℕ) (words : List ℤ) (interval budget : ℕ) (fir
       begins : run R left (onward R (frameOf own) (pendingOf kept (own .task .depth))) ≡ run R left (held (frameOf own) (pendingOf kept (own .task .depth)))
       begins = ap (run R left) (onward-runs R (frameOf own) (pendingOf kept (own .task .depth)) runs)
 
-      alone-run : r .forks ≡ false → run R left (held (frameOf own) (pendingOf kept (own .task .depth))) ≡ run R (r .left) (onward R (frameOf (r .own)) (pendingOf kept (own .task .depth)))
+      alone-run : r .forks ≡ false → run R left (held (frameOf own) (pendingOf kept (own .task .depth))) ≡ run R (r .left)
+          (onward R (frameOf (r .own)) (pendingOf kept (own .task .depth)))
       alone-run q = rw q at (passes .same-run (pendingOf kept (own .task .depth)))
 
       fork-run : r .forks ≡ true → run R left (held (frameOf own) (pendingOf kept (own .task .depth)))
@@ -103,7 +104,8 @@ module _ (cells code : List ℕ) (words : List ℤ) (interval budget : ℕ) (fir
       pub state-alone : r .forks ≡ false → State (r .own) (r .left) kept
       state-alone q =
           let g : Good cells (st .rank) (st .height) (budget - r .left) (frameOf (r .own)) = rw work-is at (passes .alone q) in
-          let d : r .own .task .depth ≡ own .task .depth = omega (arith, depth-is, good-depth cells (st .rank) (st .height) (budget - r .left) (frameOf (r .own)) g) in
+          let d : r .own .task .depth ≡ own .task .depth = omega
+          (arith, depth-is, good-depth cells (st .rank) (st .height) (budget - r .left) (frameOf (r .own)) g) in
           record {
             rank = st .rank;
             height = st .height;
@@ -111,7 +113,8 @@ module _ (cells code : List ℕ) (words : List ℤ) (interval budget : ℕ) (fir
             size = st .size;
             same-run = st .same-run ∙ begins ∙ alone-run q ∙ ap (λ n. run R (r .left) (onward R (frameOf (r .own)) (pendingOf kept n))) (sym d);
             own-good = g;
-            kept-good = λ i l. good-more cells (st .rank) (st .rank - suc i) (frameOf (getD kept i noSide)) (omega (arith, passes .fewer)) (st .kept-good i (omega (arith, d, l)));
+            kept-good = λ i l. good-more cells (st .rank) (st .rank - suc i) (frameOf (getD kept i noSide)) (omega (arith, passes .fewer))
+                (st .kept-good i (omega (arith, d, l)));
             fewer = omega (arith, st .fewer, passes .fewer);
           }
 
@@ -123,7 +126,8 @@ module _ (cells code : List ℕ) (words : List ℤ) (interval budget : ℕ) (fir
           let f = passes .forked q in
           let g : Good cells (st .rank) (f .half) (budget - r .left) (frameOf (r .own)) = rw work-is at (f .parent-good) in
           let gc : Good cells (st .rank) (f .half) (budget - r .left) (frameOf (r .child)) = rw work-is at (f .child-good) in
-          let d : r .own .task .depth ≡ suc (own .task .depth) = omega (arith, depth-is, f .halved, good-depth cells (st .rank) (f .half) (budget - r .left) (frameOf (r .own)) g) in
+          let d : r .own .task .depth ≡ suc (own .task .depth) = omega
+          (arith, depth-is, f .halved, good-depth cells (st .rank) (f .half) (budget - r .left) (frameOf (r .own)) g) in
           let room : own .task .depth < length kept = omega (arith, st .size, fork-room q) in
           record {
             rank = st .rank;
@@ -131,7 +135,8 @@ module _ (cells code : List ℕ) (words : List ℤ) (interval budget : ℕ) (fir
             base = st .base;
             size = length-set kept (own .task .depth) (r .child) ∙ st .size;
             same-run = st .same-run ∙ begins ∙ fork-run q
-                ∙ ap (λ z. run R (r .left) (onward R (frameOf (r .own)) z)) (sym (pushed-as kept (own .task .depth) (r .child) (r .own .task .depth) true room d (f .child-runs)));
+                ∙ ap (λ z. run R (r .left) (onward R (frameOf (r .own)) z))
+                (sym (pushed-as kept (own .task .depth) (r .child) (r .own .task .depth) true room d (f .child-runs)));
             own-good = g;
             kept-good = λ i l. by-order i (own .task .depth)
                 (λ b. rw (getD-set-other kept (own .task .depth) i (r .child) noSide (omega (arith, b)))
@@ -190,19 +195,26 @@ module _ (cells code : List ℕ) (words : List ℤ) (interval budget : ℕ) (fir
         child-good = st .own-good;
       }
 
-      joined-good : (new : Side) → frameOf new ≡ join (programOf cells) (frameOf other) (frameOf own) → Good cells (st .rank) (suc (st .height)) (budget - left) (frameOf new)
+      joined-good : (new : Side) → frameOf new ≡ join (programOf cells) (frameOf other) (frameOf own) → Good cells (st .rank) (suc (st .height))
+          (budget - left) (frameOf new)
       joined-good new e =
           let fo = formed-is (programOf cells) (st .rank) (st .height) (frameOf other) (other-good .is-formed) in
           let fs = formed-is (programOf cells) (st .rank) (st .height) (frameOf own) (st .own-good .is-formed) in
-          let j = join-formed cells (accepted cells (st .base .accepted-program)) (st .rank) (st .base .room) (st .height) (frameOf other) (frameOf own) fo fs (omega (arith, depth-is, deep)) in
-          let w = join-within (programOf cells) (budget - left) (frameOf other) (frameOf own) (within-is (budget - left) (frameOf other) (other-good .is-within)) (within-is (budget - left) (frameOf own) (st .own-good .is-within)) in
+          let j = join-formed cells (accepted cells (st .base .accepted-program)) (st .rank) (st .base .room) (st .height) (frameOf other)
+          (frameOf own) fo fs (omega (arith, depth-is, deep)) in
+          let w = join-within (programOf cells) (budget - left) (frameOf other) (frameOf own)
+          (within-is (budget - left) (frameOf other) (other-good .is-within)) (within-is (budget - left) (frameOf own) (st .own-good .is-within)) in
           subst (Good cells (st .rank) (suc (st .height)) (budget - left)) (sym e)
-          (record { is-formed = is-formed (programOf cells) (st .rank) (suc (st .height)) (join (programOf cells) (frameOf other) (frameOf own)) j; is-within = is-within (budget - left) (join (programOf cells) (frameOf other) (frameOf own)) w })
+          (record {
+            is-formed = is-formed (programOf cells) (st .rank) (suc (st .height)) (join (programOf cells) (frameOf other) (frameOf own)) j;
+            is-within = is-within (budget - left) (join (programOf cells) (frameOf other) (frameOf own)) w;
+          })
 
       pub joined-depth : (new : Side) → frameOf new ≡ join (programOf cells) (frameOf other) (frameOf own) → new .task .depth ≡ d
       joined-depth new e = omega (arith, depth-is, deep, good-depth cells (st .rank) (suc (st .height)) (budget - left) (frameOf new) (joined-good new e))
 
-      pub state-joins : running (frameOf other) ≡ false → (new : Side) → frameOf new ≡ join (programOf cells) (frameOf other) (frameOf own) → State new left kept
+      pub state-joins : running (frameOf other) ≡ false → (new : Side) → frameOf new ≡ join (programOf cells) (frameOf other) (frameOf own) → State
+          new left kept
       state-joins r new e =
           let nd = joined-depth new e in
           record {
@@ -224,7 +236,8 @@ module _ (cells code : List ℕ) (words : List ℤ) (interval budget : ℕ) (fir
       → run R budget (onward R (frameOf first) []) ≡ done (frameOf own) left
   unfolding pendingOf
   ends-done own left kept st r z =
-      st .same-run ∙ ap (λ n. run R left (onward R (frameOf own) (pendingOf kept n))) z ∙ ap (run R left) (onward-ends R (frameOf own) r) ∙ run-done R left (frameOf own) [] r
+      st .same-run ∙ ap (λ n. run R left (onward R (frameOf own) (pendingOf kept n))) z ∙ ap (run R left) (onward-ends R (frameOf own) r) ∙ run-done
+      R left (frameOf own) [] r
 
   pub ends-spent : (own : Side) (left : ℕ) (kept : List Side) → State own left kept → running (frameOf own) ≡ true → left ≡ 0
       → run R budget (onward R (frameOf first) []) ≡ spent
@@ -241,13 +254,16 @@ module _ (cells code : List ℕ) (words : List ℤ) (interval budget : ℕ) (fir
     pub going : over ≡ false → ends ≡ false
 
   -- it goes on
-  pub loops-on : {own : Side} {left : ℕ} {kept : List Side} {over ends : Bool} → over ≡ false → ends ≡ false → State own left kept → Loops own left kept over ends
+  pub loops-on : {own : Side} {left : ℕ} {kept : List Side} {over ends : Bool} → over ≡ false → ends ≡ false → State own left kept → Loops own left
+      kept over ends
   loops-on o e st = record { state = st; at-done = λ t. clash t o; at-spent = λ t. clash t o; going = λ t. e }
 
-  pub loops-spent : {own : Side} {left : ℕ} {kept : List Side} {ends : Bool} → ends ≡ false → State own left kept → running (frameOf own) ≡ true → left ≡ 0 → Loops own left kept true ends
+  pub loops-spent : {own : Side} {left : ℕ} {kept : List Side} {ends : Bool} → ends ≡ false → State own left kept → running (frameOf own) ≡ true →
+      left ≡ 0 → Loops own left kept true ends
   loops-spent e st r z = record { state = st; at-done = λ t u. clash u e; at-spent = λ t u. (r, z); going = λ t. e }
 
-  pub loops-done : {own : Side} {left : ℕ} {kept : List Side} → State own left kept → running (frameOf own) ≡ false → own .task .depth ≡ 0 → Loops own left kept true true
+  pub loops-done : {own : Side} {left : ℕ} {kept : List Side} → State own left kept → running (frameOf own) ≡ false → own .task .depth ≡ 0 → Loops
+      own left kept true true
   loops-done st r z = record { state = st; at-done = λ t u. (r, z); at-spent = λ t u. clash refl u; going = λ t. clash refl t }
 
   pub loops-end : (own : Side) (left : ℕ) (kept : List Side) (over ends : Bool) → over ≡ true → Loops own left kept over ends

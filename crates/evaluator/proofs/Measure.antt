@@ -22,11 +22,13 @@ pub less-over : (over r : Bool) (left depth : ℕ) → over ≡ false → 0 < we
 less-over true r left depth o = clash refl o
 less-over false r left depth o = omega arith
 
-pub less-pass : (over r r′ : Bool) (left left′ depth depth′ : ℕ) → over ≡ false → left′ < left → depth′ ≤ 6 → weighed over r′ left′ depth′ < weighed over r left depth
+pub less-pass : (over r r′ : Bool) (left left′ depth depth′ : ℕ) → over ≡ false → left′ < left → depth′ ≤ 6 → weighed over r′ left′ depth′ < weighed
+    over r left depth
 less-pass true r r′ left left′ depth depth′ o p q = clash refl o
 less-pass false r r′ left left′ depth depth′ o p q = omega (arith, p, q, slow-most r′)
 
-pub less-turn : (over r r′ : Bool) (left depth depth′ : ℕ) → over ≡ false → r ≡ false → r′ ≡ true → depth′ ≡ depth → weighed over r′ left depth′ < weighed over r left depth
+pub less-turn : (over r r′ : Bool) (left depth depth′ : ℕ) → over ≡ false → r ≡ false → r′ ≡ true → depth′ ≡ depth → weighed over r′ left depth′ <
+    weighed over r left depth
 less-turn true r r′ left depth depth′ o p q e = clash refl o
 less-turn false true r′ left depth depth′ o p q e = clash refl p
 less-turn false false true left depth depth′ o p q e = omega (arith, e)

@@ -41,9 +41,11 @@ own-frame t pc counter l p q r = λ j. record {
 }
 
 pub start-formed : (cells : List ℕ) (D h left : ℕ) (own : Side) → running (frameOf own) ≡ true → formed (programOf cells) D h (frameOf own) ≡ true
-    → formed (programOf cells) D h (frameAt (own .task .places) (own .task .depth) (own .task .forks) (4 * own .task .pc / 4) (left + own .task .counter - left) (own .task .span) (registersOf (own .nums) (own .kinds))) ≡ true
+    → formed (programOf cells) D h (frameAt (own .task .places) (own .task .depth) (own .task .forks) (4 * own .task .pc / 4)
+    (left + own .task .counter - left) (own .task .span) (registersOf (own .nums) (own .kinds))) ≡ true
 start-formed cells D h left own r x = subst (λ f. formed (programOf cells) D h f ≡ true)
-    (sym (own-frame (own .task) (4 * own .task .pc / 4) (left + own .task .counter - left) (registersOf (own .nums) (own .kinds)) (running-is (own .task .status) r) (omega arith) (omega arith))) x
+    (sym (own-frame (own .task) (4 * own .task .pc / 4) (left + own .task .counter - left) (registersOf (own .nums) (own .kinds))
+    (running-is (own .task .status) r) (omega arith) (omega arith))) x
 
 module _ (cells code : List ℕ) (words : List ℤ) (interval left : ℕ) (own : Side) (runs : running (frameOf own) ≡ true) where
   abbrev t : Task
@@ -54,7 +56,8 @@ module _ (cells code : List ℕ) (words : List ℤ) (interval left : ℕ) (own :
 
   -- what `run_on` leaves
   module _ (z : Stopped) (nums kinds : List ℕ)
-      (h : RunsUntil cells words interval (t .places) (t .depth) (4 * t .pc) (left + t .counter) left (registersOf (own .nums) (own .kinds)) z (registersOf nums kinds)) where
+      (h : RunsUntil cells words interval (t .places) (t .depth) (4 * t .pc) (left + t .counter) left (registersOf (own .nums) (own .kinds)) z
+      (registersOf nums kinds)) where
     abbrev after : Frame
     after = frameAt (t .places) (t .depth) (t .forks) (z .pc / 4) (z .beat - z .left) (t .span + (left - z .left)) (registersOf nums kinds)
 
@@ -87,7 +90,8 @@ module _ (cells code : List ℕ) (words : List ℤ) (interval left : ℕ) (own :
           ∙ h .runs .same-run (t .forks) (t .span) s
           ∙ ap (λ f. run (rules cells words interval) (z .left) (held f s)) reaches;
       good = subst (Good cells D k (W + (left - z .left))) reaches (record {
-        is-formed = h .runs .keeps-formed (t .forks) (t .span) D k (base .room) (subst (λ f. formed (programOf cells) D k f ≡ true) (sym begins) (g .is-formed));
+        is-formed = h .runs .keeps-formed (t .forks) (t .span) D k (base .room)
+            (subst (λ f. formed (programOf cells) D k f ≡ true) (sym begins) (g .is-formed));
         is-within = h .runs .keeps-within (t .forks) (t .span) W (subst (λ f. within W f ≡ true) (sym begins) (g .is-within));
       });
       runs = runs;
@@ -98,12 +102,14 @@ module _ (cells code : List ℕ) (words : List ℤ) (interval left : ℕ) (own :
 
 -- ---- and one more
 
-module _ (cells code : List ℕ) (words : List ℤ) (interval D h W left : ℕ) (own : Side) (r : Rest) (base : Base cells code D (W + left)) (x : Rests cells words interval D h W left own r) where
+module _ (cells code : List ℕ) (words : List ℤ) (interval D h W left : ℕ) (own : Side) (r : Rest) (base : Base cells code D (W + left))
+    (x : Rests cells words interval D h W left own r) where
   abbrev R : Rules Frame
   R = rules cells words interval
 
   -- the budget was used up before
-  pub pass-spent : r .on ≡ true → Passes cells words interval D h W left own (record { spent = true; forks = false; own = r .own; child = r .own; left = r .left })
+  pub pass-spent : r .on ≡ true → Passes cells words interval D h W left own
+      (record { spent = true; forks = false; own = r .own; child = r .own; left = r .left })
   pass-spent q = record {
     same-run = λ s. x .same-run s ∙ ap (run R (r .left)) (sym (onward-runs R (frameOf (r .own)) s (x .runs)));
     when-spent = λ t. (x .when-spent q, refl, x .runs);
@@ -113,12 +119,14 @@ module _ (cells code : List ℕ) (words : List ℤ) (interval D h W left : ℕ) 
     forked = λ t. clash t refl;
   }
 
-  run-less : (n : ℕ) (s : Pending Frame) → 0 < n → run R n (held (frameOf (r .own)) s) ≡ run R (n - 1) (taken R s (step (programOf cells) words (chosen interval) (frameOf (r .own))))
+  run-less : (n : ℕ) (s : Pending Frame) → 0 < n → run R n (held (frameOf (r .own)) s) ≡ run R (n - 1)
+      (taken R s (step (programOf cells) words (chosen interval) (frameOf (r .own))))
   run-less zero s p = absurd (omega arith)
   run-less (suc n) s p = let q : suc n - 1 ≡ n = omega arith in run-step R n (frameOf (r .own)) s (x .runs) ∙ rw q
 
   module _ (some : 0 < r .left) where
-    leads : (t : Bool) (p c : Frame) → step (programOf cells) words (chosen interval) (frameOf (r .own)) ≡ steppedBy t p c → (s : Pending Frame) → run R left (held (frameOf own) s) ≡ runFrom cells words interval t p c s (r .left - 1)
+    leads : (t : Bool) (p c : Frame) → step (programOf cells) words (chosen interval) (frameOf (r .own)) ≡ steppedBy t p c → (s : Pending Frame) →
+        run R left (held (frameOf own) s) ≡ runFrom cells words interval t p c s (r .left - 1)
     leads true p c e s = x .same-run s ∙ run-less (r .left) s some ∙ ap (λ y. run R (r .left - 1) (taken R s y)) e
     leads false p c e s = x .same-run s ∙ run-less (r .left) s some ∙ ap (λ y. run R (r .left - 1) (taken R s y)) e
 
@@ -133,14 +141,17 @@ module _ (cells code : List ℕ) (words : List ℤ) (interval D h W left : ℕ) 
 
     one-good : (p : Frame) → step (programOf cells) words (chosen interval) (frameOf (r .own)) ≡ one p → Good cells D h (W + (left - (r .left - 1))) p
     one-good p e = record {
-      is-formed = is-formed (programOf cells) D h p (step-one cells (accepted cells (base .accepted-program)) D (base .room) words (chosen interval) h (frameOf (r .own)) p was-formed (x .runs) e);
-      is-within = is-within _ p (within-more enough (step-one-within (programOf cells) words (chosen interval) (W + (left - r .left)) (frameOf (r .own)) p was-within e));
+      is-formed = is-formed (programOf cells) D h p
+          (step-one cells (accepted cells (base .accepted-program)) D (base .room) words (chosen interval) h (frameOf (r .own)) p was-formed (x .runs) e);
+      is-within = is-within _ p (within-more enough
+          (step-one-within (programOf cells) words (chosen interval) (W + (left - r .left)) (frameOf (r .own)) p was-within e));
     }
 
     two-good : (p c : Frame) → step (programOf cells) words (chosen interval) (frameOf (r .own)) ≡ two p c → running c ≡ true
         → Sides cells words interval D h (W + (left - (r .left - 1))) p c
     two-good p c e q =
-        let f = step-two cells (accepted cells (base .accepted-program)) D (base .room) words (chosen interval) h (frameOf (r .own)) p c was-formed (x .runs) e in
+        let f = step-two cells (accepted cells (base .accepted-program)) D (base .room) words (chosen interval) h (frameOf (r .own)) p c was-formed
+        (x .runs) e in
         let w = step-two-within (programOf cells) words (chosen interval) (W + (left - r .left)) (frameOf (r .own)) p c was-within e in
         record {
           half = f .0;
@@ -150,7 +161,8 @@ module _ (cells code : List ℕ) (words : List ℤ) (interval D h W left : ℕ) 
           child-runs = q;
         }
 
-    pub pass-on : (n : Next) → step (programOf cells) words (chosen interval) (frameOf (r .own)) ≡ steppedBy (n .forks) (frameOf (n .own)) (frameOf (n .child)) → (n .forks ≡ true → running (frameOf (n .child)) ≡ true)
+    pub pass-on : (n : Next) → step (programOf cells) words (chosen interval) (frameOf (r .own)) ≡ steppedBy (n .forks) (frameOf (n .own))
+        (frameOf (n .child)) → (n .forks ≡ true → running (frameOf (n .child)) ≡ true)
         → Passes cells words interval D h W left own (record { spent = false; forks = n .forks; own = n .own; child = n .child; left = r .left - 1 })
     pass-on n e q = record {
       same-run = λ s. leads (n .forks) (frameOf (n .own)) (frameOf (n .child)) e s;

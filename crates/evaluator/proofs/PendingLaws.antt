@@ -25,8 +25,10 @@ unfolding pendingOf
 pending-top kept d = refl
 
 -- the same, where the depth and what runs are known by equations
-pub pushed-as : (kept : List Side) (d : ℕ) (x : Side) (n : ℕ) (t : Bool) → d < length kept → n ≡ suc d → running (frameOf x) ≡ t → pendingOf (set kept d x) n ≡ openBy t (frameOf x) ∷ pendingOf kept d
+pub pushed-as : (kept : List Side) (d : ℕ) (x : Side) (n : ℕ) (t : Bool) → d < length kept → n ≡ suc d → running (frameOf x) ≡ t → pendingOf
+    (set kept d x) n ≡ openBy t (frameOf x) ∷ pendingOf kept d
 pushed-as kept d x n t h p q = ap (pendingOf (set kept d x)) p ∙ pending-pushed kept d x h ∙ ap (λ b. openBy b (frameOf x) ∷ pendingOf kept d) q
 
-pub top-as : (kept : List Side) (d n : ℕ) (t : Bool) → n ≡ suc d → running (frameOf (getD kept d noSide)) ≡ t → pendingOf kept n ≡ openBy t (frameOf (getD kept d noSide)) ∷ pendingOf kept d
+pub top-as : (kept : List Side) (d n : ℕ) (t : Bool) → n ≡ suc d → running (frameOf (getD kept d noSide)) ≡ t → pendingOf kept n ≡ openBy t
+    (frameOf (getD kept d noSide)) ∷ pendingOf kept d
 top-as kept d n t p q = ap (pendingOf kept) p ∙ pending-top kept d ∙ ap (λ b. openBy b (frameOf (getD kept d noSide)) ∷ pendingOf kept d) q

@@ -1,12 +1,12 @@
 -- The loop of turns is `serial`'s run.
-use mathlib.Core.Path.{_≡_, refl, sym, ap, _∙_}
-use mathlib.Core.Bool.{Bool, true, false}
-use mathlib.Core.List.{List, _∷_}
+use mathlib.Core.Path.{_≡_, refl, ap, _∙_}
+use mathlib.Core.Bool.{true}
+use mathlib.Core.List.{List}
 use Prim.Native.Nat.{ℕ, zero, suc, _+_, _*_, _-_, _/_, _<_, _≤_}
 use native.Mathlib.Omega.{arith}
 use lib.IntN.{ℤ}
 use Rattle.image.specs.Layout.{instructionCount, programOf}
-use Rattle.agreement.specs.Plain.{Stepped, one}
+use Rattle.agreement.specs.Plain.{one}
 use Rattle.serial.specs.Serial.{Pending, held, taken, run}
 use Rattle.serial.proofs.Equations.{onward-runs, run-step}
 use Rattle.task.specs.declared.Register.{Register}
@@ -15,10 +15,9 @@ use Rattle.task.specs.declared.Frame.{Frame}
 use Rattle.task.specs.Frames.{running}
 use Rattle.task.specs.Choices.{chosen}
 use Rattle.task.specs.Step.{step}
-use Rattle.task.specs.Formed.{formed, within}
-use Rattle.task.proofs.Formation.{Formed, formed-is, is-formed}
+use Rattle.task.proofs.Formation.{formed-is, is-formed}
 use Rattle.task.proofs.StepKeeps.{step-one}
-use Rattle.task.proofs.Counts.{Within, within-is, is-within, within-more, step-one-within}
+use Rattle.task.proofs.Counts.{within-is, is-within, within-more, step-one-within}
 use Rattle.image.proofs.Accepted.{accepted}
 use Rattle.image.specs.Questions.{programNo}
 use Rattle.evaluator.specs.declared.Gone.{Gone}
@@ -34,7 +33,8 @@ module _ (cells : List ℕ) (words : List ℤ) (interval : ℕ) where
       ∙ ap (λ x. run (rules cells words interval) n x) (onward-runs (rules cells words interval) g s h)
 
   module _ (accept : programNo cells ≡ 0) (places depth pc beat left : ℕ) (before : List Register) where
-    pub runs-start : pc ≡ 4 * (pc / 4) → pc / 4 < instructionCount cells → left ≤ beat → Runs cells words interval places depth pc beat left before pc beat left before
+    pub runs-start : pc ≡ 4 * (pc / 4) → pc / 4 < instructionCount cells → left ≤ beat → Runs cells words interval places depth pc beat left before
+        pc beat left before
     runs-start a h l = record {
       same-run = λ forks span s. rw same;
       keeps-formed = λ forks span D h r x. rw same x;

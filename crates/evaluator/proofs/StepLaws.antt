@@ -12,7 +12,6 @@ use Rattle.image.specs.Layout.{blockCount, instructionOf, programOf}
 use Rattle.image.proofs.Accepted.{accepted, InstructionAccepted}
 use Rattle.agreement.specs.Plain.{Stepped, one, two}
 use Rattle.task.specs.declared.Value.{Value}
-use Rattle.task.specs.declared.Status.the-variants.{Running}
 use Rattle.task.specs.declared.Fork.{Fork}
 use Rattle.task.specs.declared.Task.{Task}
 use Rattle.task.specs.declared.Frame.{Frame}
@@ -70,7 +69,8 @@ module _ (own : Side) (r : ℕ) (e : Executed) where
     pub applies-halts : {t : Task} → g ≡ withTask t f → t ≡ ended (statusOf Halts 0) (counted (own .task)) → e .kind ≡ Halts → z ≡ madeOf (e .kind) f r e
     applies-halts p q k = by-kind Halts k (ap one (p ∙ ap (λ t. withTask t f) q))
 
-    pub applies-faults : {t : Task} → g ≡ record { task = t; registers = zeros } → t ≡ ended (statusOf Faults (e .fault)) (counted (own .task)) → e .kind ≡ Faults
+    pub applies-faults : {t : Task} → g ≡ record { task = t; registers = zeros } → t ≡ ended (statusOf Faults (e .fault)) (counted (own .task)) →
+        e .kind ≡ Faults
         → z ≡ madeOf (e .kind) f r e
     applies-faults p q k = by-kind Faults k (ap one (p ∙ ap (λ t. record { task = t; registers = zeros }) q))
 
@@ -110,7 +110,8 @@ module _ (cells : List ℕ) (words : List ℤ) (interval : ℕ) (own : Side) (ca
 
     pub label-small : (i : ℕ) → i < 16 → getD (own .kinds) i 0 ≡ 1 → getD (own .nums) i 0 < 4294967296
     label-small i l q =
-        let v : valueFits (programOf cells) (valueOf (getD (own .kinds) i 0) (getD (own .nums) i 0)) ≡ true = ap (valueFits (programOf cells)) (at-is i l) ∙ its .values-fit i in
+        let v : valueFits (programOf cells) (valueOf (getD (own .kinds) i 0) (getD (own .nums) i 0)) ≡ true = ap (valueFits (programOf cells))
+        (at-is i l) ∙ its .values-fit i in
         let b = ltb-true (getD (own .nums) i 0) (blockCount cells) (rw q at v) in
         omega (arith, b, few)
 
@@ -138,7 +139,12 @@ module _ (cells : List ℕ) (words : List ℤ) (interval : ℕ) (own : Side) (ca
           where
             read : x .kind ≡ 1 → held ≡ register g (x .operand)
             read h =
-                let o : x .operand ≤ 15 = omega (arith, ap (λ (y : Instruction). y .operand) ex, accepts .register-small (sym (ap (λ (y : Instruction). y .kind) ex) ∙ h)) in
+                let o : x .operand ≤ 15 = omega (
+                  arith,
+                  ap (λ (y : Instruction). y .operand) ex,
+                  accepts .register-small
+                      (sym (ap (λ (y : Instruction). y .kind) ex) ∙ h),
+                ) in
                 let z : x .operand % 16 ≡ x .operand = omega arith in
                 eh ∙ at-is (x .operand % 16) (omega arith) ∙ ap (register g) z
 
@@ -183,6 +189,7 @@ module _ (cells : List ℕ) (words : List ℤ) (interval : ℕ) (own : Side) (ca
 
           pub fork-room : e .kind ≡ Forks → own .task .depth < 6
           fork-room k =
-              let f = step-two cells (accepted cells (can .accepted-program)) (can .rank) (can .room) words (chosen interval) (can .height) g _ _ its (can .runs)
+              let f = step-two cells (accepted cells (can .accepted-program)) (can .rank) (can .room) words (chosen interval) (can .height) g _ _ its
+              (can .runs)
               (steps ∙ ap (λ y. madeOf y g (x .r) e) k) in
               omega (arith, its .has-depth, can .room, f .1)

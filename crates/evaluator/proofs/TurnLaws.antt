@@ -1,6 +1,6 @@
 -- One turn: what is known of the decoded instruction, and an arm held against `step`.
-use mathlib.Core.Path.{_≡_, refl, sym, ap, _∙_}
-use mathlib.Core.Bool.{Bool, true, false, true≢false}
+use mathlib.Core.Path.{_≡_, refl, ap, _∙_}
+use mathlib.Core.Bool.{Bool, true, false}
 use mathlib.Core.List.{List, []}
 use Prim.Native.Nat.{ℕ, zero, suc, _+_, _*_, _-_, _/_, _%_, _<_, _≤_}
 use native.Mathlib.Omega.{arith}
@@ -16,11 +16,10 @@ use Rattle.task.specs.declared.Register.{Register}
 use Rattle.task.specs.declared.Fork.{Fork}
 use Rattle.task.specs.declared.Frame.{Frame}
 use Rattle.task.specs.declared.Active.{Active}
-use Rattle.task.specs.declared.Executed.{Executed}
 use Rattle.task.specs.Choices.{chosen}
 use Rattle.task.specs.Effect.{stores, unknown, opcodes, effectOf}
 use Rattle.task.specs.Step.{register, operand, activeOf, step}
-use Rattle.task.specs.Execute.{countedActive, answered, executed}
+use Rattle.task.specs.Execute.{answered, executed}
 use Rattle.task.proofs.Executing.{step-executed}
 use Rattle.evaluator.specs.declared.Gone.{Gone}
 use Rattle.evaluator.specs.Registers.{inRegister, operandBy}
@@ -51,7 +50,8 @@ pub record Fetched (cells : List ℕ) (pc arm r s v : ℕ) : Type 0 where
   pub its : InstructionAccepted cells (pc / 4)
   pub few : instructionCount cells ≤ 1024
   pub few-blocks : blockCount cells ≤ 128
-  pub block-inside : (b v : ℕ) → b < blockCount cells → Plain cells (instructionOf cells (pc / 4)) arm v → b ≡ instructionOf cells (pc / 4) .operand → Unready cells b v
+  pub block-inside : (b v : ℕ) → b < blockCount cells → Plain cells (instructionOf cells (pc / 4)) arm v → b ≡ instructionOf cells (pc / 4) .operand
+      → Unready cells b v
 
 pub fetched : {cells code nums kinds : List ℕ} {left beat pc : ℕ} → At cells code nums kinds left beat pc
     → Fetched cells pc (getD code pc 0) (getD code (pc + 1) 0) (getD code (pc + 2) 0) (getD code (pc + 3) 0)
@@ -124,7 +124,8 @@ module _ {cells : List ℕ} {pc arm r s v : ℕ} (d : Fetched cells pc arm r s v
 
 -- ---- arms
 
-module _ (cells : List ℕ) (words : List ℤ) (interval places depth pc beat left : ℕ) (before : List Register) (aligned : pc ≡ 4 * (pc / 4)) (counts : left < beat) where
+module _ (cells : List ℕ) (words : List ℤ) (interval places depth pc beat left : ℕ) (before : List Register) (aligned : pc ≡ 4 * (pc / 4))
+    (counts : left < beat) where
   abbrev y : Instruction
   y = instructionOf cells (pc / 4)
 
@@ -156,7 +157,8 @@ module _ (cells : List ℕ) (words : List ℤ) (interval places depth pc beat le
 
     -- it sets a register
     pub turned-sets : (on : Bool) (after : List Register) (r : ℕ) → r ≡ y .r → (on ≡ true → pc / 4 + 1 < instructionCount cells)
-        → ((t : Active) (o : List Fork) → Sets on r before after (effectOf (programOf cells) words (chosen interval) (inRegister s before) (operandBy k v before) t o (getD opcodes n unknown)))
+        → ((t : Active) (o : List Fork) → Sets on r before after
+        (effectOf (programOf cells) words (chosen interval) (inRegister s before) (operandBy k v before) t o (getD opcodes n unknown)))
         → Turned cells words interval places depth pc beat left before (record { on = on; pc = pc + 4; beat = beat }) after
     turned-sets on after r same inside e = record {
       steps = λ t forks span. go forks span (e a forks .did t);
@@ -171,7 +173,8 @@ module _ (cells : List ℕ) (words : List ℤ) (interval places depth pc beat le
         place = omega arith
 
         go : (forks : List Fork) (span : ℕ)
-            → (w : Value) × (effectOf (programOf cells) words (chosen interval) (inRegister s before) (operandBy k v before) a forks (getD opcodes n unknown) ≡ stores w)
+            → (w : Value) × (effectOf (programOf cells) words (chosen interval) (inRegister s before) (operandBy k v before) a forks
+            (getD opcodes n unknown) ≡ stores w)
             × (after ≡ set before r (record { value = w }))
             → step (programOf cells) words (chosen interval) (f forks span) ≡ one (frameAt places depth forks ((pc + 4) / 4) (beat - left) (span + 1) after)
         go forks span (w, is, now) =
@@ -179,7 +182,8 @@ module _ (cells : List ℕ) (words : List ℤ) (interval places depth pc beat le
 
     -- it goes elsewhere
     pub turned-leads : (g : Gone)
-        → ((o : List Fork) → Leads cells beat left g (answered (programOf cells) words (chosen interval) (inRegister s before) (operandBy k v before) a o (getD opcodes n unknown)))
+        → ((o : List Fork) → Leads cells beat left g
+        (answered (programOf cells) words (chosen interval) (inRegister s before) (operandBy k v before) a o (getD opcodes n unknown)))
         → Turned cells words interval places depth pc beat left before g before
     turned-leads g e = record {
       steps = λ t forks span. step-executed (programOf cells) words (chosen interval) (f forks span) ∙ rw (means forks span, e forks .leads t);

@@ -1,7 +1,7 @@
 -- Turns of the loop: instructions that the task in hand carries out by itself, held against `step` and against `serial`'s run. The task is
 -- given by its numbers. Its counter is the difference of `beat` and what is left of the budget, so that an instruction counts both at once.
 use mathlib.Core.Path.{_≡_}
-use mathlib.Core.Bool.{Bool, true, false}
+use mathlib.Core.Bool.{true, false}
 use mathlib.Core.List.{List}
 use Prim.Native.Nat.{ℕ, _+_, _*_, _-_, _/_, _<_, _≤_}
 use lib.IntN.{ℤ}

@@ -34,11 +34,7 @@ fn stored(r: u64, v: Value, own: Side, task: Task) -> Side
     let mut kinds = own.kinds;
     nums[at] = p.num;
     kinds[at] = p.kind;
-    Side {
-        task,
-        nums,
-        kinds,
-    }
+    Side { task, nums, kinds }
 }
 
 fn with_task(task: Task, own: Side) -> Side
@@ -46,11 +42,7 @@ fn with_task(task: Task, own: Side) -> Side
 {
     let nums = own.nums;
     let kinds = own.kinds;
-    Side {
-        task,
-        nums,
-        kinds,
-    }
+    Side { task, nums, kinds }
 }
 
 // 16 integers 0.
@@ -59,11 +51,7 @@ fn cleared(task: Task) -> Side
 {
     let nums = [0u64; 16];
     let kinds = [0u8; 16];
-    Side {
-        task,
-        nums,
-        kinds,
-    }
+    Side { task, nums, kinds }
 }
 
 fn alone(own: Side) -> Next

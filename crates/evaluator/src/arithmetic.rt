@@ -58,7 +58,8 @@ fn sameness_bits(a: u64, b: u64) -> u64
 // r := u, what was computed of the integer in s and the number b.
 fn store_of_one(nums: &mut [u64], kinds: &mut [u8], r: usize, s: usize, u: u64) -> bool
     requires { ⌜ Sized (now nums) (now kinds) × (r < 16) × (s < 16) ⌝ }
-    ensures { λ z. ⌜ ((b : ℕ) → SetsComputed z r u (now (nums .entry)) (now (kinds .entry)) (now (nums .exit)) (now (kinds .exit)) (getD (now (nums .entry)) s 0) b (inRegister s) (asNumber b)) ⌝ }
+    ensures { λ z. ⌜ ((b : ℕ) → SetsComputed z r u (now (nums .entry)) (now (kinds .entry)) (now (nums .exit)) (now (kinds .exit))
+        (getD (now (nums .entry)) s 0) b (inRegister s) (asNumber b)) ⌝ }
 {
     if kinds[s] != 0 {
         return false;
@@ -70,7 +71,8 @@ fn store_of_one(nums: &mut [u64], kinds: &mut [u8], r: usize, s: usize, u: u64) 
 // r := u, what was computed of the integers in s and v.
 fn store_of_two(nums: &mut [u64], kinds: &mut [u8], r: usize, s: usize, v: usize, u: u64) -> bool
     requires { ⌜ Sized (now nums) (now kinds) × (r < 16) × (s < 16) × (v < 16) ⌝ }
-    ensures { λ z. ⌜ SetsComputed z r u (now (nums .entry)) (now (kinds .entry)) (now (nums .exit)) (now (kinds .exit)) (getD (now (nums .entry)) s 0) (getD (now (nums .entry)) v 0) (inRegister s) (inRegister v) ⌝ }
+    ensures { λ z. ⌜ SetsComputed z r u (now (nums .entry)) (now (kinds .entry)) (now (nums .exit)) (now (kinds .exit))
+        (getD (now (nums .entry)) s 0) (getD (now (nums .entry)) v 0) (inRegister s) (inRegister v) ⌝ }
 {
     if kinds[v] != 0 {
         return false;
@@ -80,7 +82,8 @@ fn store_of_two(nums: &mut [u64], kinds: &mut [u8], r: usize, s: usize, v: usize
 
 pub fn add_registers(nums: &mut [u64], kinds: &mut [u8], r: usize, s: usize, v: usize) -> bool
     requires { ⌜ Sized (now nums) (now kinds) × (r < 16) × (s < 16) × (v < 16) ⌝ }
-    ensures { λ z. ⌜ ((w : List ℤ) → SetsAs w plus z r (now (nums .entry)) (now (kinds .entry)) (now (nums .exit)) (now (kinds .exit)) (inRegister s) (inRegister v)) ⌝ }
+    ensures { λ z. ⌜ ((w : List ℤ) → SetsAs w plus z r (now (nums .entry)) (now (kinds .entry)) (now (nums .exit)) (now (kinds .exit))
+        (inRegister s) (inRegister v)) ⌝ }
 {
     let u = sum_bits(nums[s], nums[v]);
     store_of_two(nums, kinds, r, s, v, u)
@@ -88,7 +91,8 @@ pub fn add_registers(nums: &mut [u64], kinds: &mut [u8], r: usize, s: usize, v: 
 
 pub fn add_number(nums: &mut [u64], kinds: &mut [u8], r: usize, s: usize, v: u64) -> bool
     requires { ⌜ Sized (now nums) (now kinds) × (r < 16) × (s < 16) ⌝ }
-    ensures { λ z. ⌜ ((w : List ℤ) → SetsAs w plus z r (now (nums .entry)) (now (kinds .entry)) (now (nums .exit)) (now (kinds .exit)) (inRegister s) (asNumber v)) ⌝ }
+    ensures { λ z. ⌜ ((w : List ℤ) → SetsAs w plus z r (now (nums .entry)) (now (kinds .entry)) (now (nums .exit)) (now (kinds .exit))
+        (inRegister s) (asNumber v)) ⌝ }
 {
     let u = sum_bits(nums[s], v);
     store_of_one(nums, kinds, r, s, u)
@@ -96,7 +100,8 @@ pub fn add_number(nums: &mut [u64], kinds: &mut [u8], r: usize, s: usize, v: u64
 
 pub fn subtract_registers(nums: &mut [u64], kinds: &mut [u8], r: usize, s: usize, v: usize) -> bool
     requires { ⌜ Sized (now nums) (now kinds) × (r < 16) × (s < 16) × (v < 16) ⌝ }
-    ensures { λ z. ⌜ ((w : List ℤ) → SetsAs w minus z r (now (nums .entry)) (now (kinds .entry)) (now (nums .exit)) (now (kinds .exit)) (inRegister s) (inRegister v)) ⌝ }
+    ensures { λ z. ⌜ ((w : List ℤ) → SetsAs w minus z r (now (nums .entry)) (now (kinds .entry)) (now (nums .exit)) (now (kinds .exit))
+        (inRegister s) (inRegister v)) ⌝ }
 {
     let u = difference_bits(nums[s], nums[v]);
     store_of_two(nums, kinds, r, s, v, u)
@@ -104,7 +109,8 @@ pub fn subtract_registers(nums: &mut [u64], kinds: &mut [u8], r: usize, s: usize
 
 pub fn subtract_number(nums: &mut [u64], kinds: &mut [u8], r: usize, s: usize, v: u64) -> bool
     requires { ⌜ Sized (now nums) (now kinds) × (r < 16) × (s < 16) ⌝ }
-    ensures { λ z. ⌜ ((w : List ℤ) → SetsAs w minus z r (now (nums .entry)) (now (kinds .entry)) (now (nums .exit)) (now (kinds .exit)) (inRegister s) (asNumber v)) ⌝ }
+    ensures { λ z. ⌜ ((w : List ℤ) → SetsAs w minus z r (now (nums .entry)) (now (kinds .entry)) (now (nums .exit)) (now (kinds .exit))
+        (inRegister s) (asNumber v)) ⌝ }
 {
     let u = difference_bits(nums[s], v);
     store_of_one(nums, kinds, r, s, u)
@@ -112,7 +118,8 @@ pub fn subtract_number(nums: &mut [u64], kinds: &mut [u8], r: usize, s: usize, v
 
 pub fn multiply_registers(nums: &mut [u64], kinds: &mut [u8], r: usize, s: usize, v: usize) -> bool
     requires { ⌜ Sized (now nums) (now kinds) × (r < 16) × (s < 16) × (v < 16) ⌝ }
-    ensures { λ z. ⌜ ((w : List ℤ) → SetsAs w times z r (now (nums .entry)) (now (kinds .entry)) (now (nums .exit)) (now (kinds .exit)) (inRegister s) (inRegister v)) ⌝ }
+    ensures { λ z. ⌜ ((w : List ℤ) → SetsAs w times z r (now (nums .entry)) (now (kinds .entry)) (now (nums .exit)) (now (kinds .exit))
+        (inRegister s) (inRegister v)) ⌝ }
 {
     let u = product_bits(nums[s], nums[v]);
     store_of_two(nums, kinds, r, s, v, u)
@@ -120,7 +127,8 @@ pub fn multiply_registers(nums: &mut [u64], kinds: &mut [u8], r: usize, s: usize
 
 pub fn multiply_number(nums: &mut [u64], kinds: &mut [u8], r: usize, s: usize, v: u64) -> bool
     requires { ⌜ Sized (now nums) (now kinds) × (r < 16) × (s < 16) ⌝ }
-    ensures { λ z. ⌜ ((w : List ℤ) → SetsAs w times z r (now (nums .entry)) (now (kinds .entry)) (now (nums .exit)) (now (kinds .exit)) (inRegister s) (asNumber v)) ⌝ }
+    ensures { λ z. ⌜ ((w : List ℤ) → SetsAs w times z r (now (nums .entry)) (now (kinds .entry)) (now (nums .exit)) (now (kinds .exit))
+        (inRegister s) (asNumber v)) ⌝ }
 {
     let u = product_bits(nums[s], v);
     store_of_one(nums, kinds, r, s, u)
@@ -128,7 +136,8 @@ pub fn multiply_number(nums: &mut [u64], kinds: &mut [u8], r: usize, s: usize, v
 
 pub fn less_registers(nums: &mut [u64], kinds: &mut [u8], r: usize, s: usize, v: usize) -> bool
     requires { ⌜ Sized (now nums) (now kinds) × (r < 16) × (s < 16) × (v < 16) ⌝ }
-    ensures { λ z. ⌜ ((w : List ℤ) → SetsAs w less z r (now (nums .entry)) (now (kinds .entry)) (now (nums .exit)) (now (kinds .exit)) (inRegister s) (inRegister v)) ⌝ }
+    ensures { λ z. ⌜ ((w : List ℤ) → SetsAs w less z r (now (nums .entry)) (now (kinds .entry)) (now (nums .exit)) (now (kinds .exit))
+        (inRegister s) (inRegister v)) ⌝ }
 {
     let u = order_bits(nums[s], nums[v]);
     store_of_two(nums, kinds, r, s, v, u)
@@ -136,7 +145,8 @@ pub fn less_registers(nums: &mut [u64], kinds: &mut [u8], r: usize, s: usize, v:
 
 pub fn less_number(nums: &mut [u64], kinds: &mut [u8], r: usize, s: usize, v: u64) -> bool
     requires { ⌜ Sized (now nums) (now kinds) × (r < 16) × (s < 16) ⌝ }
-    ensures { λ z. ⌜ ((w : List ℤ) → SetsAs w less z r (now (nums .entry)) (now (kinds .entry)) (now (nums .exit)) (now (kinds .exit)) (inRegister s) (asNumber v)) ⌝ }
+    ensures { λ z. ⌜ ((w : List ℤ) → SetsAs w less z r (now (nums .entry)) (now (kinds .entry)) (now (nums .exit)) (now (kinds .exit))
+        (inRegister s) (asNumber v)) ⌝ }
 {
     let u = order_bits(nums[s], v);
     store_of_one(nums, kinds, r, s, u)
@@ -144,7 +154,8 @@ pub fn less_number(nums: &mut [u64], kinds: &mut [u8], r: usize, s: usize, v: u6
 
 pub fn equal_registers(nums: &mut [u64], kinds: &mut [u8], r: usize, s: usize, v: usize) -> bool
     requires { ⌜ Sized (now nums) (now kinds) × (r < 16) × (s < 16) × (v < 16) ⌝ }
-    ensures { λ z. ⌜ ((w : List ℤ) → SetsAs w equal z r (now (nums .entry)) (now (kinds .entry)) (now (nums .exit)) (now (kinds .exit)) (inRegister s) (inRegister v)) ⌝ }
+    ensures { λ z. ⌜ ((w : List ℤ) → SetsAs w equal z r (now (nums .entry)) (now (kinds .entry)) (now (nums .exit)) (now (kinds .exit))
+        (inRegister s) (inRegister v)) ⌝ }
 {
     let u = sameness_bits(nums[s], nums[v]);
     store_of_two(nums, kinds, r, s, v, u)
@@ -152,7 +163,8 @@ pub fn equal_registers(nums: &mut [u64], kinds: &mut [u8], r: usize, s: usize, v
 
 pub fn equal_number(nums: &mut [u64], kinds: &mut [u8], r: usize, s: usize, v: u64) -> bool
     requires { ⌜ Sized (now nums) (now kinds) × (r < 16) × (s < 16) ⌝ }
-    ensures { λ z. ⌜ ((w : List ℤ) → SetsAs w equal z r (now (nums .entry)) (now (kinds .entry)) (now (nums .exit)) (now (kinds .exit)) (inRegister s) (asNumber v)) ⌝ }
+    ensures { λ z. ⌜ ((w : List ℤ) → SetsAs w equal z r (now (nums .entry)) (now (kinds .entry)) (now (nums .exit)) (now (kinds .exit))
+        (inRegister s) (asNumber v)) ⌝ }
 {
     let u = sameness_bits(nums[s], v);
     store_of_one(nums, kinds, r, s, u)

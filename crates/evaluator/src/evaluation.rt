@@ -15,7 +15,14 @@ ghost use Rattle.evaluator.specs.Sides.{frameOf};
 ghost use Rattle.evaluator.specs.Evaluation.{CanStart, outcomeOf};
 
 // Our crates alone call it: with an accepted program decoded by `decode`, a well-formed first task, and a budget that is at most the work's limit.
-pub fn evaluate(cells: &[u64], code: &[u64], words: &[i64], interval: u64, first: Side, budget: u64) -> Evaluated
+pub fn evaluate(
+    cells: &[u64],
+    code: &[u64],
+    words: &[i64],
+    interval: u64,
+    first: Side,
+    budget: u64,
+) -> Evaluated
     requires { ⌜ CanStart (now cells) (now code) first budget ⌝ }
     ensures { λ r. ⌜ outcomeOf r ≡ withinBudget budget (eval (rules (now (cells .entry)) (now (words .entry)) interval) workLimit (frameOf first)) ⌝ }
     ensures { λ r. ⌜ (r .done ≡ false → r .left ≡ 0) ⌝ }
@@ -61,9 +68,5 @@ pub fn evaluate(cells: &[u64], code: &[u64], words: &[i64], interval: u64, first
         }
         own = join_sides(cells, other, own);
     }
-    Evaluated {
-        done,
-        own,
-        left,
-    }
+    Evaluated { done, own, left }
 }

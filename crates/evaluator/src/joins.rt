@@ -13,7 +13,8 @@ ghost use Rattle.evaluator.specs.Evaluation.{CanJoin};
 fn merge(nums: &mut [u64], kinds: &mut [u8], theirs: &[u64], marks: &[u8], count: u64, bytes: u64)
     requires { ⌜ Sized (now nums) (now kinds) × Sized (now theirs) (now marks) ⌝ }
     ensures { λ z. ⌜ Sized (now (nums .exit)) (now (kinds .exit)) ⌝ }
-    ensures { λ z. ⌜ registersOf (now (nums .exit)) (now (kinds .exit)) ≡ copied (registersOf (now (theirs .entry)) (now (marks .entry))) count bytes (registersOf (now (nums .entry)) (now (kinds .entry))) ⌝ }
+    ensures { λ z. ⌜ registersOf (now (nums .exit)) (now (kinds .exit))
+        ≡ copied (registersOf (now (theirs .entry)) (now (marks .entry))) count bytes (registersOf (now (nums .entry)) (now (kinds .entry))) ⌝ }
 {
     let mut pairs = count;
     let mut packed = bytes;
@@ -40,20 +41,19 @@ pub fn join_sides(cells: &[u64], p: Side, c: Side) -> Side
     if joint.faulted {
         let nums = [0u64; 16];
         let kinds = [0u8; 16];
-        return Side {
-            task,
-            nums,
-            kinds,
-        };
+        return Side { task, nums, kinds };
     }
     let mut nums = p.nums;
     let mut kinds = p.kinds;
     let theirs = c.nums;
     let marks = c.kinds;
-    merge(&mut nums, &mut kinds, &theirs, &marks, joint.pairs, joint.packed);
-    Side {
-        task,
-        nums,
-        kinds,
-    }
+    merge(
+        &mut nums,
+        &mut kinds,
+        &theirs,
+        &marks,
+        joint.pairs,
+        joint.packed,
+    );
+    Side { task, nums, kinds }
 }

@@ -6,7 +6,7 @@ ghost use mathlib.Core.Path.{_≡_};
 ghost use mathlib.Core.Bool.{true};
 ghost use mathlib.Core.List.{List};
 ghost use Prim.Native.Nat.{ℕ, _+_, _*_, _-_, _/_, _<_, _≤_};
-ghost use Rattle.image.specs.Layout.{blockCount, instructionCount, blockOf, programOf};
+ghost use Rattle.image.specs.Layout.{blockCount, instructionCount, programOf};
 ghost use Rattle.image.specs.Questions.{programNo};
 ghost use Rattle.task.specs.declared.Value.{Value};
 ghost use Rattle.task.specs.declared.Value.the-variants.{Label};
@@ -38,7 +38,8 @@ fn is_promoted(cells: &[u64], interval: u64, b: usize, counter: u64, places: u64
 // Entering block b. At a promotion the counter becomes 0: the beat is what is left.
 pub fn enter(cells: &[u64], interval: u64, places: u64, left: u64, beat: u64, b: usize) -> Gone
     requires { ⌜ (programNo (now cells) ≡ 0) × (b < blockCount (now cells)) × (left ≤ beat) ⌝ }
-    ensures { λ r. ⌜ ((i depth : ℕ) → Leads (now (cells .entry)) beat left r (entering (programOf (now (cells .entry))) (chosen interval) b (active places i (beat - left) depth))) ⌝ }
+    ensures { λ r. ⌜ ((i depth : ℕ) → Leads (now (cells .entry)) beat left r
+        (entering (programOf (now (cells .entry))) (chosen interval) b (active places i (beat - left) depth))) ⌝ }
 {
     if is_promoted(cells, interval, b, beat - left, places) {
         let handler = layout::label_of(cells, b) as usize;
@@ -58,8 +59,19 @@ pub fn enter(cells: &[u64], interval: u64, places: u64, left: u64, beat: u64, b:
 }
 
 // Jump to the label in a register.
-pub fn jump_register(cells: &[u64], nums: &[u64], kinds: &[u8], interval: u64, places: u64, left: u64, beat: u64, pc: usize, v: usize) -> Gone
-    requires { ⌜ (programNo (now cells) ≡ 0) × (left ≤ beat) × Sized (now nums) (now kinds) × (v < 16) × (pc ≡ 4 * (pc / 4)) × (valueFits (programOf (now cells)) (inRegister v (registersOf (now nums) (now kinds))) ≡ true) ⌝ }
+pub fn jump_register(
+    cells: &[u64],
+    nums: &[u64],
+    kinds: &[u8],
+    interval: u64,
+    places: u64,
+    left: u64,
+    beat: u64,
+    pc: usize,
+    v: usize,
+) -> Gone
+    requires { ⌜ (programNo (now cells) ≡ 0) × (left ≤ beat) × Sized (now nums) (now kinds) × (v < 16) × (pc ≡ 4 * (pc / 4))
+        × (valueFits (programOf (now cells)) (inRegister v (registersOf (now nums) (now kinds))) ≡ true) ⌝ }
     ensures { λ r. ⌜ ((s : Value) → LeadsAs (now (cells .entry)) interval jump places pc beat left r s (inRegister v (registersOf (now (nums .entry)) (now (kinds .entry))))) ⌝ }
 {
     if kinds[v] != 1 {
@@ -73,8 +85,20 @@ pub fn jump_register(cells: &[u64], nums: &[u64], kinds: &[u8], interval: u64, p
 }
 
 // If-jump to a label.
-pub fn branch_label(cells: &[u64], nums: &[u64], kinds: &[u8], interval: u64, places: u64, left: u64, beat: u64, s: usize, pc: usize, v: usize) -> Gone
-    requires { ⌜ (programNo (now cells) ≡ 0) × (v < blockCount (now cells)) × (left ≤ beat) × Sized (now nums) (now kinds) × (s < 16) × (pc ≡ 4 * (pc / 4)) × (pc / 4 + 1 < instructionCount (now cells)) ⌝ }
+pub fn branch_label(
+    cells: &[u64],
+    nums: &[u64],
+    kinds: &[u8],
+    interval: u64,
+    places: u64,
+    left: u64,
+    beat: u64,
+    s: usize,
+    pc: usize,
+    v: usize,
+) -> Gone
+    requires { ⌜ (programNo (now cells) ≡ 0) × (v < blockCount (now cells)) × (left ≤ beat) × Sized (now nums) (now kinds) × (s < 16) × (pc ≡ 4 * (pc / 4))
+        × (pc / 4 + 1 < instructionCount (now cells)) ⌝ }
     ensures { λ r. ⌜ LeadsAs (now (cells .entry)) interval ifJump places pc beat left r (inRegister s (registersOf (now (nums .entry)) (now (kinds .entry)))) (Label v) ⌝ }
 {
     if kinds[s] != 0 {
@@ -97,7 +121,8 @@ pub fn branch_label(cells: &[u64], nums: &[u64], kinds: &[u8], interval: u64, pl
 // If-jump to a block that is not promotion-ready, whose first place in the decoded code is v.
 pub fn branch_plain(nums: &[u64], kinds: &[u8], beat: u64, s: usize, pc: usize, v: usize) -> Gone
     requires { ⌜ Sized (now nums) (now kinds) × (s < 16) × (pc < 4294967296) ⌝ }
-    ensures { λ r. ⌜ ((cells : List ℕ) (interval places left b : ℕ) → Unready cells b v → pc ≡ 4 * (pc / 4) → pc / 4 + 1 < instructionCount cells → left ≤ beat → LeadsAs cells interval ifJump places pc beat left r (inRegister s (registersOf (now (nums .entry)) (now (kinds .entry)))) (Label b)) ⌝ }
+    ensures { λ r. ⌜ ((cells : List ℕ) (interval places left b : ℕ) → Unready cells b v → pc ≡ 4 * (pc / 4) → pc / 4 + 1 < instructionCount cells
+        → left ≤ beat → LeadsAs cells interval ifJump places pc beat left r (inRegister s (registersOf (now (nums .entry)) (now (kinds .entry)))) (Label b)) ⌝ }
 {
     if kinds[s] != 0 {
         return Gone {

@@ -2,10 +2,10 @@
 // is and proves that it finds what the plain evaluation finds.
 use task::Task;
 
-pub mod decoding;
-pub mod evaluation;
 mod advancing;
 mod arithmetic;
+pub mod decoding;
+pub mod evaluation;
 mod joins;
 mod jumps;
 mod moves;

@@ -17,7 +17,19 @@ fn run_side(cells: &[u64], code: &[u64], words: &[i64], interval: u64, own: Side
     let mut kinds = own.kinds;
     let begun = left + (t.counter as u64);
     let start = 4 * (t.pc as usize);
-    let ran = run_on(cells, code, words, &mut nums, &mut kinds, interval, t.places, t.depth as u64, left, begun, start);
+    let ran = run_on(
+        cells,
+        code,
+        words,
+        &mut nums,
+        &mut kinds,
+        interval,
+        t.places,
+        t.depth as u64,
+        left,
+        begun,
+        start,
+    );
     let counter = (ran.beat - ran.left) as u32;
     let span = t.span + ((left - ran.left) as u32);
     let pc = (ran.pc / 4) as u16;
@@ -32,11 +44,7 @@ fn run_side(cells: &[u64], code: &[u64], words: &[i64], interval: u64, own: Side
         depth: t.depth,
         forks,
     };
-    let next = Side {
-        task,
-        nums,
-        kinds,
-    };
+    let next = Side { task, nums, kinds };
     Rest {
         on: ran.on,
         own: next,
@@ -45,7 +53,14 @@ fn run_side(cells: &[u64], code: &[u64], words: &[i64], interval: u64, own: Side
 }
 
 // `evaluate` alone calls it, and ensures `CanPass`.
-pub fn pass(cells: &[u64], code: &[u64], words: &[i64], interval: u64, own: Side, left: u64) -> Passed
+pub fn pass(
+    cells: &[u64],
+    code: &[u64],
+    words: &[i64],
+    interval: u64,
+    own: Side,
+    left: u64,
+) -> Passed
     requires { ⌜ CanPass (now cells) (now code) own left ⌝ }
     ensures { λ r. ⌜ PassesIn (now (cells .entry)) (now (words .entry)) interval (now (code .entry)) left own r ⌝ }
 {

@@ -38,7 +38,13 @@ pub fn pair_of(v: Value) -> Pair
             let num = int64::bits(z);
             Pair { kind: 0, num }
         }
-        Value::Label(b) => Pair { kind: 1, num: b as u64 },
-        Value::Record(c, d) => Pair { kind: 2, num: 4294967296 * (c as u64) + (d as u64) },
+        Value::Label(b) => Pair {
+            kind: 1,
+            num: b as u64,
+        },
+        Value::Record(c, d) => Pair {
+            kind: 2,
+            num: 4294967296 * (c as u64) + (d as u64),
+        },
     }
 }

@@ -23,10 +23,19 @@ ghost use Rattle.evaluator.specs.Arms.{SetsAs};
 
 // The arm of opcode n and operand kind k is n + 16 k; one that is not here the task does not carry out by itself. `turn` alone calls it, with
 // the numbers of an accepted program's instruction.
-pub fn set_register(words: &[i64], nums: &mut [u64], kinds: &mut [u8], arm: u64, r: usize, s: usize, v: u64) -> bool
+pub fn set_register(
+    words: &[i64],
+    nums: &mut [u64],
+    kinds: &mut [u8],
+    arm: u64,
+    r: usize,
+    s: usize,
+    v: u64,
+) -> bool
     requires { ⌜ Sized (now nums) (now kinds) × (r < 16) × (s < 16) × (16 ≤ arm → arm < 32 → v < 16) ⌝ }
     ensures { λ z. ⌜ (z ≡ true → (arm % 16 < 13) × (arm < 64)) ⌝ }
-    ensures { λ z. ⌜ ((n k : ℕ) → n ≤ 15 → arm ≡ n + 16 * k → SetsAs (now (words .entry)) (getD opcodes n unknown) z r (now (nums .entry)) (now (kinds .entry)) (now (nums .exit)) (now (kinds .exit)) (inRegister s) (operandBy k v)) ⌝ }
+    ensures { λ z. ⌜ ((n k : ℕ) → n ≤ 15 → arm ≡ n + 16 * k
+        → SetsAs (now (words .entry)) (getD opcodes n unknown) z r (now (nums .entry)) (now (kinds .entry)) (now (nums .exit)) (now (kinds .exit)) (inRegister s) (operandBy k v)) ⌝ }
 {
     match arm {
         17 => move_register(nums, kinds, r, v as usize),

@@ -10,18 +10,52 @@ ghost use Rattle.evaluator.specs.Registers.{Sized, registersOf};
 ghost use Rattle.evaluator.specs.Turns.{At, Turned, Starts, RunsUntil};
 
 // One instruction; `left` is what is left of the budget after it. The loop below ensures `At`.
-fn turn(cells: &[u64], code: &[u64], words: &[i64], nums: &mut [u64], kinds: &mut [u8], interval: u64, places: u64, depth: u64, left: u64, beat: u64, pc: usize) -> Gone
+fn turn(
+    cells: &[u64],
+    code: &[u64],
+    words: &[i64],
+    nums: &mut [u64],
+    kinds: &mut [u8],
+    interval: u64,
+    places: u64,
+    depth: u64,
+    left: u64,
+    beat: u64,
+    pc: usize,
+) -> Gone
     requires { ⌜ At (now cells) (now code) (now nums) (now kinds) left beat pc ⌝ }
     ensures { λ z. ⌜ Sized (now (nums .exit)) (now (kinds .exit)) ⌝ }
-    ensures { λ z. ⌜ Turned (now (cells .entry)) (now (words .entry)) interval places depth pc beat left (registersOf (now (nums .entry)) (now (kinds .entry))) z (registersOf (now (nums .exit)) (now (kinds .exit))) ⌝ }
+    ensures { λ z. ⌜ Turned (now (cells .entry)) (now (words .entry)) interval places depth pc beat left
+        (registersOf (now (nums .entry)) (now (kinds .entry))) z (registersOf (now (nums .exit)) (now (kinds .exit))) ⌝ }
 {
     let arm = code[pc];
     let r = code[pc + 1] as usize;
     let s = code[pc + 2] as usize;
     let v = code[pc + 3];
     match arm {
-        29 => jump_register(cells, nums, kinds, interval, places, left, beat, pc, v as usize),
-        42 => branch_label(cells, nums, kinds, interval, places, left, beat, s, pc, v as usize),
+        29 => jump_register(
+            cells,
+            nums,
+            kinds,
+            interval,
+            places,
+            left,
+            beat,
+            pc,
+            v as usize,
+        ),
+        42 => branch_label(
+            cells,
+            nums,
+            kinds,
+            interval,
+            places,
+            left,
+            beat,
+            s,
+            pc,
+            v as usize,
+        ),
         45 => enter(cells, interval, places, left, beat, v as usize),
         106 => branch_plain(nums, kinds, beat, s, pc, v as usize),
         109 => Gone {
@@ -42,16 +76,41 @@ fn turn(cells: &[u64], code: &[u64], words: &[i64], nums: &mut [u64], kinds: &mu
 
 // Instructions until one that the task does not carry out by itself, which is not carried out, or the budget is used up. `run_side` alone calls
 // it, with a well-formed task.
-pub fn run_on(cells: &[u64], code: &[u64], words: &[i64], nums: &mut [u64], kinds: &mut [u8], interval: u64, places: u64, depth: u64, budget: u64, begun: u64, start: usize) -> Stopped
+pub fn run_on(
+    cells: &[u64],
+    code: &[u64],
+    words: &[i64],
+    nums: &mut [u64],
+    kinds: &mut [u8],
+    interval: u64,
+    places: u64,
+    depth: u64,
+    budget: u64,
+    begun: u64,
+    start: usize,
+) -> Stopped
     requires { ⌜ Starts (now cells) (now code) (now nums) (now kinds) places depth budget begun start ⌝ }
     ensures { λ z. ⌜ Sized (now (nums .exit)) (now (kinds .exit)) ⌝ }
-    ensures { λ z. ⌜ RunsUntil (now (cells .entry)) (now (words .entry)) interval places depth start begun budget (registersOf (now (nums .entry)) (now (kinds .entry))) z (registersOf (now (nums .exit)) (now (kinds .exit))) ⌝ }
+    ensures { λ z. ⌜ RunsUntil (now (cells .entry)) (now (words .entry)) interval places depth start begun budget
+        (registersOf (now (nums .entry)) (now (kinds .entry))) z (registersOf (now (nums .exit)) (now (kinds .exit))) ⌝ }
 {
     let mut left = budget;
     let mut pc = start;
     let mut beat = begun;
     while 0 < left {
-        let g = turn(cells, code, words, nums, kinds, interval, places, depth, left - 1, beat, pc);
+        let g = turn(
+            cells,
+            code,
+            words,
+            nums,
+            kinds,
+            interval,
+            places,
+            depth,
+            left - 1,
+            beat,
+            pc,
+        );
         if !g.on {
             return Stopped {
                 on: false,

@@ -3,7 +3,7 @@
 -- is taken; when both have, their join. The statement at the end: it finds what `eval` finds.
 use Prim.Native.Nat.{ℕ, zero, suc, _-_, _≤_}
 use mathlib.Core.Path.{_≡_}
-use mathlib.Core.Bool.{Bool, true, false}
+use mathlib.Core.Bool.{true, false}
 use mathlib.Core.List.{List, [], _∷_}
 use lib.Dec.{leb}
 use Rattle.agreement.specs.Plain.{Stepped, one, two, Rules, Ran, out, ran, eval}

@@ -12,7 +12,9 @@ cast-instruction-of : tie.Need-cast-instruction-of
 cast-instruction-of c = search needs
 
 instruction-of-requires : tie.Need-instruction-of-requires
-instruction-of-requires c κs = let a = c .before .before .before .before .before .before in omega (arith, accepts (a .args .cells .now) (a .args .words .now) (a .args .interval) (a .args .own) (a .pre) .is-stored)
+instruction-of-requires c κs =
+    let a = c .before .before .before .before .before .before in omega
+    (arith, accepts (a .args .cells .now) (a .args .words .now) (a .args .interval) (a .args .own) (a .pre) .is-stored)
 
 array-read-value-of : tie.Need-array-read-value-of
 array-read-value-of c =
@@ -40,7 +42,8 @@ value-of-requires c κs =
     let a = c .before .before .before .before .before .before .before .before in
     let z : Sized (a .args .own .nums) (a .args .own .kinds) = (search (needs, a .good .1 .1 .1 .0), search (needs, a .good .1 .1 .1 .0)) in
     let x = c .before .instruction-of in
-    label-small (a .args .cells .now) (a .args .words .now) (a .args .interval) (a .args .own) (a .pre) z (x .result .s) (s-small (a .args .cells .now) (a .args .words .now) (a .args .interval) (a .args .own) (a .pre) z (x .result) (x .ensures))
+    label-small (a .args .cells .now) (a .args .words .now) (a .args .interval) (a .args .own) (a .pre) z (x .result .s)
+    (s-small (a .args .cells .now) (a .args .words .now) (a .args .interval) (a .args .own) (a .pre) z (x .result) (x .ensures))
 
 array-read-value-of-3 : tie.Need-array-read-value-of-3
 array-read-value-of-3 c = search needs
@@ -70,21 +73,36 @@ execute-requires c κs =
     let a = c .before .before .before .before .before .before .before .before .before .before .before in
     let z : Sized (a .args .own .nums) (a .args .own .kinds) = (search (needs, a .good .1 .1 .1 .0), search (needs, a .good .1 .1 .1 .0)) in
     let x = c .before .before .before .before .instruction-of in
-    ready (a .args .cells .now) (a .args .words .now) (a .args .interval) (a .args .own) (a .pre) z (x .result) (x .ensures) (c .before .before .value-of .result) (c .before .value-of2 .result) (c .operand .result) (c .before .before .value-of .ensures) (c .before .value-of2 .ensures) (c .operand .ensures)
+    ready (a .args .cells .now) (a .args .words .now) (a .args .interval) (a .args .own) (a .pre) z (x .result) (x .ensures)
+    (c .before .before .value-of .result) (c .before .value-of2 .result) (c .operand .result) (c .before .before .value-of .ensures)
+    (c .before .value-of2 .ensures) (c .operand .ensures)
 
 apply-requires : tie.Need-apply-requires
 apply-requires c κs =
     let a = c .before .before .before .before .before .before .before .before .before .before .before .before in
     let z : Sized (a .args .own .nums) (a .args .own .kinds) = (search (needs, a .good .1 .1 .1 .0), search (needs, a .good .1 .1 .1 .0)) in
-    let x = c .before .before .before .before .before .instruction-of in
-    (r-small (a .args .cells .now) (a .args .words .now) (a .args .interval) (a .args .own) (a .pre) z (x .result) (x .ensures), span-below (a .args .cells .now) (a .args .words .now) (a .args .interval) (a .args .own) (a .pre), fork-room (a .args .cells .now) (a .args .words .now) (a .args .interval) (a .args .own) (a .pre) z (x .result) (x .ensures) (c .before .before .before .value-of .result) (c .before .before .value-of2 .result) (c .before .operand .result) (c .before .before .before .value-of .ensures) (c .before .before .value-of2 .ensures) (c .before .operand .ensures) (c .execute .result) (c .execute .ensures), a .pre .runs)
+    let x = c .before .before .before .before .before .instruction-of in (
+      r-small (a .args .cells .now) (a .args .words .now) (a .args .interval) (a .args .own) (a .pre) z (x .result) (x .ensures),
+      span-below
+          (a .args .cells .now) (a .args .words .now) (a .args .interval) (a .args .own) (a .pre),
+      fork-room (a .args .cells .now) (a .args .words .now)
+          (a .args .interval) (a .args .own) (a .pre) z (x .result) (x .ensures) (c .before .before .before .value-of .result)
+          (c .before .before .value-of2 .result) (c .before .operand .result) (c .before .before .before .value-of .ensures)
+          (c .before .before .value-of2 .ensures) (c .before .operand .ensures) (c .execute .result) (c .execute .ensures),
+      a .pre .runs,
+    )
 
 returns : tie.Need-returns
 returns c =
     let a = c .before .before .before .before .before .before .before .before .before .before .before .before .before in
     let z : Sized (a .args .own .nums) (a .args .own .kinds) = (search (needs, a .good .1 .1 .1 .0), search (needs, a .good .1 .1 .1 .0)) in
-    let x = c .before .before .before .before .before .before .instruction-of in
-    (steps (a .args .cells .now) (a .args .words .now) (a .args .interval) (a .args .own) (a .pre) z (x .result) (x .ensures) (c .before .before .before .before .value-of .result) (c .before .before .before .value-of2 .result) (c .before .before .operand .result) (c .before .before .before .before .value-of .ensures) (c .before .before .before .value-of2 .ensures) (c .before .before .operand .ensures) (c .before .execute .result) (c .before .execute .ensures) ∙ sym (c .apply .ensures .0), c .apply .ensures .1)
+    let x = c .before .before .before .before .before .before .instruction-of in (
+      steps (a .args .cells .now) (a .args .words .now) (a .args .interval) (a .args .own) (a .pre) z (x .result) (x .ensures)
+          (c .before .before .before .before .value-of .result) (c .before .before .before .value-of2 .result) (c .before .before .operand .result)
+          (c .before .before .before .before .value-of .ensures) (c .before .before .before .value-of2 .ensures) (c .before .before .operand .ensures)
+          (c .before .execute .result) (c .before .execute .ensures) ∙ sym (c .apply .ensures .0),
+      c .apply .ensures .1,
+    )
 
 pub advance-spec : {M : Type 1} → statement M
 advance-spec =

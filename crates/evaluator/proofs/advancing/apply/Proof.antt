@@ -87,28 +87,43 @@ with-task-requires-5 c κs = search needs
 
 returns : tie.Need-returns
 returns c =
-    let a = c .before .before .before .before .before .before in
-    (applies-stores (a .args .own) (a .args .r) (a .args .e) (c .alone .ensures .0) (c .before .stored .ensures) (c .before .before .ran-on .ensures) (c .before .before .before .enum-told .given .1), λ t. clash t (c .alone .ensures .1))
+    let a = c .before .before .before .before .before .before in (
+      applies-stores (a .args .own) (a .args .r) (a .args .e) (c .alone .ensures .0) (c .before .stored .ensures) (c .before .before .ran-on .ensures)
+          (c .before .before .before .enum-told .given .1),
+      λ t. clash t (c .alone .ensures .1),
+    )
 
 returns-2 : tie.Need-returns-2
 returns-2 c =
-    let a = c .before .before .before .before .before .before in
-    (applies-goes (a .args .own) (a .args .r) (a .args .e) (c .alone2 .ensures .0) (c .before .with-task .ensures) (c .before .before .ran-on2 .ensures) (c .before .before .before .enum-told2 .given .1), λ t. clash t (c .alone2 .ensures .1))
+    let a = c .before .before .before .before .before .before in (
+      applies-goes (a .args .own) (a .args .r) (a .args .e) (c .alone2 .ensures .0) (c .before .with-task .ensures)
+          (c .before .before .ran-on2 .ensures) (c .before .before .before .enum-told2 .given .1),
+      λ t. clash t (c .alone2 .ensures .1),
+    )
 
 returns-3 : tie.Need-returns-3
 returns-3 c =
-    let a = c .before .before .before .before .before .before in
-    (applies-waits (a .args .own) (a .args .r) (a .args .e) (c .alone3 .ensures .0) (c .before .with-task2 .ensures) (c .before .before .ended-task .ensures) (c .before .before .before .enum-told3 .given .1), λ t. clash t (c .alone3 .ensures .1))
+    let a = c .before .before .before .before .before .before in (
+      applies-waits (a .args .own) (a .args .r) (a .args .e) (c .alone3 .ensures .0) (c .before .with-task2 .ensures)
+          (c .before .before .ended-task .ensures) (c .before .before .before .enum-told3 .given .1),
+      λ t. clash t (c .alone3 .ensures .1),
+    )
 
 returns-4 : tie.Need-returns-4
 returns-4 c =
-    let a = c .before .before .before .before .before .before in
-    (applies-halts (a .args .own) (a .args .r) (a .args .e) (c .alone4 .ensures .0) (c .before .with-task3 .ensures) (c .before .before .ended-task2 .ensures) (c .before .before .before .enum-told4 .given .1), λ t. clash t (c .alone4 .ensures .1))
+    let a = c .before .before .before .before .before .before in (
+      applies-halts (a .args .own) (a .args .r) (a .args .e) (c .alone4 .ensures .0) (c .before .with-task3 .ensures)
+          (c .before .before .ended-task2 .ensures) (c .before .before .before .enum-told4 .given .1),
+      λ t. clash t (c .alone4 .ensures .1),
+    )
 
 returns-5 : tie.Need-returns-5
 returns-5 c =
-    let a = c .before .before .before .before .before .before in
-    (applies-faults (a .args .own) (a .args .r) (a .args .e) (c .alone5 .ensures .0) (c .before .cleared .ensures) (c .before .before .ended-task3 .ensures) (c .before .before .before .enum-told5 .given .1), λ t. clash t (c .alone5 .ensures .1))
+    let a = c .before .before .before .before .before .before in (
+      applies-faults (a .args .own) (a .args .r) (a .args .e) (c .alone5 .ensures .0) (c .before .cleared .ensures)
+          (c .before .before .ended-task3 .ensures) (c .before .before .before .enum-told5 .given .1),
+      λ t. clash t (c .alone5 .ensures .1),
+    )
 
 returns-6 : tie.Need-returns-6
 returns-6 c =
@@ -117,8 +132,12 @@ returns-6 c =
     let p = c .before .with-task4 .ensures in
     let c′ = c .with-task5 .ensures in
     let s = c .before .before .before .side-task .ensures in
-    let t = c .before .before .begun-at .ensures in
-    (applies-forks (a .args .own) (a .args .r) (a .args .e) (a .pre .3) (k .result) p c′ s t (k .ensures) (c .before .before .before .before .before .enum-told6 .given .1), λ q. child-runs (a .args .own) (a .args .r) (a .args .e) (a .pre .3) (k .result) p c′ s t)
+    let t = c .before .before .begun-at .ensures in (
+      applies-forks (a .args .own) (a .args .r) (a .args .e) (a .pre .3) (k .result) p c′ s t (k .ensures)
+          (c .before .before .before .before .before .enum-told6 .given .1),
+      λ q. child-runs (a .args .own) (a .args .r) (a .args .e) (a .pre .3)
+          (k .result) p c′ s t,
+    )
 
 pub apply-spec : {M : Type 1} → statement M
 apply-spec =

@@ -17,7 +17,9 @@ array-write-kinds : tie.Need-array-write-kinds
 array-write-kinds c = search needs
 
 returns : tie.Need-returns
-returns c = let a = c .before .before .before in stores-at (a .args .own) (a .args .r) (c .before .before .pair-of .result .num) (c .before .before .pair-of .result .kind) (a .args .v) (a .args .task) (c .before .before .pair-of .ensures)
+returns c =
+    let a = c .before .before .before in stores-at (a .args .own) (a .args .r) (c .before .before .pair-of .result .num)
+    (c .before .before .pair-of .result .kind) (a .args .v) (a .args .task) (c .before .before .pair-of .ensures)
 
 pub stored-spec : {M : Type 1} → statement M
 stored-spec =

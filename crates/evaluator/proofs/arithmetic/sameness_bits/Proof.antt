@@ -20,14 +20,16 @@ returns c =
     let a = c .before .before .before .before .args in
     let x = c .before .before .before .number in
     let y = c .before .before .number2 in
-    test-of (a .a) (a .b) (x .result) (y .result) (x .ok) (y .ok) (x .ensures) (y .ensures) eqZ (c .before .equal .result) true (c .before .equal .ensures) (c .if1 .taken)
+    test-of (a .a) (a .b) (x .result) (y .result) (x .ok) (y .ok) (x .ensures) (y .ensures) eqZ (c .before .equal .result) true
+    (c .before .equal .ensures) (c .if1 .taken)
 
 returns-2 : tie.Need-returns-2
 returns-2 c =
     let a = c .before .before .before .before .args in
     let x = c .before .before .before .number in
     let y = c .before .before .number2 in
-    test-of (a .a) (a .b) (x .result) (y .result) (x .ok) (y .ok) (x .ensures) (y .ensures) eqZ (c .before .equal .result) false (c .before .equal .ensures) (c .if1 .left)
+    test-of (a .a) (a .b) (x .result) (y .result) (x .ok) (y .ok) (x .ensures) (y .ensures) eqZ (c .before .equal .result) false
+    (c .before .equal .ensures) (c .if1 .left)
 
 pub sameness-bits-spec : {M : Type 1} → statement M
 sameness-bits-spec =

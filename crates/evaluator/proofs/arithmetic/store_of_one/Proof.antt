@@ -26,9 +26,11 @@ returns-2 c =
     let nums = a .args .nums .now in
     let kinds = a .args .kinds .now in
     let put = c .before .before .before .before .put .ensures in
-    λ b.
-    (still-sized nums kinds (a .args .r) _ 0 (a .pre .0) (put .0) (put .1),
-    λ op e. sets-computed nums kinds (a .args .r) (a .args .s) (a .args .u) b (a .pre .0) (a .pre .2) (c .before .before .before .before .before .before .before .if1 .left) (put .0) (put .1) op e)
+    λ b. (
+      still-sized nums kinds (a .args .r) _ 0 (a .pre .0) (put .0) (put .1),
+      λ op e. sets-computed nums kinds (a .args .r) (a .args .s) (a .args .u) b (a .pre .0) (a .pre .2)
+          (c .before .before .before .before .before .before .before .if1 .left) (put .0) (put .1) op e,
+    )
 
 pub store-of-one-spec : {M : Type 1} → statement M
 store-of-one-spec =

@@ -24,7 +24,8 @@ returns c =
     let x = c .before .before .before .number in
     let y = c .before .before .number2 in
     let z = c .before .wrapping-add in
-    bits-of (a .a) (a .b) (x .result) (y .result) (x .ok) (y .ok) (x .ensures) (y .ensures) (λ m n. wrapped (m +ℤ n)) (c .bits .result) (z .result) (z .ok) (z .ensures)
+    bits-of (a .a) (a .b) (x .result) (y .result) (x .ok) (y .ok) (x .ensures) (y .ensures) (λ m n. wrapped (m +ℤ n)) (c .bits .result) (z .result)
+    (z .ok) (z .ensures)
     (c .bits .ensures)
 
 pub sum-bits-spec : {M : Type 1} → statement M

@@ -50,7 +50,8 @@ returns-3 : tie.Need-returns-3
 returns-3 c =
     let a = c .before .before .before .before .before .before .before .before in
     let k = c .before .before .before .before .jumps-to-label .ensures (not-false _ (c .before .before .before .if1 .left)) in
-    armed-plain (a .args .cells .now) (a .args .x) (a .pre .1) (a .pre .2) k (λ q. c .before .if2 .left (c .before .before .annotation-of .ensures ∙ q)) (c .first-of .ensures)
+    armed-plain (a .args .cells .now) (a .args .x) (a .pre .1) (a .pre .2) k
+    (λ q. c .before .if2 .left (c .before .before .annotation-of .ensures ∙ q)) (c .first-of .ensures)
 
 pub arm-of-spec : {M : Type 1} → statement M
 arm-of-spec =

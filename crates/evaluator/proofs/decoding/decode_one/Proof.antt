@@ -19,8 +19,8 @@ arm-of-requires c κs =
     let cells = a .args .cells .now in
     let i = accepted cells (a .pre .0) .instruction (a .args .i) (a .pre .1) in
     let z =
-        subst (λ (y : Instruction). (y .opcode ≤ 15) × (y .kind ≤ 3) × (y .kind ≡ 2 → y .operand < blockCount cells)) (sym (c .instruction-of .ensures))
-        (i .opcode-most, i .kind-known, i .label-below) in
+    subst (λ (y : Instruction). (y .opcode ≤ 15) × (y .kind ≤ 3) × (y .kind ≡ 2 → y .operand < blockCount cells)) (sym (c .instruction-of .ensures))
+    (i .opcode-most, i .kind-known, i .label-below) in
     (a .pre .0, z .0, z .1, z .2)
 
 mul-at : tie.Need-mul-at
@@ -43,7 +43,8 @@ slice-write-code-2 c =
     let a = c .before .before .before .before in
     let x = c .before .instruction-of in
     let r = c .arm-of in
-    let l = long1 (a .args .cells .now) (a .args .code .now) (a .args .i) (r .result .number) (r .result .operand) (x .result) (x .ensures) (r .ensures) (a .pre .2) in
+    let l = long1 (a .args .cells .now) (a .args .code .now) (a .args .i) (r .result .number) (r .result .operand) (x .result) (x .ensures)
+    (r .ensures) (a .pre .2) in
     omega (arith, a .pre .2, l)
 
 add-code-2 : tie.Need-add-code-2
@@ -57,7 +58,8 @@ slice-write-code-3 c =
     let a = c .before .before .before .before in
     let x = c .before .instruction-of in
     let r = c .arm-of in
-    let l = long2 (a .args .cells .now) (a .args .code .now) (a .args .i) (r .result .number) (r .result .operand) (x .result) (x .ensures) (r .ensures) (a .pre .2) in
+    let l = long2 (a .args .cells .now) (a .args .code .now) (a .args .i) (r .result .number) (r .result .operand) (x .result) (x .ensures)
+    (r .ensures) (a .pre .2) in
     omega (arith, a .pre .2, l)
 
 add-code-3 : tie.Need-add-code-3
@@ -71,7 +73,8 @@ slice-write-code-4 c =
     let a = c .before .before .before .before in
     let x = c .before .instruction-of in
     let r = c .arm-of in
-    let l = long3 (a .args .cells .now) (a .args .code .now) (a .args .i) (r .result .number) (r .result .operand) (x .result) (x .ensures) (r .ensures) (a .pre .2) in
+    let l = long3 (a .args .cells .now) (a .args .code .now) (a .args .i) (r .result .number) (r .result .operand) (x .result) (x .ensures)
+    (r .ensures) (a .pre .2) in
     omega (arith, a .pre .2, l)
 
 same-length : tie.Need-same-length
@@ -82,7 +85,8 @@ returns c =
     let a = c .before .before .before .before in
     let x = c .before .instruction-of in
     let r = c .arm-of in
-    decodes-one (a .args .cells .now) (a .args .code .now) (a .args .i) (r .result .number) (r .result .operand) (x .result) (x .ensures) (r .ensures) (a .pre .2)
+    decodes-one (a .args .cells .now) (a .args .code .now) (a .args .i) (r .result .number) (r .result .operand) (x .result) (x .ensures)
+    (r .ensures) (a .pre .2)
 
 pub decode-one-spec : {M : Type 1} → statement M
 decode-one-spec =

@@ -8,7 +8,8 @@ use borrow.Author.Needs.{needs}
 use borrow.Author.Tests.{not-true, not-false}
 use Rattle.task.specs.Frames.{running, workLimit}
 use Rattle.evaluator.specs.Sides.{frameOf}
-use Rattle.evaluator.proofs.LoopLaws.{state-start, can-pass, passes, state-alone, fork-room, state-forks, at-inside, other-depth, state-turns, can-join, joined-depth, state-joins, depth-is, Loops, loops-on, loops-spent, loops-done, loops-end}
+use Rattle.evaluator.proofs.LoopLaws.{state-start, can-pass, passes, state-alone, fork-room, state-forks, at-inside, other-depth}
+use Rattle.evaluator.proofs.LoopLaws.{state-turns, can-join, joined-depth, state-joins, depth-is, Loops, loops-on, loops-spent, loops-done, loops-end}
 use Rattle.evaluator.proofs.Measure.{weighed, less-over, less-pass, less-turn, less-join}
 use Rattle.evaluator.proofs.evaluation.evaluate.Statement.{statement}
 use Rattle.evaluator.proofs.evaluation.evaluate.Tie as tie
@@ -24,7 +25,9 @@ abbrev μ-loop : tie.MeasureT-loop
 loop-holds : tie.Need-loop-holds Inv-loop μ-loop
 loop-holds c =
     let a = c .before .before in
-    loops-on (a .args .cells .now) (a .args .code .now) (a .args .words .now) (a .args .interval) (a .args .budget) (a .args .first) refl refl (state-start (a .args .cells .now) (a .args .code .now) (a .args .words .now) (a .args .interval) (a .args .budget) (a .args .first) _ refl (a .pre))
+    loops-on (a .args .cells .now) (a .args .code .now) (a .args .words .now) (a .args .interval) (a .args .budget) (a .args .first) refl refl
+    (state-start (a .args .cells .now) (a .args .code .now) (a .args .words .now) (a .args .interval) (a .args .budget) (a .args .first) _ refl
+    (a .pre))
 
 is-running-requires : tie.Need-is-running-requires Inv-loop μ-loop
 is-running-requires c κs = search needs
@@ -36,7 +39,8 @@ pass-requires c κs =
     let st = l .inv .state in
     let go = not-true (l .over) (c .before .before .before .loop-test .taken) in
     let r = sym (c .before .is-running .ensures) ∙ c .if1 .taken in
-    can-pass (a .args .cells .now) (a .args .code .now) (a .args .words .now) (a .args .interval) (a .args .budget) (a .args .first) (l .own) (l .left) (l .kept) st r
+    can-pass (a .args .cells .now) (a .args .code .now) (a .args .words .now) (a .args .interval) (a .args .budget) (a .args .first) (l .own)
+    (l .left) (l .kept) st r
 
 loop-less : tie.Need-loop-less Inv-loop μ-loop
 loop-less c =
@@ -54,8 +58,11 @@ loop-again c =
     let go = not-true (l .over) (c .before .before .before .before .before .before .before .loop-test .taken) in
     let r = sym (c .before .before .before .before .before .is-running .ensures) ∙ c .before .before .before .before .if1 .taken in
     let n = c .before .before .before .pass in
-    let w = passes (a .args .cells .now) (a .args .code .now) (a .args .words .now) (a .args .interval) (a .args .budget) (a .args .first) (l .own) (l .left) (l .kept) st r (n .result) (n .ensures) .when-spent (c .if2 .taken) in
-    loops-spent (a .args .cells .now) (a .args .code .now) (a .args .words .now) (a .args .interval) (a .args .budget) (a .args .first) (l .inv .going go) (state-alone (a .args .cells .now) (a .args .code .now) (a .args .words .now) (a .args .interval) (a .args .budget) (a .args .first) (l .own) (l .left) (l .kept) st r (n .result) (n .ensures) (w .1)) (w .2) (w .0)
+    let w = passes (a .args .cells .now) (a .args .code .now) (a .args .words .now) (a .args .interval) (a .args .budget) (a .args .first) (l .own)
+    (l .left) (l .kept) st r (n .result) (n .ensures) .when-spent (c .if2 .taken) in
+    loops-spent (a .args .cells .now) (a .args .code .now) (a .args .words .now) (a .args .interval) (a .args .budget) (a .args .first)
+    (l .inv .going go) (state-alone (a .args .cells .now) (a .args .code .now) (a .args .words .now) (a .args .interval) (a .args .budget)
+    (a .args .first) (l .own) (l .left) (l .kept) st r (n .result) (n .ensures) (w .1)) (w .2) (w .0)
 
 cast-at : tie.Need-cast-at Inv-loop μ-loop
 cast-at c = search needs
@@ -66,9 +73,14 @@ mul-kept c =
     let l = c .before .before .before .before .before .before .before .before .before .before .loop in
     let st = l .inv .state in
     let go = not-true (l .over) (c .before .before .before .before .before .before .before .before .before .loop-test .taken) in
-    let r = sym (c .before .before .before .before .before .before .before .is-running .ensures) ∙ c .before .before .before .before .before .before .if1 .taken in
+    let r = sym (c .before .before .before .before .before .before .before .is-running .ensures) ∙
+    c .before .before .before .before .before .before .if1 .taken in
     let n = c .before .before .before .before .before .pass in
-    omega (arith, fork-room (a .args .cells .now) (a .args .code .now) (a .args .words .now) (a .args .interval) (a .args .budget) (a .args .first) (l .own) (l .left) (l .kept) st r (n .result) (n .ensures) (c .before .if3 .taken))
+    omega (
+      arith,
+      fork-room (a .args .cells .now) (a .args .code .now) (a .args .words .now) (a .args .interval) (a .args .budget) (a .args .first)
+          (l .own) (l .left) (l .kept) st r (n .result) (n .ensures) (c .before .if3 .taken),
+    )
 
 array-set-from-kept : tie.Need-array-set-from-kept Inv-loop μ-loop
 array-set-from-kept c =
@@ -76,9 +88,14 @@ array-set-from-kept c =
     let l = c .before .before .before .before .before .before .before .before .before .before .loop in
     let st = l .inv .state in
     let go = not-true (l .over) (c .before .before .before .before .before .before .before .before .before .loop-test .taken) in
-    let r = sym (c .before .before .before .before .before .before .before .is-running .ensures) ∙ c .before .before .before .before .before .before .if1 .taken in
+    let r = sym (c .before .before .before .before .before .before .before .is-running .ensures) ∙
+    c .before .before .before .before .before .before .if1 .taken in
     let n = c .before .before .before .before .before .pass in
-    omega (arith, fork-room (a .args .cells .now) (a .args .code .now) (a .args .words .now) (a .args .interval) (a .args .budget) (a .args .first) (l .own) (l .left) (l .kept) st r (n .result) (n .ensures) (c .before .if3 .taken))
+    omega (
+      arith,
+      fork-room (a .args .cells .now) (a .args .code .now) (a .args .words .now) (a .args .interval) (a .args .budget) (a .args .first)
+          (l .own) (l .left) (l .kept) st r (n .result) (n .ensures) (c .before .if3 .taken),
+    )
 
 loop-less-2 : tie.Need-loop-less-2 Inv-loop μ-loop
 loop-less-2 c =
@@ -86,11 +103,20 @@ loop-less-2 c =
     let l = c .before .before .before .before .before .before .before .before .before .before .loop in
     let st = l .inv .state in
     let go = not-true (l .over) (c .before .before .before .before .before .before .before .before .before .loop-test .taken) in
-    let r = sym (c .before .before .before .before .before .before .before .is-running .ensures) ∙ c .before .before .before .before .before .before .if1 .taken in
+    let r = sym (c .before .before .before .before .before .before .before .is-running .ensures) ∙
+    c .before .before .before .before .before .before .if1 .taken in
     let n = c .before .before .before .before .before .pass in
-    let w = passes (a .args .cells .now) (a .args .code .now) (a .args .words .now) (a .args .interval) (a .args .budget) (a .args .first) (l .own) (l .left) (l .kept) st r (n .result) (n .ensures) in
-    let next = state-forks (a .args .cells .now) (a .args .code .now) (a .args .words .now) (a .args .interval) (a .args .budget) (a .args .first) (l .own) (l .left) (l .kept) st r (n .result) (n .ensures) (c .before .if3 .taken) in
-    less-pass (l .over) _ _ (l .left) _ _ _ go (w .when-not (c .before .before .if2 .left)) (omega (arith, depth-is (a .args .cells .now) (a .args .code .now) (a .args .words .now) (a .args .interval) (a .args .budget) (a .args .first) _ _ _ next, next .base .room))
+    let w = passes (a .args .cells .now) (a .args .code .now) (a .args .words .now) (a .args .interval) (a .args .budget) (a .args .first) (l .own)
+    (l .left) (l .kept) st r (n .result) (n .ensures) in
+    let next = state-forks (a .args .cells .now) (a .args .code .now) (a .args .words .now) (a .args .interval) (a .args .budget) (a .args .first)
+    (l .own) (l .left) (l .kept) st r (n .result) (n .ensures) (c .before .if3 .taken) in
+    less-pass (l .over) _ _ (l .left) _ _ _ go (w .when-not (c .before .before .if2 .left))
+    (omega (
+      arith,
+      depth-is (a .args .cells .now) (a .args .code .now) (a .args .words .now) (a .args .interval) (a .args .budget) (a .args .first) _
+          _ _ next,
+      next .base .room,
+    ))
 
 loop-again-2 : tie.Need-loop-again-2 Inv-loop μ-loop
 loop-again-2 c =
@@ -98,10 +124,13 @@ loop-again-2 c =
     let l = c .before .before .before .before .before .before .before .before .before .before .loop in
     let st = l .inv .state in
     let go = not-true (l .over) (c .before .before .before .before .before .before .before .before .before .loop-test .taken) in
-    let r = sym (c .before .before .before .before .before .before .before .is-running .ensures) ∙ c .before .before .before .before .before .before .if1 .taken in
+    let r = sym (c .before .before .before .before .before .before .before .is-running .ensures) ∙
+    c .before .before .before .before .before .before .if1 .taken in
     let n = c .before .before .before .before .before .pass in
-    let w = passes (a .args .cells .now) (a .args .code .now) (a .args .words .now) (a .args .interval) (a .args .budget) (a .args .first) (l .own) (l .left) (l .kept) st r (n .result) (n .ensures) in
-    let next = state-forks (a .args .cells .now) (a .args .code .now) (a .args .words .now) (a .args .interval) (a .args .budget) (a .args .first) (l .own) (l .left) (l .kept) st r (n .result) (n .ensures) (c .before .if3 .taken) in
+    let w = passes (a .args .cells .now) (a .args .code .now) (a .args .words .now) (a .args .interval) (a .args .budget) (a .args .first) (l .own)
+    (l .left) (l .kept) st r (n .result) (n .ensures) in
+    let next = state-forks (a .args .cells .now) (a .args .code .now) (a .args .words .now) (a .args .interval) (a .args .budget) (a .args .first)
+    (l .own) (l .left) (l .kept) st r (n .result) (n .ensures) (c .before .if3 .taken) in
     loops-on (a .args .cells .now) (a .args .code .now) (a .args .words .now) (a .args .interval) (a .args .budget) (a .args .first) go (l .inv .going go) next
 
 loop-less-3 : tie.Need-loop-less-3 Inv-loop μ-loop
@@ -112,9 +141,17 @@ loop-less-3 c =
     let go = not-true (l .over) (c .before .before .before .before .before .before .before .before .loop-test .taken) in
     let r = sym (c .before .before .before .before .before .before .is-running .ensures) ∙ c .before .before .before .before .before .if1 .taken in
     let n = c .before .before .before .before .pass in
-    let w = passes (a .args .cells .now) (a .args .code .now) (a .args .words .now) (a .args .interval) (a .args .budget) (a .args .first) (l .own) (l .left) (l .kept) st r (n .result) (n .ensures) in
-    let next = state-alone (a .args .cells .now) (a .args .code .now) (a .args .words .now) (a .args .interval) (a .args .budget) (a .args .first) (l .own) (l .left) (l .kept) st r (n .result) (n .ensures) (c .if3 .left) in
-    less-pass (l .over) _ _ (l .left) _ _ _ go (w .when-not (c .before .if2 .left)) (omega (arith, depth-is (a .args .cells .now) (a .args .code .now) (a .args .words .now) (a .args .interval) (a .args .budget) (a .args .first) _ _ _ next, next .base .room))
+    let w = passes (a .args .cells .now) (a .args .code .now) (a .args .words .now) (a .args .interval) (a .args .budget) (a .args .first) (l .own)
+    (l .left) (l .kept) st r (n .result) (n .ensures) in
+    let next = state-alone (a .args .cells .now) (a .args .code .now) (a .args .words .now) (a .args .interval) (a .args .budget) (a .args .first)
+    (l .own) (l .left) (l .kept) st r (n .result) (n .ensures) (c .if3 .left) in
+    less-pass (l .over) _ _ (l .left) _ _ _ go (w .when-not (c .before .if2 .left))
+    (omega (
+      arith,
+      depth-is (a .args .cells .now) (a .args .code .now) (a .args .words .now) (a .args .interval) (a .args .budget) (a .args .first) _
+          _ _ next,
+      next .base .room,
+    ))
 
 loop-again-3 : tie.Need-loop-again-3 Inv-loop μ-loop
 loop-again-3 c =
@@ -124,8 +161,10 @@ loop-again-3 c =
     let go = not-true (l .over) (c .before .before .before .before .before .before .before .before .loop-test .taken) in
     let r = sym (c .before .before .before .before .before .before .is-running .ensures) ∙ c .before .before .before .before .before .if1 .taken in
     let n = c .before .before .before .before .pass in
-    let w = passes (a .args .cells .now) (a .args .code .now) (a .args .words .now) (a .args .interval) (a .args .budget) (a .args .first) (l .own) (l .left) (l .kept) st r (n .result) (n .ensures) in
-    let next = state-alone (a .args .cells .now) (a .args .code .now) (a .args .words .now) (a .args .interval) (a .args .budget) (a .args .first) (l .own) (l .left) (l .kept) st r (n .result) (n .ensures) (c .if3 .left) in
+    let w = passes (a .args .cells .now) (a .args .code .now) (a .args .words .now) (a .args .interval) (a .args .budget) (a .args .first) (l .own)
+    (l .left) (l .kept) st r (n .result) (n .ensures) in
+    let next = state-alone (a .args .cells .now) (a .args .code .now) (a .args .words .now) (a .args .interval) (a .args .budget) (a .args .first)
+    (l .own) (l .left) (l .kept) st r (n .result) (n .ensures) (c .if3 .left) in
     loops-on (a .args .cells .now) (a .args .code .now) (a .args .words .now) (a .args .interval) (a .args .budget) (a .args .first) go (l .inv .going go) next
 
 loop-less-4 : tie.Need-loop-less-4 Inv-loop μ-loop
@@ -160,7 +199,11 @@ mul-other c =
     let r = sym (c .before .before .before .before .is-running .ensures) ∙ c .before .before .before .if1 .left in
     let d = l .own .task .depth - 1 in
     let deep : l .own .task .depth ≡ suc d = omega (arith, c .before .if4 .left) in
-    omega (arith, at-inside (a .args .cells .now) (a .args .code .now) (a .args .words .now) (a .args .interval) (a .args .budget) (a .args .first) (l .own) (l .left) (l .kept) st r d deep)
+    omega (
+      arith,
+      at-inside (a .args .cells .now) (a .args .code .now) (a .args .words .now) (a .args .interval) (a .args .budget) (a .args .first)
+          (l .own) (l .left) (l .kept) st r d deep,
+    )
 
 array-copy-out-other : tie.Need-array-copy-out-other Inv-loop μ-loop
 array-copy-out-other c =
@@ -171,7 +214,11 @@ array-copy-out-other c =
     let r = sym (c .before .before .before .before .is-running .ensures) ∙ c .before .before .before .if1 .left in
     let d = l .own .task .depth - 1 in
     let deep : l .own .task .depth ≡ suc d = omega (arith, c .before .if4 .left) in
-    omega (arith, at-inside (a .args .cells .now) (a .args .code .now) (a .args .words .now) (a .args .interval) (a .args .budget) (a .args .first) (l .own) (l .left) (l .kept) st r d deep)
+    omega (
+      arith,
+      at-inside (a .args .cells .now) (a .args .code .now) (a .args .words .now) (a .args .interval) (a .args .budget) (a .args .first)
+          (l .own) (l .left) (l .kept) st r d deep,
+    )
 
 is-running-requires-2 : tie.Need-is-running-requires-2 Inv-loop μ-loop
 is-running-requires-2 c κs = search needs
@@ -182,10 +229,15 @@ mul-kept-2 c =
     let l = c .before .before .before .before .before .before .before .before .before .before .before .loop in
     let st = l .inv .state in
     let go = not-true (l .over) (c .before .before .before .before .before .before .before .before .before .before .loop-test .taken) in
-    let r = sym (c .before .before .before .before .before .before .before .before .is-running .ensures) ∙ c .before .before .before .before .before .before .before .if1 .left in
+    let r = sym (c .before .before .before .before .before .before .before .before .is-running .ensures) ∙
+    c .before .before .before .before .before .before .before .if1 .left in
     let d = l .own .task .depth - 1 in
     let deep : l .own .task .depth ≡ suc d = omega (arith, c .before .before .before .before .before .if4 .left) in
-    omega (arith, at-inside (a .args .cells .now) (a .args .code .now) (a .args .words .now) (a .args .interval) (a .args .budget) (a .args .first) (l .own) (l .left) (l .kept) st r d deep)
+    omega (
+      arith,
+      at-inside (a .args .cells .now) (a .args .code .now) (a .args .words .now) (a .args .interval) (a .args .budget) (a .args .first)
+          (l .own) (l .left) (l .kept) st r d deep,
+    )
 
 array-set-from-kept-2 : tie.Need-array-set-from-kept-2 Inv-loop μ-loop
 array-set-from-kept-2 c =
@@ -193,10 +245,15 @@ array-set-from-kept-2 c =
     let l = c .before .before .before .before .before .before .before .before .before .before .before .loop in
     let st = l .inv .state in
     let go = not-true (l .over) (c .before .before .before .before .before .before .before .before .before .before .loop-test .taken) in
-    let r = sym (c .before .before .before .before .before .before .before .before .is-running .ensures) ∙ c .before .before .before .before .before .before .before .if1 .left in
+    let r = sym (c .before .before .before .before .before .before .before .before .is-running .ensures) ∙
+    c .before .before .before .before .before .before .before .if1 .left in
     let d = l .own .task .depth - 1 in
     let deep : l .own .task .depth ≡ suc d = omega (arith, c .before .before .before .before .before .if4 .left) in
-    omega (arith, at-inside (a .args .cells .now) (a .args .code .now) (a .args .words .now) (a .args .interval) (a .args .budget) (a .args .first) (l .own) (l .left) (l .kept) st r d deep)
+    omega (
+      arith,
+      at-inside (a .args .cells .now) (a .args .code .now) (a .args .words .now) (a .args .interval) (a .args .budget) (a .args .first)
+          (l .own) (l .left) (l .kept) st r d deep,
+    )
 
 loop-less-5 : tie.Need-loop-less-5 Inv-loop μ-loop
 loop-less-5 c =
@@ -204,11 +261,18 @@ loop-less-5 c =
     let l = c .before .before .before .before .before .before .before .before .before .before .before .loop in
     let st = l .inv .state in
     let go = not-true (l .over) (c .before .before .before .before .before .before .before .before .before .before .loop-test .taken) in
-    let r = sym (c .before .before .before .before .before .before .before .before .is-running .ensures) ∙ c .before .before .before .before .before .before .before .if1 .left in
+    let r = sym (c .before .before .before .before .before .before .before .before .is-running .ensures) ∙
+    c .before .before .before .before .before .before .before .if1 .left in
     let d = l .own .task .depth - 1 in
     let deep : l .own .task .depth ≡ suc d = omega (arith, c .before .before .before .before .before .if4 .left) in
     let o = sym (c .before .is-running2 .ensures) ∙ c .if5 .taken in
-    less-turn (l .over) _ _ (l .left) _ _ go r o (omega (arith, other-depth (a .args .cells .now) (a .args .code .now) (a .args .words .now) (a .args .interval) (a .args .budget) (a .args .first) (l .own) (l .left) (l .kept) st r d deep, deep))
+    less-turn (l .over) _ _ (l .left) _ _ go r o
+    (omega (
+      arith,
+      other-depth (a .args .cells .now) (a .args .code .now) (a .args .words .now) (a .args .interval) (a .args .budget)
+          (a .args .first) (l .own) (l .left) (l .kept) st r d deep,
+      deep,
+    ))
 
 loop-again-5 : tie.Need-loop-again-5 Inv-loop μ-loop
 loop-again-5 c =
@@ -216,11 +280,14 @@ loop-again-5 c =
     let l = c .before .before .before .before .before .before .before .before .before .before .before .loop in
     let st = l .inv .state in
     let go = not-true (l .over) (c .before .before .before .before .before .before .before .before .before .before .loop-test .taken) in
-    let r = sym (c .before .before .before .before .before .before .before .before .is-running .ensures) ∙ c .before .before .before .before .before .before .before .if1 .left in
+    let r = sym (c .before .before .before .before .before .before .before .before .is-running .ensures) ∙
+    c .before .before .before .before .before .before .before .if1 .left in
     let d = l .own .task .depth - 1 in
     let deep : l .own .task .depth ≡ suc d = omega (arith, c .before .before .before .before .before .if4 .left) in
     let o = sym (c .before .is-running2 .ensures) ∙ c .if5 .taken in
-    loops-on (a .args .cells .now) (a .args .code .now) (a .args .words .now) (a .args .interval) (a .args .budget) (a .args .first) go (l .inv .going go) (state-turns (a .args .cells .now) (a .args .code .now) (a .args .words .now) (a .args .interval) (a .args .budget) (a .args .first) (l .own) (l .left) (l .kept) st r d deep o)
+    loops-on (a .args .cells .now) (a .args .code .now) (a .args .words .now) (a .args .interval) (a .args .budget) (a .args .first) go
+    (l .inv .going go) (state-turns (a .args .cells .now) (a .args .code .now) (a .args .words .now) (a .args .interval) (a .args .budget)
+    (a .args .first) (l .own) (l .left) (l .kept) st r d deep o)
 
 join-sides-requires : tie.Need-join-sides-requires Inv-loop μ-loop
 join-sides-requires c κs =
@@ -228,10 +295,12 @@ join-sides-requires c κs =
     let l = c .before .before .before .before .before .before .before .before .before .before .before .loop in
     let st = l .inv .state in
     let go = not-true (l .over) (c .before .before .before .before .before .before .before .before .before .before .loop-test .taken) in
-    let r = sym (c .before .before .before .before .before .before .before .before .is-running .ensures) ∙ c .before .before .before .before .before .before .before .if1 .left in
+    let r = sym (c .before .before .before .before .before .before .before .before .is-running .ensures) ∙
+    c .before .before .before .before .before .before .before .if1 .left in
     let d = l .own .task .depth - 1 in
     let deep : l .own .task .depth ≡ suc d = omega (arith, c .before .before .before .before .before .if4 .left) in
-    can-join (a .args .cells .now) (a .args .code .now) (a .args .words .now) (a .args .interval) (a .args .budget) (a .args .first) (l .own) (l .left) (l .kept) st r d deep
+    can-join (a .args .cells .now) (a .args .code .now) (a .args .words .now) (a .args .interval) (a .args .budget) (a .args .first) (l .own)
+    (l .left) (l .kept) st r d deep
 
 loop-less-6 : tie.Need-loop-less-6 Inv-loop μ-loop
 loop-less-6 c =
@@ -239,11 +308,18 @@ loop-less-6 c =
     let l = c .before .before .before .before .before .before .before .before .before .before .before .before .loop in
     let st = l .inv .state in
     let go = not-true (l .over) (c .before .before .before .before .before .before .before .before .before .before .before .loop-test .taken) in
-    let r = sym (c .before .before .before .before .before .before .before .before .before .is-running .ensures) ∙ c .before .before .before .before .before .before .before .before .if1 .left in
+    let r = sym (c .before .before .before .before .before .before .before .before .before .is-running .ensures) ∙
+    c .before .before .before .before .before .before .before .before .if1 .left in
     let d = l .own .task .depth - 1 in
     let deep : l .own .task .depth ≡ suc d = omega (arith, c .before .before .before .before .before .before .if4 .left) in
     let o = sym (c .before .before .is-running2 .ensures) ∙ c .before .if5 .left in
-    less-join (l .over) _ _ (l .left) _ _ go r (omega (arith, joined-depth (a .args .cells .now) (a .args .code .now) (a .args .words .now) (a .args .interval) (a .args .budget) (a .args .first) (l .own) (l .left) (l .kept) st r d deep (c .join-sides .result) (c .join-sides .ensures), deep))
+    less-join (l .over) _ _ (l .left) _ _ go r
+    (omega (
+      arith,
+      joined-depth (a .args .cells .now) (a .args .code .now) (a .args .words .now) (a .args .interval) (a .args .budget)
+          (a .args .first) (l .own) (l .left) (l .kept) st r d deep (c .join-sides .result) (c .join-sides .ensures),
+      deep,
+    ))
 
 loop-again-6 : tie.Need-loop-again-6 Inv-loop μ-loop
 loop-again-6 c =
@@ -251,19 +327,26 @@ loop-again-6 c =
     let l = c .before .before .before .before .before .before .before .before .before .before .before .before .loop in
     let st = l .inv .state in
     let go = not-true (l .over) (c .before .before .before .before .before .before .before .before .before .before .before .loop-test .taken) in
-    let r = sym (c .before .before .before .before .before .before .before .before .before .is-running .ensures) ∙ c .before .before .before .before .before .before .before .before .if1 .left in
+    let r = sym (c .before .before .before .before .before .before .before .before .before .is-running .ensures) ∙
+    c .before .before .before .before .before .before .before .before .if1 .left in
     let d = l .own .task .depth - 1 in
     let deep : l .own .task .depth ≡ suc d = omega (arith, c .before .before .before .before .before .before .if4 .left) in
     let o = sym (c .before .before .is-running2 .ensures) ∙ c .before .if5 .left in
-    loops-on (a .args .cells .now) (a .args .code .now) (a .args .words .now) (a .args .interval) (a .args .budget) (a .args .first) go (l .inv .going go) (state-joins (a .args .cells .now) (a .args .code .now) (a .args .words .now) (a .args .interval) (a .args .budget) (a .args .first) (l .own) (l .left) (l .kept) st r d deep o (c .join-sides .result) (c .join-sides .ensures))
+    loops-on (a .args .cells .now) (a .args .code .now) (a .args .words .now) (a .args .interval) (a .args .budget) (a .args .first) go
+    (l .inv .going go) (state-joins (a .args .cells .now) (a .args .code .now) (a .args .words .now) (a .args .interval) (a .args .budget)
+    (a .args .first) (l .own) (l .left) (l .kept) st r d deep o (c .join-sides .result) (c .join-sides .ensures))
 
 returns : tie.Need-returns Inv-loop μ-loop
 returns c =
     let a = c .before .before .before .before in
     let l = c .before .loop in
-    let over = not-false (l .over) (c .loop-test .left) in
-    (sym (loops-end (a .args .cells .now) (a .args .code .now) (a .args .words .now) (a .args .interval) (a .args .budget) (a .args .first) (l .own) (l .left) (l .kept) (l .over) (l .done) (not-false (l .over) (c .loop-test .left)) (l .inv))
-    ∙ serial-is-plain (rules (a .args .cells .now) (a .args .words .now) (a .args .interval)) (a .args .budget) workLimit (a .pre .base .limited) (frameOf (a .args .first)), λ q. l .inv .at-spent over q .1)
+    let over = not-false (l .over) (c .loop-test .left) in (
+      sym (loops-end (a .args .cells .now) (a .args .code .now) (a .args .words .now) (a .args .interval) (a .args .budget) (a .args .first) (l .own)
+          (l .left) (l .kept) (l .over) (l .done) (not-false (l .over) (c .loop-test .left)) (l .inv))
+          ∙ serial-is-plain (rules (a .args .cells .now) (a .args .words .now) (a .args .interval)) (a .args .budget) workLimit (a .pre .base .limited)
+          (frameOf (a .args .first)),
+      λ q. l .inv .at-spent over q .1,
+    )
 
 pub evaluate-spec : {M : Type 1} → statement M
 evaluate-spec =

@@ -12,7 +12,8 @@ use Rattle.evaluator.proofs.joins.merge.Tie as tie
 
 abbrev Inv-loop : tie.InvT-loop
 Inv-loop nums₀ kinds₀ theirs marks count bytes pairs₀ packed₀ nums kinds pairs packed =
-    Sized nums kinds × (copied (registersOf theirs marks) count bytes (registersOf nums₀ kinds₀) ≡ copied (registersOf theirs marks) pairs packed (registersOf nums kinds))
+    Sized nums kinds × (copied (registersOf theirs marks) count bytes (registersOf nums₀ kinds₀) ≡ copied (registersOf theirs marks) pairs packed
+    (registersOf nums kinds))
 
 abbrev μ-loop : tie.MeasureT-loop
 μ-loop nums₀ kinds₀ theirs marks count bytes pairs₀ packed₀ nums kinds pairs packed = pairs
@@ -42,9 +43,11 @@ loop-again : tie.Need-loop-again Inv-loop μ-loop
 loop-again c =
     let a = c .before .before .before .before .before .before .before .before .before .before .before .before .before .before .before in
     let l = c .before .before .before .before .before .before .before .before .before .before .loop in
-    let put = c .before .before .before .before .put in
-    (still-sized (l .nums) (l .kinds) (l .packed % 16) _ _ (l .inv .0) (put .ensures .0) (put .ensures .1),
-    merges-one (l .nums) (l .kinds) (a .args .theirs .now) (a .args .marks .now) (l .pairs) (l .packed) _ (a .pre .1) (c .before .before .before .before .before .before .before .before .before .loop-test .taken) (l .inv .1) (put .ensures .0) (put .ensures .1))
+    let put = c .before .before .before .before .put in (
+      still-sized (l .nums) (l .kinds) (l .packed % 16) _ _ (l .inv .0) (put .ensures .0) (put .ensures .1),
+      merges-one (l .nums) (l .kinds) (a .args .theirs .now) (a .args .marks .now) (l .pairs) (l .packed) _ (a .pre .1)
+          (c .before .before .before .before .before .before .before .before .before .loop-test .taken) (l .inv .1) (put .ensures .0) (put .ensures .1),
+    )
 
 same-length : tie.Need-same-length Inv-loop μ-loop
 same-length c = omega (arith, c .before .loop .inv .0 .0, c .before .before .before .before .before .before .pre .0 .0)

@@ -28,7 +28,8 @@ returns-2 : tie.Need-returns-2
 returns-2 c =
     let a = c .before .before .before .before .before .before .before .before in
     λ depth w o.
-    rw (branch-taken (a .args .nums .now) (a .args .kinds .now) (a .args .s) (a .pre .3) (a .pre .4) (c .before .before .before .if1 .left) (a .args .cells .now) w (a .args .interval) (a .args .v) _ o
+    rw (branch-taken (a .args .nums .now) (a .args .kinds .now) (a .args .s) (a .pre .3) (a .pre .4) (c .before .before .before .if1 .left)
+    (a .args .cells .now) w (a .args .interval) (a .args .v) _ o
     (c .before .if2 .taken)) (c .enter .ensures (a .args .pc / 4) depth)
 
 add-t14 : tie.Need-add-t14
@@ -42,7 +43,8 @@ returns-3 c =
     let a = c .before .before .before .before .before .before .before in
     λ depth w o.
     leads-on (a .args .cells .now) (a .args .pc) (a .args .beat) (a .args .left) (a .pre .5) (a .pre .6) (a .pre .2)
-    (falls-through (a .args .nums .now) (a .args .kinds .now) (a .args .s) (a .pre .3) (a .pre .4) (c .before .before .if1 .left) (a .args .cells .now) w (a .args .interval) (a .args .v) _ o
+    (falls-through (a .args .nums .now) (a .args .kinds .now) (a .args .s) (a .pre .3) (a .pre .4) (c .before .before .if1 .left)
+    (a .args .cells .now) w (a .args .interval) (a .args .v) _ o
     (c .if2 .left))
 
 pub branch-label-spec : {M : Type 1} → statement M

@@ -23,7 +23,8 @@ returns-2 : tie.Need-returns-2
 returns-2 c =
     let a = c .before .before .before .before in
     λ cells interval places left b u p n l depth w o.
-    rw (branch-taken (a .args .nums .now) (a .args .kinds .now) (a .args .s) (a .pre .0) (a .pre .1) (c .before .before .if1 .left) cells w interval b _ o (c .if2 .taken))
+    rw (branch-taken (a .args .nums .now) (a .args .kinds .now) (a .args .s) (a .pre .0) (a .pre .1) (c .before .before .if1 .left) cells w interval
+    b _ o (c .if2 .taken))
     (enters-plain cells interval b places left (a .args .beat) (a .args .v) (a .args .pc / 4) depth u l)
 
 add-t10 : tie.Need-add-t10
@@ -34,7 +35,8 @@ returns-3 c =
     let a = c .before .before .before .before in
     λ cells interval places left b u p n l depth w o.
     leads-on cells (a .args .pc) (a .args .beat) left p n l
-    (falls-through (a .args .nums .now) (a .args .kinds .now) (a .args .s) (a .pre .0) (a .pre .1) (c .before .before .if1 .left) cells w interval b _ o (c .if2 .left))
+    (falls-through (a .args .nums .now) (a .args .kinds .now) (a .args .s) (a .pre .0) (a .pre .1) (c .before .before .if1 .left) cells w interval b
+    _ o (c .if2 .left))
 
 pub branch-plain-spec : {M : Type 1} → statement M
 branch-plain-spec =

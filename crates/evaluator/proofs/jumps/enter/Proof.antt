@@ -35,8 +35,10 @@ returns c =
     let a = c .before .before .before .before .before in
     let cells = a .args .cells .now in
     λ i depth.
-    enters-handler cells (a .pre .0) (a .args .interval) (a .args .b) (a .args .places) (a .args .left) (a .args .beat) (c .first-of .result) i depth (a .pre .1)
-    (a .pre .2) (sym (c .before .before .before .is-promoted .ensures) ∙ c .before .before .if1 .taken) (c .first-of .ensures ∙ ap (λ b. blockOf cells b .first) (c .before .label-of .ensures))
+    enters-handler cells (a .pre .0) (a .args .interval) (a .args .b) (a .args .places) (a .args .left) (a .args .beat) (c .first-of .result) i depth
+    (a .pre .1)
+    (a .pre .2) (sym (c .before .before .before .is-promoted .ensures) ∙ c .before .before .if1 .taken)
+    (c .first-of .ensures ∙ ap (λ b. blockOf cells b .first) (c .before .label-of .ensures))
 
 first-of-requires-2 : tie.Need-first-of-requires-2
 first-of-requires-2 c κs = let a = c .before .before .before in accepted (a .args .cells .now) (a .pre .0) .block _ (a .pre .1) .is-stored
@@ -51,7 +53,8 @@ returns-2 : tie.Need-returns-2
 returns-2 c =
     let a = c .before .before .before .before in
     λ i depth.
-    enters-block (a .args .cells .now) (a .pre .0) (a .args .interval) (a .args .b) (a .args .places) (a .args .left) (a .args .beat) (c .first-of2 .result) i depth
+    enters-block (a .args .cells .now) (a .pre .0) (a .args .interval) (a .args .b) (a .args .places) (a .args .left) (a .args .beat)
+    (c .first-of2 .result) i depth
     (a .pre .1) (a .pre .2) (sym (c .before .before .is-promoted .ensures) ∙ c .before .if1 .left) (c .first-of2 .ensures)
 
 pub enter-spec : {M : Type 1} → statement M

@@ -18,11 +18,25 @@ returns-2 c = rw (← (c .before .before .annotation-of .ensures), eq-eqb _ _ (c
 
 returns-3 : tie.Need-returns-3
 unfolding promotes
-returns-3 c = rw (← (c .before .before .before .annotation-of .ensures), eq-eqb _ _ (c .before .before .if1 .left), ne-eqb _ _ (c .before .if2 .left), lt-leb _ _ (c .if3 .taken))
+returns-3 c =
+    rw (
+      ← (c .before .before .before .annotation-of .ensures),
+      eq-eqb _ _ (c .before .before .if1 .left),
+      ne-eqb _ _ (c .before .if2 .left),
+      lt-leb _
+          _ (c .if3 .taken),
+    )
 
 returns-4 : tie.Need-returns-4
 unfolding promotes
-returns-4 c = rw (← (c .before .before .before .annotation-of .ensures), eq-eqb _ _ (c .before .before .if1 .left), ne-eqb _ _ (c .before .if2 .left), le-leb _ _ (c .if3 .left))
+returns-4 c =
+    rw (
+      ← (c .before .before .before .annotation-of .ensures),
+      eq-eqb _ _ (c .before .before .if1 .left),
+      ne-eqb _ _ (c .before .if2 .left),
+      le-leb _
+          _ (c .if3 .left),
+    )
 
 pub is-promoted-spec : {M : Type 1} → statement M
 is-promoted-spec =

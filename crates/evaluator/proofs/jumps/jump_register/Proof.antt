@@ -21,14 +21,19 @@ shared-slice-read-enter c = search needs
 
 enter-requires : tie.Need-enter-requires
 enter-requires c κs =
-    let a = c .before .before .before .before .before .before in
-    (a .pre .0, register-below (a .args .nums .now) (a .args .kinds .now) (a .args .v) (a .pre .2) (a .pre .3) (c .before .if1 .left) (a .args .cells .now) (a .pre .5), a .pre .1)
+    let a = c .before .before .before .before .before .before in (
+      a .pre .0,
+      register-below (a .args .nums .now) (a .args .kinds .now) (a .args .v) (a .pre .2) (a .pre .3) (c .before .if1 .left)
+          (a .args .cells .now) (a .pre .5),
+      a .pre .1,
+    )
 
 returns-2 : tie.Need-returns-2
 returns-2 c =
     let a = c .before .before .before .before .before .before .before in
     λ s depth w o.
-    rw (register-jumps (a .args .nums .now) (a .args .kinds .now) (a .args .v) (a .pre .2) (a .pre .3) (c .before .before .if1 .left) (a .args .cells .now) w (a .args .interval) s _ o)
+    rw (register-jumps (a .args .nums .now) (a .args .kinds .now) (a .args .v) (a .pre .2) (a .pre .3) (c .before .before .if1 .left)
+    (a .args .cells .now) w (a .args .interval) s _ o)
     (c .enter .ensures (a .args .pc / 4) depth)
 
 pub jump-register-spec : {M : Type 1} → statement M

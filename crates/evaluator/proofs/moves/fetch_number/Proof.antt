@@ -36,11 +36,15 @@ returns-2 c =
     let kinds = a .args .kinds .now in
     let put = c .before .before .before .before .put .ensures in
     let b = c .before .before .before .before .before .before .before .bits in
-    λ s.
-    (still-sized nums kinds (a .args .r) _ _ (a .pre .0) (put .0) (put .1),
-    λ p k t o.
-    sets nums kinds (a .args .r) (b .result) 0 _ refl
-    (gives-word (a .args .words .now) (a .args .v) (b .result) p k (s (registersOf nums kinds)) t o (c .before .before .before .before .before .before .before .before .before .if1 .left) (omega (arith, mul-bits (c .before .before .before .before .before .before .before .before .before))) (search needs) (b .ensures)) (put .0) (put .1))
+    λ s. (
+      still-sized nums kinds (a .args .r) _ _ (a .pre .0) (put .0) (put .1),
+      λ p k t o.
+          sets nums kinds (a .args .r) (b .result) 0 _ refl
+          (gives-word (a .args .words .now) (a .args .v) (b .result) p k (s (registersOf nums kinds)) t o
+          (c .before .before .before .before .before .before .before .before .before .if1 .left)
+          (omega (arith, mul-bits (c .before .before .before .before .before .before .before .before .before))) (search needs) (b .ensures)) (put .0)
+          (put .1),
+    )
 
 pub fetch-number-spec : {M : Type 1} → statement M
 fetch-number-spec =

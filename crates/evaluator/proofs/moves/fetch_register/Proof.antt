@@ -30,9 +30,11 @@ returns-2 : tie.Need-returns-2
 returns-2 c =
     let a = c .before .before .before .before .before .before .before .before .before .before .before .before in
     let word = c .before .before .before .before .fetch-number .ensures in
-    λ s.
-    (word s .0,
-    λ p k t o. rw (integer-at (a .args .nums .now) (a .args .kinds .now) (a .args .v) (a .pre .0) (a .pre .2) (c .before .before .before .before .before .before .before .before .if1 .left)) (word s .1 p k t o))
+    λ s. (
+      word s .0,
+      λ p k t o. rw (integer-at (a .args .nums .now) (a .args .kinds .now) (a .args .v) (a .pre .0) (a .pre .2)
+          (c .before .before .before .before .before .before .before .before .if1 .left)) (word s .1 p k t o),
+    )
 
 pub fetch-register-spec : {M : Type 1} → statement M
 fetch-register-spec =

@@ -13,7 +13,8 @@ returns : tie.Need-returns
 returns c =
     let a = c .before .before .before .before .before in
     let r = c .before .before .run-side in
-    λ D h W base good. pass-spent (a .args .cells .now) (a .args .code .now) (a .args .words .now) (a .args .interval) D h W (a .args .left) (a .args .own) (r .result) base (r .ensures D h W base good) (c .if1 .taken)
+    λ D h W base good. pass-spent (a .args .cells .now) (a .args .code .now) (a .args .words .now) (a .args .interval) D h W (a .args .left)
+    (a .args .own) (r .result) base (r .ensures D h W base good) (c .if1 .taken)
 
 advance-requires : tie.Need-advance-requires
 advance-requires c κs =
@@ -47,7 +48,8 @@ returns-2 c =
     let n = c .before .before .before .advance in
     λ D h W base good.
     let x = r .ensures D h W base good in
-    pass-on (a .args .cells .now) (a .args .code .now) (a .args .words .now) (a .args .interval) D h W (a .args .left) (a .args .own) (r .result) base x (x .when-not (c .before .before .before .before .if1 .left)) (n .result) (n .ensures .0) (n .ensures .1)
+    pass-on (a .args .cells .now) (a .args .code .now) (a .args .words .now) (a .args .interval) D h W (a .args .left) (a .args .own) (r .result)
+    base x (x .when-not (c .before .before .before .before .if1 .left)) (n .result) (n .ensures .0) (n .ensures .1)
 
 pub pass-spec : {M : Type 1} → statement M
 pass-spec = tie.close (tie.spec run-side-requires returns advance-requires sub-t13 returns-2)

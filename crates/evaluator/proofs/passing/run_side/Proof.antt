@@ -69,7 +69,9 @@ sub-span : tie.Need-sub-span
 sub-span c = search needs
 
 cast-span : tie.Need-cast-span
-cast-span c = let a = c .before .before .before .before .before .before .before .before .before .before .before .before .before .before .before in omega (arith, a .pre .base .limited)
+cast-span c =
+    let a = c .before .before .before .before .before .before .before .before .before .before .before .before .before .before .before in omega
+    (arith, a .pre .base .limited)
 
 add-span : tie.Need-add-span
 add-span c =

@@ -9,7 +9,9 @@ number-requires : tie.Need-number-requires
 number-requires c κs = search needs
 
 returns : tie.Need-returns
-returns c = value-int (c .before .before .args .kind) (c .before .before .args .num) (c .number .result) (c .before .if1 .taken) (c .number .ok) (c .number .ensures)
+returns c =
+    value-int (c .before .before .args .kind) (c .before .before .args .num) (c .number .result) (c .before .if1 .taken) (c .number .ok)
+    (c .number .ensures)
 
 cast-t5 : tie.Need-cast-t5
 cast-t5 c = omega (arith, c .before .before .pre (c .if2 .taken))

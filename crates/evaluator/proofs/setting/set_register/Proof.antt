@@ -86,9 +86,11 @@ returns c =
     let words = a .args .words .now in
     let s = a .args .s in
     let e = c .before .before .before .before .before .before .before .match .keys1 in
-    let does = c .before .before .before .before .move-register in
-    (λ t. (omega (arith, e), omega (arith, e)),
-    as-numbered words (does .result) (a .args .r) s (a .args .v) (a .args .nums .now) (a .args .kinds .now) _ _ 1 1 (omega arith) e (does .ensures words (inRegister s)))
+    let does = c .before .before .before .before .move-register in (
+      λ t. (omega (arith, e), omega (arith, e)),
+      as-numbered words (does .result) (a .args .r) s (a .args .v) (a .args .nums .now) (a .args .kinds .now) _ _ 1 1 (omega arith) e
+          (does .ensures words (inRegister s)),
+    )
 
 same-length-3 : tie.Need-same-length-3
 same-length-3 c = search needs
@@ -102,9 +104,10 @@ returns-2 c =
     let words = a .args .words .now in
     let s = a .args .s in
     let e = c .before .before .before .before .before .before .before .match .keys2 in
-    let does = c .before .before .before .before .add-registers in
-    (λ t. (omega (arith, e), omega (arith, e)),
-    as-numbered words (does .result) (a .args .r) s (a .args .v) (a .args .nums .now) (a .args .kinds .now) _ _ 2 1 (omega arith) e (does .ensures words))
+    let does = c .before .before .before .before .add-registers in (
+      λ t. (omega (arith, e), omega (arith, e)),
+      as-numbered words (does .result) (a .args .r) s (a .args .v) (a .args .nums .now) (a .args .kinds .now) _ _ 2 1 (omega arith) e (does .ensures words),
+    )
 
 same-length-5 : tie.Need-same-length-5
 same-length-5 c = search needs
@@ -118,9 +121,10 @@ returns-3 c =
     let words = a .args .words .now in
     let s = a .args .s in
     let e = c .before .before .before .before .before .before .before .match .keys3 in
-    let does = c .before .before .before .before .subtract-registers in
-    (λ t. (omega (arith, e), omega (arith, e)),
-    as-numbered words (does .result) (a .args .r) s (a .args .v) (a .args .nums .now) (a .args .kinds .now) _ _ 3 1 (omega arith) e (does .ensures words))
+    let does = c .before .before .before .before .subtract-registers in (
+      λ t. (omega (arith, e), omega (arith, e)),
+      as-numbered words (does .result) (a .args .r) s (a .args .v) (a .args .nums .now) (a .args .kinds .now) _ _ 3 1 (omega arith) e (does .ensures words),
+    )
 
 same-length-7 : tie.Need-same-length-7
 same-length-7 c = search needs
@@ -134,9 +138,10 @@ returns-4 c =
     let words = a .args .words .now in
     let s = a .args .s in
     let e = c .before .before .before .before .before .before .before .match .keys4 in
-    let does = c .before .before .before .before .multiply-registers in
-    (λ t. (omega (arith, e), omega (arith, e)),
-    as-numbered words (does .result) (a .args .r) s (a .args .v) (a .args .nums .now) (a .args .kinds .now) _ _ 4 1 (omega arith) e (does .ensures words))
+    let does = c .before .before .before .before .multiply-registers in (
+      λ t. (omega (arith, e), omega (arith, e)),
+      as-numbered words (does .result) (a .args .r) s (a .args .v) (a .args .nums .now) (a .args .kinds .now) _ _ 4 1 (omega arith) e (does .ensures words),
+    )
 
 same-length-9 : tie.Need-same-length-9
 same-length-9 c = search needs
@@ -150,9 +155,10 @@ returns-5 c =
     let words = a .args .words .now in
     let s = a .args .s in
     let e = c .before .before .before .before .before .before .before .match .keys5 in
-    let does = c .before .before .before .before .less-registers in
-    (λ t. (omega (arith, e), omega (arith, e)),
-    as-numbered words (does .result) (a .args .r) s (a .args .v) (a .args .nums .now) (a .args .kinds .now) _ _ 7 1 (omega arith) e (does .ensures words))
+    let does = c .before .before .before .before .less-registers in (
+      λ t. (omega (arith, e), omega (arith, e)),
+      as-numbered words (does .result) (a .args .r) s (a .args .v) (a .args .nums .now) (a .args .kinds .now) _ _ 7 1 (omega arith) e (does .ensures words),
+    )
 
 same-length-11 : tie.Need-same-length-11
 same-length-11 c = search needs
@@ -166,9 +172,10 @@ returns-6 c =
     let words = a .args .words .now in
     let s = a .args .s in
     let e = c .before .before .before .before .before .before .before .match .keys6 in
-    let does = c .before .before .before .before .equal-registers in
-    (λ t. (omega (arith, e), omega (arith, e)),
-    as-numbered words (does .result) (a .args .r) s (a .args .v) (a .args .nums .now) (a .args .kinds .now) _ _ 8 1 (omega arith) e (does .ensures words))
+    let does = c .before .before .before .before .equal-registers in (
+      λ t. (omega (arith, e), omega (arith, e)),
+      as-numbered words (does .result) (a .args .r) s (a .args .v) (a .args .nums .now) (a .args .kinds .now) _ _ 8 1 (omega arith) e (does .ensures words),
+    )
 
 same-length-13 : tie.Need-same-length-13
 same-length-13 c = search needs
@@ -182,9 +189,11 @@ returns-7 c =
     let words = a .args .words .now in
     let s = a .args .s in
     let e = c .before .before .before .before .before .before .before .match .keys7 in
-    let does = c .before .before .before .before .fetch-register in
-    (λ t. (omega (arith, e), omega (arith, e)),
-    as-numbered words (does .result) (a .args .r) s (a .args .v) (a .args .nums .now) (a .args .kinds .now) _ _ 9 1 (omega arith) e (does .ensures (inRegister s)))
+    let does = c .before .before .before .before .fetch-register in (
+      λ t. (omega (arith, e), omega (arith, e)),
+      as-numbered words (does .result) (a .args .r) s (a .args .v) (a .args .nums .now) (a .args .kinds .now) _ _ 9 1 (omega arith) e
+          (does .ensures (inRegister s)),
+    )
 
 same-length-15 : tie.Need-same-length-15
 same-length-15 c = search needs
@@ -198,9 +207,11 @@ returns-8 c =
     let words = a .args .words .now in
     let s = a .args .s in
     let e = c .before .before .before .before .before .before .before .match .keys8 in
-    let does = c .before .before .before .before .move-value in
-    (λ t. (omega (arith, e), omega (arith, e)),
-    as-numbered words (does .result) (a .args .r) s (a .args .v) (a .args .nums .now) (a .args .kinds .now) _ _ 1 2 (omega arith) e (does .ensures words (inRegister s)))
+    let does = c .before .before .before .before .move-value in (
+      λ t. (omega (arith, e), omega (arith, e)),
+      as-numbered words (does .result) (a .args .r) s (a .args .v) (a .args .nums .now) (a .args .kinds .now) _ _ 1 2 (omega arith) e
+          (does .ensures words (inRegister s)),
+    )
 
 same-length-17 : tie.Need-same-length-17
 same-length-17 c = search needs
@@ -214,9 +225,11 @@ returns-9 c =
     let words = a .args .words .now in
     let s = a .args .s in
     let e = c .before .before .before .before .before .before .before .match .keys9 in
-    let does = c .before .before .before .before .move-value2 in
-    (λ t. (omega (arith, e), omega (arith, e)),
-    as-numbered words (does .result) (a .args .r) s (a .args .v) (a .args .nums .now) (a .args .kinds .now) _ _ 1 3 (omega arith) e (does .ensures words (inRegister s)))
+    let does = c .before .before .before .before .move-value2 in (
+      λ t. (omega (arith, e), omega (arith, e)),
+      as-numbered words (does .result) (a .args .r) s (a .args .v) (a .args .nums .now) (a .args .kinds .now) _ _ 1 3 (omega arith) e
+          (does .ensures words (inRegister s)),
+    )
 
 same-length-19 : tie.Need-same-length-19
 same-length-19 c = search needs
@@ -230,9 +243,10 @@ returns-10 c =
     let words = a .args .words .now in
     let s = a .args .s in
     let e = c .before .before .before .before .before .before .before .match .keys10 in
-    let does = c .before .before .before .before .add-number in
-    (λ t. (omega (arith, e), omega (arith, e)),
-    as-numbered words (does .result) (a .args .r) s (a .args .v) (a .args .nums .now) (a .args .kinds .now) _ _ 2 3 (omega arith) e (does .ensures words))
+    let does = c .before .before .before .before .add-number in (
+      λ t. (omega (arith, e), omega (arith, e)),
+      as-numbered words (does .result) (a .args .r) s (a .args .v) (a .args .nums .now) (a .args .kinds .now) _ _ 2 3 (omega arith) e (does .ensures words),
+    )
 
 same-length-21 : tie.Need-same-length-21
 same-length-21 c = search needs
@@ -246,9 +260,10 @@ returns-11 c =
     let words = a .args .words .now in
     let s = a .args .s in
     let e = c .before .before .before .before .before .before .before .match .keys11 in
-    let does = c .before .before .before .before .subtract-number in
-    (λ t. (omega (arith, e), omega (arith, e)),
-    as-numbered words (does .result) (a .args .r) s (a .args .v) (a .args .nums .now) (a .args .kinds .now) _ _ 3 3 (omega arith) e (does .ensures words))
+    let does = c .before .before .before .before .subtract-number in (
+      λ t. (omega (arith, e), omega (arith, e)),
+      as-numbered words (does .result) (a .args .r) s (a .args .v) (a .args .nums .now) (a .args .kinds .now) _ _ 3 3 (omega arith) e (does .ensures words),
+    )
 
 same-length-23 : tie.Need-same-length-23
 same-length-23 c = search needs
@@ -262,9 +277,10 @@ returns-12 c =
     let words = a .args .words .now in
     let s = a .args .s in
     let e = c .before .before .before .before .before .before .before .match .keys12 in
-    let does = c .before .before .before .before .multiply-number in
-    (λ t. (omega (arith, e), omega (arith, e)),
-    as-numbered words (does .result) (a .args .r) s (a .args .v) (a .args .nums .now) (a .args .kinds .now) _ _ 4 3 (omega arith) e (does .ensures words))
+    let does = c .before .before .before .before .multiply-number in (
+      λ t. (omega (arith, e), omega (arith, e)),
+      as-numbered words (does .result) (a .args .r) s (a .args .v) (a .args .nums .now) (a .args .kinds .now) _ _ 4 3 (omega arith) e (does .ensures words),
+    )
 
 same-length-25 : tie.Need-same-length-25
 same-length-25 c = search needs
@@ -278,9 +294,10 @@ returns-13 c =
     let words = a .args .words .now in
     let s = a .args .s in
     let e = c .before .before .before .before .before .before .before .match .keys13 in
-    let does = c .before .before .before .before .less-number in
-    (λ t. (omega (arith, e), omega (arith, e)),
-    as-numbered words (does .result) (a .args .r) s (a .args .v) (a .args .nums .now) (a .args .kinds .now) _ _ 7 3 (omega arith) e (does .ensures words))
+    let does = c .before .before .before .before .less-number in (
+      λ t. (omega (arith, e), omega (arith, e)),
+      as-numbered words (does .result) (a .args .r) s (a .args .v) (a .args .nums .now) (a .args .kinds .now) _ _ 7 3 (omega arith) e (does .ensures words),
+    )
 
 same-length-27 : tie.Need-same-length-27
 same-length-27 c = search needs
@@ -294,9 +311,10 @@ returns-14 c =
     let words = a .args .words .now in
     let s = a .args .s in
     let e = c .before .before .before .before .before .before .before .match .keys14 in
-    let does = c .before .before .before .before .equal-number in
-    (λ t. (omega (arith, e), omega (arith, e)),
-    as-numbered words (does .result) (a .args .r) s (a .args .v) (a .args .nums .now) (a .args .kinds .now) _ _ 8 3 (omega arith) e (does .ensures words))
+    let does = c .before .before .before .before .equal-number in (
+      λ t. (omega (arith, e), omega (arith, e)),
+      as-numbered words (does .result) (a .args .r) s (a .args .v) (a .args .nums .now) (a .args .kinds .now) _ _ 8 3 (omega arith) e (does .ensures words),
+    )
 
 same-length-29 : tie.Need-same-length-29
 same-length-29 c = search needs
@@ -310,9 +328,11 @@ returns-15 c =
     let words = a .args .words .now in
     let s = a .args .s in
     let e = c .before .before .before .before .before .before .before .match .keys15 in
-    let does = c .before .before .before .before .fetch-number in
-    (λ t. (omega (arith, e), omega (arith, e)),
-    as-numbered words (does .result) (a .args .r) s (a .args .v) (a .args .nums .now) (a .args .kinds .now) _ _ 9 3 (omega arith) e (does .ensures (inRegister s)))
+    let does = c .before .before .before .before .fetch-number in (
+      λ t. (omega (arith, e), omega (arith, e)),
+      as-numbered words (does .result) (a .args .r) s (a .args .v) (a .args .nums .now) (a .args .kinds .now) _ _ 9 3 (omega arith) e
+          (does .ensures (inRegister s)),
+    )
 
 returns-16 : tie.Need-returns-16
 returns-16 c = let a = c .before .before .before in (λ t. absurd (true≢false (sym t)), λ n k l e. (a .pre .0, λ p c t o. unset))

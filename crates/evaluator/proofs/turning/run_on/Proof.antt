@@ -20,10 +20,12 @@ abbrev μ-loop : tie.MeasureT-loop
 
 loop-holds : tie.Need-loop-holds Inv-loop μ-loop
 loop-holds c =
-    let a = c .before .before .before .before in
-    (a .pre .sized,
-    runs-start (a .args .cells .now) (a .args .words .now) (a .args .interval) (a .pre .accepted-program) (a .args .places) (a .args .depth) (a .args .start)
-    (a .args .begun) (a .args .budget) (registersOf (a .args .nums .now) (a .args .kinds .now)) (a .pre .on-place) (a .pre .inside-program) (a .pre .counter-least))
+    let a = c .before .before .before .before in (
+      a .pre .sized,
+      runs-start (a .args .cells .now) (a .args .words .now) (a .args .interval) (a .pre .accepted-program) (a .args .places) (a .args .depth) (a .args .start)
+          (a .args .begun) (a .args .budget) (registersOf (a .args .nums .now) (a .args .kinds .now)) (a .pre .on-place) (a .pre .inside-program)
+          (a .pre .counter-least),
+    )
 
 sub-turn : tie.Need-sub-turn Inv-loop μ-loop
 sub-turn c = omega arith
@@ -46,21 +48,32 @@ turn-requires c κs =
     }
 
 same-length : tie.Need-same-length Inv-loop μ-loop
-same-length c = omega (arith, c .before .before .before .before .before .before .turn .ensures .0 .0, c .before .before .before .before .before .before .before .before .before .before .before .before .before .before .before .pre .sized .0)
+same-length c =
+    omega (
+      arith,
+      c .before .before .before .before .before .before .turn .ensures .0 .0,
+      c .before .before .before .before .before .before .before .before .before .before .before .before .before .before .before .pre .sized .0,
+    )
 
 same-length-2 : tie.Need-same-length-2 Inv-loop μ-loop
-same-length-2 c = omega (arith, c .before .before .before .before .before .before .turn .ensures .0 .1, c .before .before .before .before .before .before .before .before .before .before .before .before .before .before .before .pre .sized .1)
+same-length-2 c =
+    omega (
+      arith,
+      c .before .before .before .before .before .before .turn .ensures .0 .1,
+      c .before .before .before .before .before .before .before .before .before .before .before .before .before .before .before .pre .sized .1,
+    )
 
 returns : tie.Need-returns Inv-loop μ-loop
 returns c =
     let t = c .before .before .before .before .before .before .turn in
-    let off = not-true (t .result .on) (c .if1 .taken) in
-    (t .ensures .0,
-    record {
-      runs = rw (t .ensures .1 .stays off) (c .before .before .before .before .before .before .before .before .before .before .loop .inv .1);
-      when-spent = λ q. absurd (true≢false (sym q));
-      when-not = λ q. c .before .before .before .before .before .before .before .before .before .loop-test .taken;
-    })
+    let off = not-true (t .result .on) (c .if1 .taken) in (
+      t .ensures .0,
+      record {
+        runs = rw (t .ensures .1 .stays off) (c .before .before .before .before .before .before .before .before .before .before .loop .inv .1);
+        when-spent = λ q. absurd (true≢false (sym q));
+        when-not = λ q. c .before .before .before .before .before .before .before .before .before .loop-test .taken;
+      },
+    )
 
 sub-left : tie.Need-sub-left Inv-loop μ-loop
 sub-left c = omega (arith, c .before .before .before .before .before .before .before .before .before .loop-test .taken)
@@ -73,11 +86,13 @@ loop-again c =
     let a = c .before .before .before .before .before .before .before .before .before .before .before .before .before .before .before in
     let t = c .before .before .before .before .before .before .turn in
     let l = c .before .before .before .before .before .before .before .before .before .before .loop in
-    let on = not-false (t .result .on) (c .if1 .left) in
-    (t .ensures .0,
-    runs-on (a .args .cells .now) (a .args .words .now) (a .args .interval) (a .pre .accepted-program) (a .args .places) (a .args .depth) (a .args .start) (a .args .begun)
-    (a .args .budget) (registersOf (a .args .nums .now) (a .args .kinds .now)) (l .pc) (l .beat) (l .left) (registersOf (l .nums) (l .kinds)) (t .result) _
-    (c .before .before .before .before .before .before .before .before .before .loop-test .taken) on (l .inv .1) (t .ensures .1))
+    let on = not-false (t .result .on) (c .if1 .left) in (
+      t .ensures .0,
+      runs-on (a .args .cells .now) (a .args .words .now) (a .args .interval) (a .pre .accepted-program) (a .args .places) (a .args .depth)
+          (a .args .start) (a .args .begun)
+          (a .args .budget) (registersOf (a .args .nums .now) (a .args .kinds .now)) (l .pc) (l .beat) (l .left) (registersOf (l .nums) (l .kinds)) (t .result) _
+          (c .before .before .before .before .before .before .before .before .before .loop-test .taken) on (l .inv .1) (t .ensures .1),
+    )
 
 same-length-3 : tie.Need-same-length-3 Inv-loop μ-loop
 same-length-3 c = omega (arith, c .before .loop .inv .0 .0, c .before .before .before .before .before .before .pre .sized .0)

@@ -57,9 +57,15 @@ branch-label-requires : tie.Need-branch-label-requires
 branch-label-requires c κs =
     let a = c .before .before .before .before .before .before .before .before .before .before .before in
     let d = fetched (a .pre) in
-    let n = named d 10 2 (omega arith) (omega arith) (c .before .before .match .keys2) in
-    (a .pre .accepted-program, label-below d 10 n, omega (arith, a .pre .counter-least), a .pre .sized, d .s-small, a .pre .on-place,
-    next-below d 10 (omega arith) (n .its-opcode))
+    let n = named d 10 2 (omega arith) (omega arith) (c .before .before .match .keys2) in (
+      a .pre .accepted-program,
+      label-below d 10 n,
+      omega (arith, a .pre .counter-least),
+      a .pre .sized,
+      d .s-small,
+      a .pre .on-place,
+      next-below d 10 (omega arith) (n .its-opcode),
+    )
 
 enter-requires : tie.Need-enter-requires
 enter-requires c κs =
@@ -93,10 +99,14 @@ returns : tie.Need-returns
 returns c =
     let a = c .before .before .before .before .before .before .before .before .before .before .before .before in
     let d = fetched (a .pre) in
-    let n = named d 13 1 (omega arith) (omega arith) (c .before .before .before .match .keys1) in
-    (a .pre .sized, turned-leads (a .args .cells .now) (a .args .words .now) (a .args .interval) (a .args .places) (a .args .depth) (a .args .pc) (a .args .beat) (a .args .left)
-    (registersOf (a .args .nums .now) (a .args .kinds .now)) (a .pre .on-place) (a .pre .counter-least) 13 1 _ _ n (d .decoded .same-s) _
-    (λ o. c .jump-register .ensures (inRegister (getD (a .args .code .now) (a .args .pc + 2) 0) (registersOf (a .args .nums .now) (a .args .kinds .now))) (a .args .depth) (a .args .words .now) o))
+    let n = named d 13 1 (omega arith) (omega arith) (c .before .before .before .match .keys1) in (
+      a .pre .sized,
+      turned-leads (a .args .cells .now) (a .args .words .now) (a .args .interval) (a .args .places) (a .args .depth) (a .args .pc)
+          (a .args .beat) (a .args .left)
+          (registersOf (a .args .nums .now) (a .args .kinds .now)) (a .pre .on-place) (a .pre .counter-least) 13 1 _ _ n (d .decoded .same-s) _
+          (λ o. c .jump-register .ensures (inRegister (getD (a .args .code .now) (a .args .pc + 2) 0)
+          (registersOf (a .args .nums .now) (a .args .kinds .now))) (a .args .depth) (a .args .words .now) o),
+    )
 
 same-length-3 : tie.Need-same-length-3
 same-length-3 c = search needs
@@ -108,19 +118,25 @@ returns-2 : tie.Need-returns-2
 returns-2 c =
     let a = c .before .before .before .before .before .before .before .before .before .before .before .before in
     let d = fetched (a .pre) in
-    let n = named d 10 2 (omega arith) (omega arith) (c .before .before .before .match .keys2) in
-    (a .pre .sized, turned-leads (a .args .cells .now) (a .args .words .now) (a .args .interval) (a .args .places) (a .args .depth) (a .args .pc) (a .args .beat) (a .args .left)
-    (registersOf (a .args .nums .now) (a .args .kinds .now)) (a .pre .on-place) (a .pre .counter-least) 10 2 _ _ n (d .decoded .same-s) _
-    (λ o. c .branch-label .ensures (a .args .depth) (a .args .words .now) o))
+    let n = named d 10 2 (omega arith) (omega arith) (c .before .before .before .match .keys2) in (
+      a .pre .sized,
+      turned-leads (a .args .cells .now) (a .args .words .now) (a .args .interval) (a .args .places) (a .args .depth) (a .args .pc)
+          (a .args .beat) (a .args .left)
+          (registersOf (a .args .nums .now) (a .args .kinds .now)) (a .pre .on-place) (a .pre .counter-least) 10 2 _ _ n (d .decoded .same-s) _
+          (λ o. c .branch-label .ensures (a .args .depth) (a .args .words .now) o),
+    )
 
 returns-3 : tie.Need-returns-3
 returns-3 c =
     let a = c .before .before .before .before .before .before .before .before .before .before in
     let d = fetched (a .pre) in
-    let n = named d 13 2 (omega arith) (omega arith) (c .before .match .keys3) in
-    (a .pre .sized, turned-leads (a .args .cells .now) (a .args .words .now) (a .args .interval) (a .args .places) (a .args .depth) (a .args .pc) (a .args .beat) (a .args .left)
-    (registersOf (a .args .nums .now) (a .args .kinds .now)) (a .pre .on-place) (a .pre .counter-least) 13 2 _ _ n (d .decoded .same-s) _
-    (λ o. c .enter .ensures (a .args .pc / 4) (a .args .depth)))
+    let n = named d 13 2 (omega arith) (omega arith) (c .before .match .keys3) in (
+      a .pre .sized,
+      turned-leads (a .args .cells .now) (a .args .words .now) (a .args .interval) (a .args .places) (a .args .depth) (a .args .pc)
+          (a .args .beat) (a .args .left)
+          (registersOf (a .args .nums .now) (a .args .kinds .now)) (a .pre .on-place) (a .pre .counter-least) 13 2 _ _ n (d .decoded .same-s) _
+          (λ o. c .enter .ensures (a .args .pc / 4) (a .args .depth)),
+    )
 
 same-length-5 : tie.Need-same-length-5
 same-length-5 c = search needs
@@ -132,21 +148,28 @@ returns-4 : tie.Need-returns-4
 returns-4 c =
     let a = c .before .before .before .before .before .before .before .before .before .before .before .before in
     let d = fetched (a .pre) in
-    let j = plain-jump d 10 (omega arith) (c .before .before .before .match .keys4) in
-    (a .pre .sized, turned-leads (a .args .cells .now) (a .args .words .now) (a .args .interval) (a .args .places) (a .args .depth) (a .args .pc) (a .args .beat) (a .args .left)
-    (registersOf (a .args .nums .now) (a .args .kinds .now)) (a .pre .on-place) (a .pre .counter-least) 10 2 _ _ (j .jump-named) (d .decoded .same-s) _
-    (λ o. c .branch-plain .ensures (a .args .cells .now) (a .args .interval) (a .args .places) (a .args .left) (j .label) (j .unready-there) (a .pre .on-place)
-    (next-below d 10 (omega arith) (j .jump-named .its-opcode)) (omega (arith, a .pre .counter-least)) (a .args .depth) (a .args .words .now) o))
+    let j = plain-jump d 10 (omega arith) (c .before .before .before .match .keys4) in (
+      a .pre .sized,
+      turned-leads (a .args .cells .now) (a .args .words .now) (a .args .interval) (a .args .places) (a .args .depth) (a .args .pc)
+          (a .args .beat) (a .args .left)
+          (registersOf (a .args .nums .now) (a .args .kinds .now)) (a .pre .on-place) (a .pre .counter-least) 10 2 _ _ (j .jump-named) (d .decoded .same-s) _
+          (λ o. c .branch-plain .ensures (a .args .cells .now) (a .args .interval) (a .args .places) (a .args .left) (j .label) (j .unready-there) (a .pre .on-place)
+          (next-below d 10 (omega arith) (j .jump-named .its-opcode)) (omega (arith, a .pre .counter-least)) (a .args .depth) (a .args .words .now) o),
+    )
 
 returns-5 : tie.Need-returns-5
 returns-5 c =
     let a = c .before .before .before .before .before .before .before .before .before in
     let d = fetched (a .pre) in
-    let j = plain-jump d 13 (omega arith) (c .match .keys5) in
-    (a .pre .sized, turned-leads (a .args .cells .now) (a .args .words .now) (a .args .interval) (a .args .places) (a .args .depth) (a .args .pc) (a .args .beat) (a .args .left)
-    (registersOf (a .args .nums .now) (a .args .kinds .now)) (a .pre .on-place) (a .pre .counter-least) 13 2 _ _ (j .jump-named) (d .decoded .same-s) _
-    (λ o. enters-plain (a .args .cells .now) (a .args .interval) (j .label) (a .args .places) (a .args .left) (a .args .beat) _ (a .args .pc / 4) (a .args .depth)
-    (j .unready-there) (omega (arith, a .pre .counter-least))))
+    let j = plain-jump d 13 (omega arith) (c .match .keys5) in (
+      a .pre .sized,
+      turned-leads (a .args .cells .now) (a .args .words .now) (a .args .interval) (a .args .places) (a .args .depth) (a .args .pc)
+          (a .args .beat) (a .args .left)
+          (registersOf (a .args .nums .now) (a .args .kinds .now)) (a .pre .on-place) (a .pre .counter-least) 13 2 _ _ (j .jump-named) (d .decoded .same-s) _
+          (λ o. enters-plain (a .args .cells .now) (a .args .interval) (j .label) (a .args .places) (a .args .left) (a .args .beat) _ (a .args .pc / 4)
+          (a .args .depth)
+          (j .unready-there) (omega (arith, a .pre .counter-least))),
+    )
 
 same-length-7 : tie.Need-same-length-7
 same-length-7 c = search needs
@@ -159,11 +182,12 @@ returns-6 c =
     let a = c .before .before .before .before .before .before .before .before .before .before .before .before .before .before .before .before in
     let d = fetched (a .pre) in
     let set = c .before .before .before .before .set-register in
-    let arm = getD (a .args .code .now) (a .args .pc) 0 in
-    (set .ensures .1 (arm % 16) (arm / 16) (omega arith) (omega arith) .0,
-    turned-set (a .args .cells .now) (a .args .words .now) (a .args .interval) (a .args .places) (a .args .depth) (a .args .pc) (a .args .beat) (a .args .left)
-    (registersOf (a .args .nums .now) (a .args .kinds .now)) (a .pre .on-place) (a .pre .counter-least) d (set .result) _ (set .ensures .0)
-    (λ n k l e t o. set .ensures .1 n k l e .1 (programOf (a .args .cells .now)) (chosen (a .args .interval)) t o))
+    let arm = getD (a .args .code .now) (a .args .pc) 0 in (
+      set .ensures .1 (arm % 16) (arm / 16) (omega arith) (omega arith) .0,
+      turned-set (a .args .cells .now) (a .args .words .now) (a .args .interval) (a .args .places) (a .args .depth) (a .args .pc) (a .args .beat) (a .args .left)
+          (registersOf (a .args .nums .now) (a .args .kinds .now)) (a .pre .on-place) (a .pre .counter-least) d (set .result) _ (set .ensures .0)
+          (λ n k l e t o. set .ensures .1 n k l e .1 (programOf (a .args .cells .now)) (chosen (a .args .interval)) t o),
+    )
 
 pub turn-spec : {M : Type 1} → statement M
 turn-spec =
