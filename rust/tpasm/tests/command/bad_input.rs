@@ -120,7 +120,8 @@ fn bad_files() {
 fn the_other_program_is_missing() {
     let folder = Folder::new("the_other_program");
     let alone = folder.0.join("tpasm");
-    fs::copy(env!("CARGO_BIN_EXE_tpasm"), &alone).unwrap();
+    // A copy may still be open in another test's child, and is then not run.
+    fs::hard_link(env!("CARGO_BIN_EXE_tpasm"), &alone).unwrap();
     for command in ["trace", "picture", "profile"] {
         let output = Command::new(&alone).arg(command).output().unwrap();
         let said = String::from_utf8(output.stderr).unwrap();
