@@ -1,4 +1,5 @@
--- The laws, in their order: registers and values, arms, the loop of a task by itself, one instruction whatever it is, joins, the loop of all.
+-- The laws, in their order: registers and values, arms, the loop of a task by itself, live tasks; then by rows: banks, records, kept sides, the
+-- task in hand, the loop over frames, its rounds, an ending instruction.
 pub mod RegisterLaws
 pub mod ValueLaws
 pub mod SetLaws
@@ -6,9 +7,13 @@ pub mod LeadLaws
 pub mod CodeLaws
 pub mod TurnLaws
 pub mod RunLaws
-pub mod StepLaws
-pub mod JoinLaws
-pub mod PassLaws
-pub mod PendingLaws
-pub mod LoopLaws
-pub mod Measure
+pub mod GoodLaws
+pub mod BankLaws
+pub mod ForkLaws
+pub mod KeepLaws
+pub mod HandLaws
+pub mod FrameLaws
+pub mod ActLaws
+pub mod CloseLaws
+pub mod RoundLaws
+pub mod EndingLaws

@@ -3,11 +3,10 @@ use mathlib.Core.Path.{_≡_, refl, _∙_}
 use mathlib.Core.List.{List, [], _∷_}
 use Prim.Native.Nat.{ℕ, zero, suc, _<_}
 use native.Mathlib.Omega.{arith}
-use lib.ListN.{length, getD, set, length-set, replicate}
+use lib.ListN.{length, getD, set, length-set}
 use mir.Syntax.{w64}
 use mir.Val.{toZ}
 use Rattle.task.specs.declared.Value.the-variants.{Int, Label}
-use Rattle.task.specs.Frames.{zeros}
 use Rattle.evaluator.specs.Registers.{valueOf, registersOf, Sized, inRegister}
 
 pub read-at : (nums kinds : List ℕ) (r : ℕ) → r < length nums → r < length kinds
@@ -42,7 +41,3 @@ module _ (nums kinds : List ℕ) (r : ℕ) (h : Sized nums kinds) (p : r < 16) w
 
   pub label-at : getD kinds r 0 ≡ 1 → inRegister r (registersOf nums kinds) ≡ Label (getD nums r 0)
   label-at q = value-at ∙ rw q
-
-pub zero-registers : registersOf (replicate 16 0) (replicate 16 0) ≡ zeros
-unfolding registersOf
-zero-registers = refl

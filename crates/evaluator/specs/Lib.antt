@@ -4,5 +4,5 @@ pub mod Code
 pub mod Arms
 pub mod Turns
 pub mod Sides
-pub mod Passes
-pub mod Evaluation
+pub mod Banks
+pub mod Hands

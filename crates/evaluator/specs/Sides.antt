@@ -1,35 +1,31 @@
--- A task with its registers in two rows (`Side`) as a frame; the sides that are kept as `serial`'s pending forks; and one instruction,
--- whatever it is.
+-- A task with its registers in two rows (`Side`) as a frame; a side that is kept as an open fork of `serial`; the job and its live tasks; and one
+-- instruction, whatever it is.
 use mathlib.Core.Path.{_≡_}
 use mathlib.Core.Bool.{Bool, true, false}
-use mathlib.Core.List.{List, [], _∷_}
-use Prim.Native.Nat.{ℕ, zero, suc, _<_, _≤_}
-use lib.ListN.{getD, set}
+use mathlib.Core.List.{List}
+use Prim.Native.Nat.{ℕ, _<_, _≤_}
+use lib.ListN.{set}
 use Rattle.image.specs.Layout.{programOf}
 use Rattle.image.specs.Questions.{programNo}
 use Rattle.agreement.specs.Plain.{Stepped, one, two}
-use Rattle.serial.specs.Serial.{Open, toCome, finished, Pending}
+use Rattle.serial.specs.Serial.{Open, toCome, finished}
 use Rattle.task.specs.declared.Status.the-variants.{Waiting, Halted, Faulted}
 use Rattle.task.specs.declared.Frame.{Frame}
 use Rattle.task.specs.declared.Kind.{Kind}
 use Rattle.task.specs.declared.Kind.the-variants.{Stores, Goes, Waits, Halts, Faults, Forks}
 use Rattle.task.specs.declared.Executed.{Executed}
-use Rattle.task.specs.Frames.{noTask, zeros, running, workLimit}
+use Rattle.task.specs.Frames.{zeros, running, workLimit}
 use Rattle.task.specs.Values.{recordOf}
 use Rattle.task.specs.Formed.{formed, within}
 use Rattle.task.specs.Step.{counted, movedTo, ended, side, withTask}
 use Rattle.evaluator.specs.declared.Side.{Side}
-use Rattle.evaluator.specs.declared.Next.{Next}
 use Rattle.evaluator.specs.Registers.{registersOf}
+use Rattle.evaluator.specs.Code.{Decodes}
 
 abbrev pub frameOf : Side → Frame
 frameOf s = record { task = s .task; registers = registersOf (s .nums) (s .kinds) }
 
 -- ---- The forks pending
-
--- what the code's logic reads past the end
-abbrev pub noSide : Side
-noSide = record { task = noTask; nums = []; kinds = [] }
 
 -- a kept side runs still, and is a child's that is to come; or has ended, and is a parent's
 abbrev pub openBy : Bool → Frame → Open Frame
@@ -39,12 +35,14 @@ openBy false f = finished f
 abbrev pub openOf : Frame → Open Frame
 openOf f = openBy (running f) f
 
--- of a task with d open forks: for each the side that is kept
-unfoldable pub pendingOf : List Side → ℕ → Pending Frame
-pendingOf kept zero = []
-pendingOf kept (suc d) = openOf (frameOf (getD kept d noSide)) ∷ pendingOf kept d
-
 -- ---- Live tasks
+
+-- the job: an accepted program, decoded, 2 ^ D places, a budget that no count overruns
+pub record Base (cells code : List ℕ) (D budget : ℕ) : Type 0 where
+  pub accepted-program : programNo cells ≡ 0
+  pub decodes : Decodes cells code
+  pub room : D ≤ 6
+  pub limited : budget ≤ workLimit
 
 -- of a job of 2 ^ D places, with 2 ^ h of them, its counter and span at most W
 pub record Good (cells : List ℕ) (D h W : ℕ) (f : Frame) : Type 0 where
@@ -76,11 +74,3 @@ madeOf Faults f r e = one (record { task = ended (Faulted (e .fault)) (counted (
 madeOf Forks f r e =
     let parent = side (recordOf (e .value)) (e .pc) (e .counter) (counted (f .task)) in
     two (withTask parent f) (withTask (movedTo (e .child) 0 parent) f)
-
--- what it leaves
-abbrev pub steppedBy : Bool → Frame → Frame → Stepped Frame
-steppedBy true p c = two p c
-steppedBy false p c = one p
-
-abbrev pub steppedOf : Next → Stepped Frame
-steppedOf r = steppedBy (r .forks) (frameOf (r .own)) (frameOf (r .child))

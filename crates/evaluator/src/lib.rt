@@ -2,15 +2,18 @@
 // is and proves that it finds what the plain evaluation finds.
 use task::Task;
 
-mod advancing;
 mod arithmetic;
+mod banks;
+mod closing;
 pub mod decoding;
-pub mod evaluation;
-mod joins;
+mod ending;
+mod fitting;
+pub mod flat;
+mod hands;
 mod jumps;
+mod keeping;
 mod moves;
-mod passing;
-mod rows;
+pub mod rows;
 mod setting;
 mod turning;
 
@@ -49,32 +52,30 @@ pub struct Side {
     pub kinds: [u8; 16],
 }
 
-// A task where it has stopped.
-pub struct Rest {
-    pub on: bool,
-    pub own: Side,
+// The task in hand, but for its registers and the records of its open forks. What it does: 0 it runs, 1 it has halted, 2 it waits; any other
+// number is its fault's. Its counter is the difference of `beat` and what is left of the budget, its span that of `spun`.
+pub struct Hand {
+    pub what: u64,
+    pub places: u64,
+    pub depth: u64,
+    pub pc: usize,
+    pub beat: u64,
     pub left: u64,
+    pub spun: u64,
 }
 
-// What one instruction makes of a task: itself, and the child's side of a fork.
-pub struct Next {
-    pub forks: bool,
-    pub own: Side,
-    pub child: Side,
+// The other side of a fork: the child's, still to come, or the parent's, that has ended.
+pub struct Kept {
+    pub what: u64,
+    pub places: u64,
+    pub pc: usize,
+    pub span: u64,
 }
 
-// What a pass makes of it, unless the budget was used up.
-pub struct Passed {
-    pub spent: bool,
-    pub forks: bool,
-    pub own: Side,
-    pub child: Side,
+// How an evaluation ended: 0 the budget was used up, else as in `Hand`.
+pub struct Finished {
+    pub what: u64,
+    pub places: u64,
     pub left: u64,
-}
-
-// What an evaluation ended with, and what is left of its budget; or the budget was used up.
-pub struct Evaluated {
-    pub done: bool,
-    pub own: Side,
-    pub left: u64,
+    pub span: u64,
 }

@@ -16,7 +16,7 @@ pub fn put(nums: &mut [u64], kinds: &mut [u8], r: usize, num: u64, kind: u8)
     kinds[r] = kind;
 }
 
-// This crate alone calls it: a label of a well-formed task is a block's number.
+// Our crates alone call it: a label of a well-formed task is a block's number.
 pub fn value_of(kind: u8, num: u64) -> Value
     requires { ⌜ (kind ≡ 1 → num < 4294967296) ⌝ }
     ensures { λ r. ⌜ r ≡ valueOf kind num ⌝ }

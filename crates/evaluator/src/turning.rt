@@ -74,8 +74,8 @@ fn turn(
     }
 }
 
-// Instructions until one that the task does not carry out by itself, which is not carried out, or the budget is used up. `run_side` alone calls
-// it, with a well-formed task.
+// Instructions until one that the task does not carry out by itself, which is not carried out, or the budget is used up. `run_hand`
+// alone calls it, with a well-formed task.
 pub fn run_on(
     cells: &[u64],
     code: &[u64],

@@ -1,0 +1,99 @@
+-- `act` meets its contract.
+use mathlib.Core.Path.{ap}
+use native.Mathlib.Omega.{arith}
+use Rattle.image.specs.declared.Instruction.{Instruction}
+use Rattle.evaluator.specs.Hands.{rowsOf, handSide}
+use Rattle.evaluator.proofs.EndingLaws.{here}
+use Rattle.evaluator.proofs.ActLaws.{can-step, fault-least, fork-room, act-leads}
+use borrow.Author.Needs.{needs}
+use Rattle.evaluator.proofs.hands.act.Statement.{statement}
+use Rattle.evaluator.proofs.hands.act.Tie as tie
+
+instruction-of-requires : tie.Need-instruction-of-requires
+instruction-of-requires c κs =
+    let a = c .before .before .before .before .before .before .before .before in
+    let cells = a .args .cells .now in
+    let rows = rowsOf (a .args .nums .now) (a .args .kinds .now) (a .args .bank .now) (a .args .marks .now) (a .args .recs .now) (a .args .sides .now) in
+    let can = can-step cells (a .args .words .now) (a .args .interval) (a .args .hand) rows (a .pre .0) (a .pre .1) (a .pre .2) in
+    omega (arith, here cells (handSide (a .args .hand) (a .args .recs .now) (a .args .nums .now) (a .args .kinds .now)) can .is-stored)
+
+ending-requires : tie.Need-ending-requires
+ending-requires c κs =
+    let a = c .before .before .before .before .before .before .before .before .before .before .before .before in
+    let cells = a .args .cells .now in
+    let rows = rowsOf (a .args .nums .now) (a .args .kinds .now) (a .args .bank .now) (a .args .marks .now) (a .args .recs .now) (a .args .sides .now) in
+    let can = can-step cells (a .args .words .now) (a .args .interval) (a .args .hand) rows (a .pre .0) (a .pre .1) (a .pre .2) in
+    (can, a .pre .0 .full .sized, a .pre .0 .full .recs-full, a .pre .0 .counter-least)
+
+apply-requires : tie.Need-apply-requires
+apply-requires c κs =
+    let a = c .before .before .before .before .before .before .before .before .before .before .before .before .before .before .before .before .before .before .before in
+    let cells = a .args .cells .now in
+    let rows = rowsOf (a .args .nums .now) (a .args .kinds .now) (a .args .bank .now) (a .args .marks .now) (a .args .recs .now) (a .args .sides .now) in
+    let can = can-step cells (a .args .words .now) (a .args .interval) (a .args .hand) rows (a .pre .0) (a .pre .1) (a .pre .2) in
+    let e = c .before .before .before .before .before .before .ending in
+    let x = c .before .before .before .before .before .before .before .before .before .before .instruction-of in
+    let own = handSide (a .args .hand) (a .args .recs .now) (a .args .nums .now) (a .args .kinds .now) in (
+      a .pre .0 .full,
+      omega (
+        arith,
+        ap (λ (y : Instruction). y .r)
+            (x .ensures),
+        here cells own can .r-small,
+      ),
+      a .pre .2,
+      a .pre .0 .limited,
+      a .pre .0 .span-least,
+      fork-room cells (a .args .words .now)
+          (a .args .interval) (a .args .hand) rows (a .pre .0) (a .pre .1) (a .pre .2) (e .result) (e .ensures) (x .result .r) (ap (λ
+          (y : Instruction). y .r) (x .ensures)),
+      fault-least cells (a .args .words .now) (a .args .interval) (a .args .hand) rows (a .pre .0)
+          (a .pre .1) (a .pre .2) (e .result) (e .ensures) (x .result .r) (ap (λ (y : Instruction). y .r) (x .ensures)),
+    )
+
+same-length : tie.Need-same-length
+same-length c = search needs
+
+same-length-2 : tie.Need-same-length-2
+same-length-2 c = search needs
+
+same-length-3 : tie.Need-same-length-3
+same-length-3 c = search needs
+
+same-length-4 : tie.Need-same-length-4
+same-length-4 c = search needs
+
+same-length-5 : tie.Need-same-length-5
+same-length-5 c = search needs
+
+same-length-6 : tie.Need-same-length-6
+same-length-6 c = search needs
+
+returns : tie.Need-returns
+returns c =
+    let a = c .before .before .before .before .before .before .before .before .before .before .before .before .before .before .before .before .before .before .before .before .before .before .before .before .before .before .before .before .before .before .before .before in
+    let cells = a .args .cells .now in
+    let rows = rowsOf (a .args .nums .now) (a .args .kinds .now) (a .args .bank .now) (a .args .marks .now) (a .args .recs .now) (a .args .sides .now) in
+    let can = can-step cells (a .args .words .now) (a .args .interval) (a .args .hand) rows (a .pre .0) (a .pre .1) (a .pre .2) in
+    let e = c .before .before .before .before .before .before .before .before .before .before .before .before .before .before .before .before .before .before .before .ending in
+    let x = c .before .before .before .before .before .before .before .before .before .before .before .before .before .before .before .before .before .before .before .before .before .before .before .instruction-of in
+    let t = c .before .before .before .before .before .before .before .before .before .before .before .before .apply in (
+      omega (arith, t .ensures .less, a .pre .2),
+      act-leads cells (a .args .words .now) (a .args .interval) (a .args .hand) rows (a .pre .0)
+          (a .pre .1) (a .pre .2) (e .result) (e .ensures) (x .result .r) (ap (λ (y : Instruction). y .r) (x .ensures)) (t .result) _ (t .ensures),
+    )
+
+pub act-spec : {M : Type 1} → statement M
+act-spec =
+    tie.close
+    (tie.spec
+    instruction-of-requires
+    ending-requires
+    apply-requires
+    same-length
+    same-length-2
+    same-length-3
+    same-length-4
+    same-length-5
+    same-length-6
+    returns)

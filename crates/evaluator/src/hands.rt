@@ -1,0 +1,216 @@
+// The task in hand: its instructions by itself, and then one that it does not carry out by itself.
+use crate::Hand;
+use crate::Kept;
+use crate::banks::save;
+use crate::ending::ending;
+use crate::keeping::keep;
+use crate::rows::pair_of;
+use crate::rows::put;
+use crate::turning::run_on;
+use image::layout;
+use task::Executed;
+use task::Kind;
+use task::Value;
+ghost use mathlib.Core.Path.{_≡_};
+ghost use mathlib.Core.List.{List};
+ghost use Prim.Native.Nat.{ℕ, _*_, _<_, _≤_};
+ghost use lib.ListN.{set};
+ghost use lib.Seq.{sets};
+ghost use Rattle.task.specs.Values.{recordOf};
+ghost use Rattle.task.specs.declared.Kind.the-variants.{Faults, Forks};
+ghost use Rattle.evaluator.specs.Banks.{forkOf};
+ghost use Rattle.evaluator.specs.Turns.{Starts};
+ghost use Rattle.evaluator.specs.Hands.{rowsOf, Keeps, Full, Point, LeadsTo, goneOn, endedWith, parentOf, childOf, Applied};
+
+// The instructions by itself. `evaluate` alone calls it, with a running task.
+pub fn run_hand(
+    cells: &[u64],
+    code: &[u64],
+    words: &[i64],
+    interval: u64,
+    hand: Hand,
+    nums: &mut [u64],
+    kinds: &mut [u8],
+) -> Hand
+    requires { ⌜ Starts (now cells) (now code) (now nums) (now kinds) (hand .places) (hand .depth) (hand .left) (hand .beat) (hand .pc) × (hand .what ≡ 0) ⌝ }
+    ensures { λ z. ⌜ (z .what ≡ 0) × (z .left ≤ hand .left) ⌝ }
+    ensures { λ z. ⌜ ((bank marks recs sides : List ℕ) → Point (now (cells .entry)) hand (rowsOf (now (nums .entry)) (now
+        (kinds .entry)) bank marks recs sides) → LeadsTo (now (cells .entry)) (now (words .entry)) interval hand (rowsOf (now (nums .entry)) (now
+        (kinds .entry)) bank marks recs sides) z (rowsOf (now (nums .exit)) (now (kinds .exit)) bank marks recs sides)) ⌝ }
+{
+    let ran = run_on(
+        cells,
+        code,
+        words,
+        nums,
+        kinds,
+        interval,
+        hand.places,
+        hand.depth,
+        hand.left,
+        hand.beat,
+        hand.pc,
+    );
+    Hand {
+        what: 0,
+        places: hand.places,
+        depth: hand.depth,
+        pc: ran.pc,
+        beat: ran.beat,
+        left: ran.left,
+        spun: hand.spun,
+    }
+}
+
+// The record that a fork is opened under, as one number.
+fn record_bits(v: Value) -> u64
+    ensures { λ r. ⌜ forkOf r ≡ recordOf v ⌝ }
+{
+    match v {
+        Value::Int(_) => 0,
+        Value::Label(_) => 0,
+        Value::Record(continuation, depth) => 4294967296 * (continuation as u64) + (depth as u64),
+    }
+}
+
+// An instruction has been counted, and the task goes on. `apply` alone calls these three.
+fn go_on(hand: Hand, pc: u16, counter: u32) -> Hand
+    requires { ⌜ (0 < hand .left) × (hand .left ≤ 4294967295) ⌝ }
+    ensures { λ z. ⌜ z ≡ goneOn hand pc counter ⌝ }
+{
+    let left = hand.left - 1;
+    Hand {
+        what: 0,
+        places: hand.places,
+        depth: hand.depth,
+        pc: 4 * (pc as usize),
+        beat: left + (counter as u64),
+        left,
+        spun: hand.spun,
+    }
+}
+
+fn end_with(hand: Hand, what: u64) -> Hand
+    requires { ⌜ 0 < hand .left ⌝ }
+    ensures { λ z. ⌜ z ≡ endedWith hand what ⌝ }
+{
+    let left = hand.left - 1;
+    Hand {
+        what,
+        places: hand.places,
+        depth: hand.depth,
+        pc: 0,
+        beat: left,
+        left,
+        spun: hand.spun,
+    }
+}
+
+// The child's side is kept, and the parent's goes on.
+fn open_fork(
+    hand: Hand,
+    under: u64,
+    e: Executed,
+    nums: &[u64],
+    kinds: &[u8],
+    bank: &mut [u64],
+    marks: &mut [u8],
+    recs: &mut [u64],
+    sides: &mut [u64],
+) -> Hand
+    requires { ⌜ Full (rowsOf (now nums) (now kinds) (now bank) (now marks) (now recs) (now sides)) × (hand .depth < 6) × (0 < hand .left) × (hand .left ≤ 4294967295) × (hand .left ≤ hand .spun) ⌝ }
+    ensures { λ z. ⌜ z ≡ parentOf hand (e .pc) (e .counter) ⌝ }
+    ensures { λ z. ⌜ now (bank .exit) ≡ sets (now (bank .entry)) (16 * hand .depth) (now (nums .entry)) ⌝ }
+    ensures { λ z. ⌜ now (marks .exit) ≡ sets (now (marks .entry)) (16 * hand .depth) (now (kinds .entry)) ⌝ }
+    ensures { λ z. ⌜ now (recs .exit) ≡ set (now (recs .entry)) (hand .depth) under ⌝ }
+    ensures { λ z. ⌜ Keeps (now (sides .entry)) (hand .depth) (childOf hand (e .child)) (now (sides .exit)) ⌝ }
+{
+    let at = hand.depth as usize;
+    let left = hand.left - 1;
+    let places = hand.places / 2;
+    save(nums, kinds, bank, marks, 16 * at);
+    recs[at] = under;
+    let child = Kept {
+        what: 0,
+        places,
+        pc: 4 * (e.child as usize),
+        span: hand.spun - left,
+    };
+    keep(sides, at, child);
+    Hand {
+        what: 0,
+        places,
+        depth: hand.depth + 1,
+        pc: 4 * (e.pc as usize),
+        beat: left + (e.counter as u64),
+        left,
+        spun: hand.spun,
+    }
+}
+
+// What an instruction makes of the task and of the rows. `act` alone calls it, below the work's limit.
+fn apply(
+    r: u64,
+    e: Executed,
+    hand: Hand,
+    nums: &mut [u64],
+    kinds: &mut [u8],
+    bank: &mut [u64],
+    marks: &mut [u8],
+    recs: &mut [u64],
+    sides: &mut [u64],
+) -> Hand
+    requires { ⌜ Full (rowsOf (now nums) (now kinds) (now bank) (now marks) (now recs) (now sides)) × (r < 16) × (0 < hand .left) ×
+        (hand .left ≤ 4294967295) × (hand .left ≤ hand .spun) × (e .kind ≡ Forks → hand .depth < 6) × (e .kind ≡ Faults → 3 ≤ e .fault) ⌝ }
+    ensures { λ z. ⌜ Applied hand (rowsOf (now (nums .entry)) (now (kinds .entry)) (now (bank .entry)) (now (marks .entry)) (now (recs .entry)) (now
+        (sides .entry))) r e z (rowsOf (now (nums .exit)) (now (kinds .exit)) (now (bank .exit)) (now (marks .exit)) (now (recs .exit)) (now (sides .exit))) ⌝ }
+{
+    let kind = e.kind;
+    let value = e.value;
+    match kind {
+        Kind::Stores => {
+            let p = pair_of(value);
+            put(nums, kinds, r as usize, p.num, p.kind);
+            go_on(hand, e.pc, e.counter)
+        }
+        Kind::Goes => go_on(hand, e.pc, e.counter),
+        Kind::Waits => end_with(hand, 2),
+        Kind::Halts => end_with(hand, 1),
+        Kind::Faults => end_with(hand, e.fault as u64),
+        Kind::Forks => open_fork(
+            hand,
+            record_bits(value),
+            e,
+            nums,
+            kinds,
+            bank,
+            marks,
+            recs,
+            sides,
+        ),
+    }
+}
+
+// The instruction that the task does not carry out by itself. `evaluate` alone calls it, with a running task and something left.
+pub fn act(
+    cells: &[u64],
+    words: &[i64],
+    interval: u64,
+    hand: Hand,
+    nums: &mut [u64],
+    kinds: &mut [u8],
+    bank: &mut [u64],
+    marks: &mut [u8],
+    recs: &mut [u64],
+    sides: &mut [u64],
+) -> Hand
+    requires { ⌜ Point (now cells) hand (rowsOf (now nums) (now kinds) (now bank) (now marks) (now recs) (now sides)) × (hand .what ≡ 0) × (0 < hand .left) ⌝ }
+    ensures { λ z. ⌜ z .left < hand .left ⌝ }
+    ensures { λ z. ⌜ LeadsTo (now (cells .entry)) (now (words .entry)) interval hand (rowsOf (now (nums .entry)) (now (kinds .entry)) (now
+        (bank .entry)) (now (marks .entry)) (now (recs .entry)) (now (sides .entry))) z (rowsOf (now (nums .exit)) (now (kinds .exit)) (now
+        (bank .exit)) (now (marks .exit)) (now (recs .exit)) (now (sides .exit))) ⌝ }
+{
+    let x = layout::instruction_of(cells, hand.pc / 4);
+    let e = ending(cells, words, interval, hand, nums, kinds, recs);
+    apply(x.r, e, hand, nums, kinds, bank, marks, recs, sides)
+}
