@@ -149,7 +149,8 @@ exchange-requires c κs =
 
 mul-merge : tie.Need-mul-merge
 mul-merge c =
-    let a = c .before .before .before .before .before .before .before .before .before .before .before .before .before .before .before .before .before .before .before .before .before .before .before .before .before .before .before .before .before .before .before in
+    let half = c .before .before .before .before .before .before .before .before .before .before .before .before .before .before .before in
+    let a = half .before .before .before .before .before .before .before .before .before .before .before .before .before .before .before .before in
     let cells = a .args .cells .now in
     let h = a .args .hand in
     let rows = rowsOf (a .args .nums .now) (a .args .kinds .now) (a .args .bank .now) (a .args .marks .now) (a .args .recs .now) (a .args .sides .now) in
@@ -159,7 +160,8 @@ mul-merge c =
 
 merge-requires : tie.Need-merge-requires
 merge-requires c κs =
-    let a = c .before .before .before .before .before .before .before .before .before .before .before .before .before .before .before .before .before .before .before .before .before .before .before .before .before .before .before .before .before .before .before in
+    let half = c .before .before .before .before .before .before .before .before .before .before .before .before .before .before .before in
+    let a = half .before .before .before .before .before .before .before .before .before .before .before .before .before .before .before .before in
     let cells = a .args .cells .now in
     let h = a .args .hand in
     let rows = rowsOf (a .args .nums .now) (a .args .kinds .now) (a .args .bank .now) (a .args .marks .now) (a .args .recs .now) (a .args .sides .now) in
@@ -183,7 +185,8 @@ merge-requires c κs =
 
 mul-joined : tie.Need-mul-joined
 mul-joined c =
-    let a = c .before .before .before .before .before .before .before .before .before .before .before .before .before .before .before .before .before .before .before .before .before .before .before .before .before .before .before .before .before .before .before .before .before .before .before .before in
+    let half = c .before .before .before .before .before .before .before .before .before .before .before .before .before .before .before .before .before .before in
+    let a = half .before .before .before .before .before .before .before .before .before .before .before .before .before .before .before .before .before .before in
     let cells = a .args .cells .now in
     let h = a .args .hand in
     let rows = rowsOf (a .args .nums .now) (a .args .kinds .now) (a .args .bank .now) (a .args .marks .now) (a .args .recs .now) (a .args .sides .now) in
@@ -192,17 +195,26 @@ mul-joined c =
     let ok = accepted cells (a .pre .0 .accepted-program) in
     let b = getD (a .args .recs .now) d 0 / 4294967296 in
     let l = ok .block b (continuation-inside cells h rows (a .pre .0) (a .pre .1) d deep) .label-below in
-    omega (arith, c .before .before .before .before .before .before .before .before .before .before .before .before .before .before .before .before .before .before .before .before .before .before .first-of .ensures, ap (λ (x : Block). blockOf cells (x .label) .first) (c .before .before .before .before .before .before .before .before .before .before .before .before .before .before .before .before .before .before .before .before .before .before .before .block-of .ensures), ok .block (blockOf cells b .label) l .first-below, ok .few-instructions)
+    omega (
+      arith,
+      c .before .before .before .before .before .before .before .before .before .before .before .before .before .before .before .before .before .before .before .before .before .before .first-of .ensures,
+      ap (λ (x : Block). blockOf cells (x .label) .first)
+          (c .before .before .before .before .before .before .before .before .before .before .before .before .before .before .before .before .before .before .before .before .before .before .before .block-of .ensures),
+      ok .block (blockOf cells b .label) l .first-below,
+      ok .few-instructions,
+    )
 
 joined-requires-2 : tie.Need-joined-requires-2
 joined-requires-2 c κs =
-    let a = c .before .before .before .before .before .before .before .before .before .before .before .before .before .before .before .before .before .before .before .before .before .before .before .before .before .before .before .before .before .before .before .before .before .before .before .before in
+    let half = c .before .before .before .before .before .before .before .before .before .before .before .before .before .before .before .before .before .before in
+    let a = half .before .before .before .before .before .before .before .before .before .before .before .before .before .before .before .before .before .before in
     let cells = a .args .cells .now in
     let h = a .args .hand in
     let rows = rowsOf (a .args .nums .now) (a .args .kinds .now) (a .args .bank .now) (a .args .marks .now) (a .args .recs .now) (a .args .sides .now) in
     let d = h .depth - 1 in
     let deep : h .depth ≡ suc d = omega (arith, a .pre .2) in
-    let k = c .before .before .before .before .before .before .before .before .before .before .before .before .before .before .before .before .before .before .before .before .before .before .before .before .before .before .before .kept-at in
+    let half = c .before .before .before .before .before .before .before .before .before .before .before .before .before in
+    let k = half .before .before .before .before .before .before .before .before .before .before .before .before .before .before .kept-at in
     let ks = ap (λ (x : Kept). x .span) (k .ensures) in
     let kp = ap (λ (x : Kept). x .places) (k .ensures) in (
       a .pre .2,
@@ -234,15 +246,18 @@ same-length-4 c = search needs
 
 returns-2 : tie.Need-returns-2
 returns-2 c =
-    let a = c .before .before .before .before .before .before .before .before .before .before .before .before .before .before .before .before .before .before .before .before .before .before .before .before .before .before .before .before .before .before .before .before .before .before .before .before .before in
+    let half = c .before .before .before .before .before .before .before .before .before .before .before .before .before .before .before .before .before .before in
+    let a = half .before .before .before .before .before .before .before .before .before .before .before .before .before .before .before .before .before .before .before in
     let cells = a .args .cells .now in
     let h = a .args .hand in
     let rows = rowsOf (a .args .nums .now) (a .args .kinds .now) (a .args .bank .now) (a .args .marks .now) (a .args .recs .now) (a .args .sides .now) in
     let d = h .depth - 1 in
     let deep : h .depth ≡ suc d = omega (arith, a .pre .2) in
-    let k = c .before .before .before .before .before .before .before .before .before .before .before .before .before .before .before .before .before .before .before .before .before .before .before .before .before .before .before .before .kept-at in
+    let half = c .before .before .before .before .before .before .before .before .before .before .before .before .before .before in
+    let k = half .before .before .before .before .before .before .before .before .before .before .before .before .before .before .kept-at in
     let b = getD (a .args .recs .now) d 0 / 4294967296 in
-    let n = c .before .before .before .before .before .before .before .before .before .before .before .before .before .before .before .before .before .before .before .before .before .before .before .before .before .before .before .first-fault in
+    let half = c .before .before .before .before .before .before .before .before .before .before .before .before .before in
+    let n = half .before .before .before .before .before .before .before .before .before .before .before .before .before .before .first-fault in
     let no = c .before .before .before .before .before .before .before .before .before .before .before .before .before .before .before .before .before .before .before .before .before .before .before .before .before .before .if1 .left in
     let z = c .joined2 in
     let x = c .before .before .before .before .before .before .before .before .before .before .before .before .before .before .before .before .before .before .exchange .ensures in

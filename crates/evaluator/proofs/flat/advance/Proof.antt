@@ -78,13 +78,15 @@ same-length-8 c = search needs
 
 returns-2 : tie.Need-returns-2
 returns-2 c =
-    let a = c .before .before .before .before .before .before .before .before .before .before .before .before .before .before .before .before .before .before .before .before .before .before .before .before .before .before .before .before .before .before .before .before .before .before .before .before .before .before in
+    let half = c .before .before .before .before .before .before .before .before .before .before .before .before .before .before .before .before .before .before .before in
+    let a = half .before .before .before .before .before .before .before .before .before .before .before .before .before .before .before .before .before .before .before in
     let cells = a .args .cells .now in
     let words = a .args .words .now in
     let h = a .args .hand in
     let rows = rowsOf (a .args .nums .now) (a .args .kinds .now) (a .args .bank .now) (a .args .marks .now) (a .args .recs .now) (a .args .sides .now) in
     let p = a .pre .0 in
-    let e = c .before .before .before .before .before .before .before .before .before .before .before .before .before .before .before .before .before .before .before .before .before .before .before .before .before .before .before .before .if1 .taken in
+    let half = c .before .before .before .before .before .before .before .before .before .before .before .before .before .before in
+    let e = half .before .before .before .before .before .before .before .before .before .before .before .before .before .before .if1 .taken in
     let some = still-left (h .what) (h .left) (h .depth) e (a .pre .2) in
     let r = c .before .before .before .before .before .before .before .before .before .before .before .before .before .before .before .before .before .before .before .before .before .before .before .before .before .run-hand in
     let x = r .ensures .1 (a .args .bank .now) (a .args .marks .now) (a .args .recs .now) (a .args .sides .now) p in
@@ -150,7 +152,8 @@ same-length-13 c = search needs
 
 returns-3 : tie.Need-returns-3
 returns-3 c =
-    let a = c .before .before .before .before .before .before .before .before .before .before .before .before .before .before .before .before .before .before .before .before .before .before .before .before .before .before .before .before .before .before .before in
+    let half = c .before .before .before .before .before .before .before .before .before .before .before .before .before .before .before in
+    let a = half .before .before .before .before .before .before .before .before .before .before .before .before .before .before .before .before in
     let cells = a .args .cells .now in
     let words = a .args .words .now in
     let h = a .args .hand in
@@ -204,7 +207,8 @@ same-length-19 c = search needs
 
 returns-4 : tie.Need-returns-4
 returns-4 c =
-    let a = c .before .before .before .before .before .before .before .before .before .before .before .before .before .before .before .before .before .before .before .before .before .before .before .before .before .before .before .before .before .before in
+    let half = c .before .before .before .before .before .before .before .before .before .before .before .before .before .before .before in
+    let a = half .before .before .before .before .before .before .before .before .before .before .before .before .before .before .before in
     let cells = a .args .cells .now in
     let words = a .args .words .now in
     let h = a .args .hand in

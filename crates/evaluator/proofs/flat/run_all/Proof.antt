@@ -39,7 +39,8 @@ loop-less c = c .before .before .before .before .before .before .before .before 
 
 loop-again : tie.Need-loop-again Inv-loop μ-loop
 loop-again c =
-    let a = c .before .before .before .before .before .before .before .before .before .before .before .before .before .before .before .before .before .before .before .before .before .before .before .before .before .before .before .before .before .before in
+    let half = c .before .before .before .before .before .before .before .before .before .before .before .before .before .before .before in
+    let a = half .before .before .before .before .before .before .before .before .before .before .before .before .before .before .before in
     let l = c .before .before .before .before .before .before .before .before .before .before .before .before .before .before .before .before .before .before .before .before .before .loop in (
       leads-on (a .args .cells .now) (a .args .words .now) (a .args .interval) (l .inv .0)
           (c .before .before .before .before .before .before .before .before .before .before .before .before .advance .ensures .1),

@@ -71,7 +71,8 @@ same-length-6 c = search needs
 
 returns : tie.Need-returns
 returns c =
-    let a = c .before .before .before .before .before .before .before .before .before .before .before .before .before .before .before .before .before .before .before .before .before .before .before .before .before .before .before .before .before .before .before .before in
+    let half = c .before .before .before .before .before .before .before .before .before .before .before .before .before .before .before .before in
+    let a = half .before .before .before .before .before .before .before .before .before .before .before .before .before .before .before .before in
     let cells = a .args .cells .now in
     let rows = rowsOf (a .args .nums .now) (a .args .kinds .now) (a .args .bank .now) (a .args .marks .now) (a .args .recs .now) (a .args .sides .now) in
     let can = can-step cells (a .args .words .now) (a .args .interval) (a .args .hand) rows (a .pre .0) (a .pre .1) (a .pre .2) in
