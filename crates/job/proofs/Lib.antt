@@ -3,3 +3,4 @@ pub mod Asking
 pub mod Replaying
 pub mod Running
 pub mod PlainReport
+pub mod PlainRun

@@ -1,27 +1,19 @@
--- An accepted job, run: its fresh start is a state of the shape, and the loop from there is the run of the definition. And the text.
-use mathlib.Core.Path.{_≡_, sym, ap, _∙_, subst⁻¹, subst}
+-- An accepted job, run in rounds: its fresh start is a state of the shape, and the rounds from there are those of the definition. And the text.
+use mathlib.Core.Path.{_≡_, sym, ap, _∙_, subst}
 use mathlib.Core.Bool.{true}
 use mathlib.Core.List.{List}
 use Prim.Native.Nat.{ℕ, _^_, _<_}
-use native.Mathlib.Omega.{arith}
 use lib.IntN.{ℤ}
 use lib.ListN.{length}
 use lib.Seq.{sets}
-use borrow.Author.Tests.{eq-eqb, ne-eqb, eqb-true}
-use Rattle.image.specs.Layout.{programCells, cellsIn, programOf}
-use Rattle.image.specs.Questions.{programNo}
+use borrow.Author.Tests.{eq-eqb, ne-eqb}
+use Rattle.image.specs.Layout.{cellsIn}
 use Rattle.drive.specs.declared.State.{State}
-use Rattle.drive.specs.declared.Driven.{Driven}
 use Rattle.machine.specs.declared.Dispatched.{Dispatched}
 use Rattle.machine.specs.Dispatching.{lanesAllowed, dispatched}
 use Rattle.machine.proofs.DispatchLaws.{passed-dispatch, dispatch-accepted}
 use Rattle.machine.specs.Starting.{fresh, empty}
-use Rattle.drive.specs.Shape.{shape}
-use Rattle.turns.specs.declared.course.Course.the-variants.{Passes}
-use Rattle.drive.specs.Driving.{startsIn, driven}
 use Rattle.drive.proofs.Intervals.{interval-fits}
-use Rattle.drive.proofs.Owning.{places-some}
-use Rattle.machine.proofs.Picked.{starts-in}
 use Rattle.drive.proofs.ShapeLaws.{Fits, fits-shape}
 use Rattle.machine.proofs.StartLaws.{StartAccepted, start-accepted, started-fresh, fresh-fits}
 use Rattle.orders.specs.Demand.{Job, startOn}
@@ -48,22 +40,6 @@ module _ (bytes : List ℕ) (accepted : jobNo bytes ≡ 0) where
       (r : interval ≡ jobInterval bytes) (s : registers ≡ jobRegisters bytes) {m : State} (e : m ≡ fresh places interval registers) where
     its-state : m ≡ fresh (j .places) (j .interval) (j .registers)
     its-state = e ∙ (λ i. fresh (q i) (r i) (s i))
-
-    -- what the loop asks of a fresh start
-    pub fresh-ready : (budget : ℕ) → (programNo cells ≡ 0) × (length cells ≡ programCells) × (shape (programOf cells) m ≡ true) × (startsIn (Passes 0 budget) m ≡ true)
-    fresh-ready budget =
-        let x : Fits (j .cells) (j .interval) (j .places) m = subst⁻¹ (Fits (j .cells) (j .interval) (j .places)) its-state (fresh-fits start) in (
-          ap programNo p ∙ start .allowed .program,
-          ap length p ∙ eqb-true (length (j .cells)) programCells (start .lent .whole),
-          ap (λ (c : List ℕ). shape (programOf c) m) p ∙ fits-shape (start .allowed) m x,
-          starts-in m 0 budget (omega (arith, x .its-places, places-some (j .places) (start .allowed .places-allowed))),
-        )
-
-    pub run-agrees : {words : List ℤ} (t : words ≡ jobWords bytes) (order : List ℕ) (budget : ℕ) {d : Driven} {report : Report} → d ≡ driven cells words m order (Passes 0 budget)
-        → report ≡ reportOf (d .state) (d .picks) → report ≡ reportIn bytes budget
-    run-agrees t order budget f g =
-        let first : m ≡ startOn j (empty 0 0) = its-state ∙ sym (started-fresh (empty 0 0) (j .cells) (j .places) (j .interval) (j .registers) (j .words) (start-agrees bytes accepted)) in
-        g ∙ ap (λ (o : Driven). reportOf (o .state) (o .picks)) (f ∙ (λ i. driven (p i) (t i) (first i) order (Passes 0 budget)))
 
     -- in rounds: none of the dispatcher's questions is answered with no
     pub rounds-agree : {words : List ℤ} (t : words ≡ jobWords bytes) (lanes budget : ℕ) → lanesAllowed lanes ≡ true → {d : Dispatched} {report : Report}

@@ -3,3 +3,4 @@ pub mod Job
 pub mod Replay
 pub mod Run
 pub mod Dispatch
+pub mod Evaluated

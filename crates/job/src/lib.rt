@@ -1,4 +1,5 @@
 // The exports: what a program in C or another language calls. Numbers and byte slices only.
+mod evaluating;
 mod input;
 
 use drive::State;
@@ -28,6 +29,13 @@ ghost use Rattle.job.specs.Dispatch.{roundsIn, roundsReportIn, dispatchJ
 
 // The words that fit into the small one of a job's two buffers.
 const FEW_WORDS: usize = 256;
+
+// The instructions of a program whose decoded numbers fit into the small one of its two buffers; the numbers of both.
+const FEW_INSTRUCTIONS: u64 = 128;
+
+const FEW_NUMBERS: usize = 512;
+
+const MOST_NUMBERS: usize = 4096;
 
 // The image check: 0, or the number of the first question, 1 to 9, that is answered with no.
 #[no_mangle]
@@ -83,8 +91,8 @@ pub extern "C" fn tpal_replay(job: &[u8], order: &[u8], state: &mut [u8]) -> u8
     0
 }
 
-// An accepted job's run, whose words go to the lent slice. The questions of start and run have all been put, and a fresh start meets the
-// shape test: so it goes on without them.
+// An accepted job's run, whose words go to the lent slice; the decoded program goes to a small buffer for most jobs. The questions of start and run
+// have all been put, and the report shows no picks: so the job is evaluated, without slots and without a state.
 fn run_job(job: &[u8], cells: &[u64], words: &mut [i64], budget: u64) -> Report
     requires { ⌜ (jobNo (now job) ≡ 0) × (now cells ≡ cellsIn (jobImage (now job))) × (length (now words) ≡ wordCount (now job)) ⌝ }
     ensures { λ r. ⌜ r ≡ reportIn (now (job .entry)) budget ⌝ }
@@ -94,16 +102,13 @@ fn run_job(job: &[u8], cells: &[u64], words: &mut [i64], budget: u64) -> Report
     input::read_words(job, words);
     let places = input::places_of(job);
     let interval = input::interval_of(job);
-    let fresh = machine::start::fresh_state(places, interval as u16, &registers);
-    let driven = drive::picks::drive(
-        cells,
-        words,
-        fresh,
-        &drive::picks::NO_ORDER,
-        turns::course::Course::Passes(0, budget),
-    );
-    let last = driven.state;
-    report::report_of(last, driven.picks)
+    let n = evaluating::allowance_of(budget);
+    if image::layout::instruction_count(cells) <= FEW_INSTRUCTIONS {
+        let mut few = [0u64; FEW_NUMBERS];
+        return evaluating::evaluate_job(cells, &mut few, words, interval, places, &registers, n);
+    }
+    let mut code = [0u64; MOST_NUMBERS];
+    evaluating::evaluate_job(cells, &mut code, words, interval, places, &registers, n)
 }
 
 // The same with a buffer for the words, which has to be cleared: a small one for most jobs.

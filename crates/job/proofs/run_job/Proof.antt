@@ -1,10 +1,9 @@
 -- `run_job` meets its contract.
-use mathlib.Core.Path.{refl, sym, subst⁻¹}
-use mathlib.Core.List.{[], _∷_}
-use Rattle.job.proofs.Replaying.{accepted-ends}
-use Rattle.job.proofs.Running.{interval-small, fresh-ready, run-agrees}
-use borrow.Author.Needs.{needs}
+use mathlib.Core.Path.{refl}
 use native.Mathlib.Omega.{arith}
+use Rattle.job.proofs.Replaying.{accepted-ends}
+use Rattle.job.proofs.PlainRun.{cells-stored, few-instructions, room-in, can-run, job-reported}
+use borrow.Author.Needs.{needs}
 use Rattle.job.proofs.run_job.Statement.{statement}
 use Rattle.job.proofs.run_job.Tie as tie
 
@@ -12,56 +11,64 @@ slice-aggregate-read-registers : tie.Need-slice-aggregate-read-registers
 slice-aggregate-read-registers c = search needs
 
 read-registers-requires : tie.Need-read-registers-requires
-read-registers-requires c κs = ((accepted-ends (c .before .before .before .args .job .now) (c .before .before .before .pre .0)), refl)
+read-registers-requires c κs = let a = c .before .before .before in (accepted-ends (a .args .job .now) (a .pre .0), refl)
 
 read-words-requires : tie.Need-read-words-requires
-read-words-requires c κs = ((accepted-ends (c .before .before .before .before .before .before .args .job .now) (c .before .before .before .before .before .before .pre .0)), c .before .before .before .before .before .before .pre .2)
+read-words-requires c κs = let a = c .before .before .before .before .before .before in (accepted-ends (a .args .job .now) (a .pre .0), a .pre .2)
 
 places-of-requires : tie.Need-places-of-requires
-places-of-requires c κs = (accepted-ends (c .before .before .before .before .before .before .before .before .args .job .now) (c .before .before .before .before .before .before .before .before .pre .0))
+places-of-requires c κs = let a = c .before .before .before .before .before .before .before .before in accepted-ends (a .args .job .now) (a .pre .0)
 
 interval-of-requires : tie.Need-interval-of-requires
-interval-of-requires c κs = (accepted-ends (c .before .before .before .before .before .before .before .before .before .args .job .now) (c .before .before .before .before .before .before .before .before .before .pre .0))
+interval-of-requires c κs = let a = c .before .before .before .before .before .before .before .before .before in accepted-ends (a .args .job .now) (a .pre .0)
 
-cast-fresh-state : tie.Need-cast-fresh-state
-cast-fresh-state c =
-    let c10 = c .before .before .before .before .before .before .before .before .before .before in
-    record { fits = omega (arith, c .interval-of .ensures, interval-small (c10 .args .job .now) (c10 .pre .0)) }
+allowance-of-requires : tie.Need-allowance-of-requires
+allowance-of-requires c κs = search needs
 
-slice-aggregate-fresh-state : tie.Need-slice-aggregate-fresh-state
-slice-aggregate-fresh-state c = search needs
+instruction-count-requires : tie.Need-instruction-count-requires
+instruction-count-requires c κs = let a = c .before .before .before .before .before .before .before .before .before .before .before in cells-stored (a .args .job .now) (a .pre .0) (a .pre .1)
 
-fresh-state-requires : tie.Need-fresh-state-requires
-fresh-state-requires c κs = search needs
+slice-aggregate-evaluate-job : tie.Need-slice-aggregate-evaluate-job
+slice-aggregate-evaluate-job c = search needs
 
-slice-aggregate-drive : tie.Need-slice-aggregate-drive
-slice-aggregate-drive c = search needs
+slice-aggregate-evaluate-job-2 : tie.Need-slice-aggregate-evaluate-job-2
+slice-aggregate-evaluate-job-2 c = search needs
 
-drive-requires : tie.Need-drive-requires
-drive-requires c κs =
-    let f = c .before .before in
-    let i = f .before .before in
-    let r = i .before .before .before .before .before .before in
-    let start = r .before .before .before .before in
-    fresh-ready (start .args .job .now) (start .pre .0) (start .pre .1) (i .before .places-of .ensures) (i .interval-of .ensures) (r .read-registers .ensures)
-    (f .fresh-state .ensures) (start .args .budget)
-
-report-of-requires : tie.Need-report-of-requires
-report-of-requires c κs = search needs
+evaluate-job-requires : tie.Need-evaluate-job-requires
+evaluate-job-requires c κs =
+    let a = c .before .before .before .before .before .before .before .before .before .before .before .before .before .before .before .before in
+    can-run (a .args .job .now) (a .pre .0) (a .pre .1) (c .before .before .before .before .before .before .before .places-of .ensures) (c .before .before .before .before .before .before .before .before .before .before .before .before .read-registers .ensures) (a .args .budget) (c .before .before .before .before .before .allowance-of .ensures) _
+    (room-in 512 (omega (arith, c .before .before .before .before .instruction-count .ensures, c .before .before .before .if1 .taken)))
 
 same-length : tie.Need-same-length
 same-length c = search needs
 
 returns : tie.Need-returns
 returns c =
-    let d = c .before .before in
-    let f = d .before .before .before in
-    let i = f .before .before in
-    let w = i .before .before .before in
-    let r = w .before .before .before in
-    let start = r .before .before .before .before in
-    run-agrees (start .args .job .now) (start .pre .0) (start .pre .1) (i .before .places-of .ensures) (i .interval-of .ensures) (r .read-registers .ensures)
-    (f .fresh-state .ensures) (w .read-words .ensures) (0 ∷ []) (start .args .budget) (d .drive .ensures) (c .report-of .ensures)
+    let a = c .before .before .before .before .before .before .before .before .before .before .before .before .before .before .before .before .before .before in
+    job-reported (a .args .job .now) (a .pre .0) (a .pre .1) (c .before .before .before .before .before .before .before .before .before .places-of .ensures) (c .before .before .before .before .before .before .before .before .before .before .before .before .before .before .read-registers .ensures) (a .args .budget) (c .before .before .before .before .before .before .before .allowance-of .ensures)
+    (c .before .before .before .before .before .before .before .before .interval-of .ensures) (c .before .before .before .before .before .before .before .before .before .before .before .read-words .ensures) (c .before .evaluate-job .ensures)
+
+slice-aggregate-evaluate-job-3 : tie.Need-slice-aggregate-evaluate-job-3
+slice-aggregate-evaluate-job-3 c = search needs
+
+slice-aggregate-evaluate-job-4 : tie.Need-slice-aggregate-evaluate-job-4
+slice-aggregate-evaluate-job-4 c = search needs
+
+evaluate-job-requires-2 : tie.Need-evaluate-job-requires-2
+evaluate-job-requires-2 c κs =
+    let a = c .before .before .before .before .before .before .before .before .before .before .before .before .before .before .before .before in
+    can-run (a .args .job .now) (a .pre .0) (a .pre .1) (c .before .before .before .before .before .before .before .places-of .ensures) (c .before .before .before .before .before .before .before .before .before .before .before .before .read-registers .ensures) (a .args .budget) (c .before .before .before .before .before .allowance-of .ensures) _
+    (room-in 4096 (omega (arith, few-instructions (a .args .job .now) (a .pre .0) (a .pre .1))))
+
+same-length-2 : tie.Need-same-length-2
+same-length-2 c = search needs
+
+returns-2 : tie.Need-returns-2
+returns-2 c =
+    let a = c .before .before .before .before .before .before .before .before .before .before .before .before .before .before .before .before .before .before in
+    job-reported (a .args .job .now) (a .pre .0) (a .pre .1) (c .before .before .before .before .before .before .before .before .before .places-of .ensures) (c .before .before .before .before .before .before .before .before .before .before .before .before .before .before .read-registers .ensures) (a .args .budget) (c .before .before .before .before .before .before .before .allowance-of .ensures)
+    (c .before .before .before .before .before .before .before .before .interval-of .ensures) (c .before .before .before .before .before .before .before .before .before .before .before .read-words .ensures) (c .before .evaluate-job2 .ensures)
 
 pub run-job-spec : {M : Type 1} → statement M
 run-job-spec =
@@ -72,11 +79,15 @@ run-job-spec =
     read-words-requires
     places-of-requires
     interval-of-requires
-    cast-fresh-state
-    slice-aggregate-fresh-state
-    fresh-state-requires
-    slice-aggregate-drive
-    drive-requires
-    report-of-requires
+    allowance-of-requires
+    instruction-count-requires
+    slice-aggregate-evaluate-job
+    slice-aggregate-evaluate-job-2
+    evaluate-job-requires
     same-length
-    returns)
+    returns
+    slice-aggregate-evaluate-job-3
+    slice-aggregate-evaluate-job-4
+    evaluate-job-requires-2
+    same-length-2
+    returns-2)
