@@ -185,19 +185,45 @@ fn compare_text(
     Ok(())
 }
 
-/// Runs one case.
+/// More for a job that took so many picks: all but the last, and two below. So one evaluation is cut
+/// at several places.
+fn smaller(picks: u64, random: &mut Random) -> [u64; 3] {
+    let below = picks.min(ENDLESS);
+    let mut cut = || random.below(below as usize + 1) as u64;
+    [below.saturating_sub(1), cut(), cut()]
+}
+
+/// Runs one case; where the job is accepted, also with smaller budgets.
 pub fn run_case(seed: u64, number: u64, coverage: &mut BudgetsCoverage) -> Result<(), String> {
-    let case = case(seed, number);
-    let salt = Random::new(seed.rotate_left(16), number).bits();
-    let report = compare(&case, salt).map_err(|what| {
+    let mut case = case(seed, number);
+    let random = &mut Random::new(seed.rotate_left(16), number);
+    let report = compare_case(seed, number, &case, random.bits())?;
+    coverage.count(&case, &report);
+    if let Ok(report) = report {
+        for budget in smaller(report.picks, random) {
+            case.budget = budget;
+            if let Ok(report) = compare_case(seed, number, &case, random.bits())? {
+                coverage.count_again(&report);
+            }
+        }
+    }
+    Ok(())
+}
+
+/// `compare`; the error says which case it was.
+fn compare_case(
+    seed: u64,
+    number: u64,
+    case: &BudgetCase,
+    salt: u64,
+) -> Result<Result<Report, u8>, String> {
+    compare(case, salt).map_err(|what| {
         let beside = format!(
             "budget {}, report of {} bytes, text of {} bytes",
             case.budget, case.report_len, case.text_len
         );
         difference("soak_jobs", seed, number, &what, &beside, &case.job)
-    })?;
-    coverage.count(&case, &report);
-    Ok(())
+    })
 }
 
 /// Runs the cases of these numbers. What differs ends it.

@@ -109,6 +109,12 @@ impl BudgetsCoverage {
         }
     }
 
+    /// The same job with a smaller budget.
+    pub fn count_again(&mut self, report: &Report) {
+        self.met.sum("smaller budgets", 1);
+        self.met.sum("picks", report.picks);
+    }
+
     fn count_report(&mut self, case: &BudgetCase, report: &Report) {
         self.met.sum("picks", report.picks);
         self.met.meet(&end(report.end, END_SPENT));
