@@ -1,18 +1,18 @@
--- Banks in longer rows: stores of one after the other are `sets`, what is read between them is what was there before. And the pairs of a join.
+-- Banks in longer rows: a row stored to one element after the other makes `sets`, one loaded so makes `reads`. And the pairs of a join.
 use mathlib.Core.Path.{_≡_, refl, sym, ap, _∙_}
 use mathlib.Core.List.{List, [], _∷_, _++_}
 use Prim.Native.Nat.{ℕ, suc, _+_, _-_, _/_, _%_, _<_, _≤_}
 use native.Mathlib.Omega.{arith}
 use lib.ListN.{length, getD, set, length-set, take}
-use lib.Seq.{sets, take-suc, take-all, length-take-le, getD-set-other}
+use lib.Seq.{sets, take-suc, take-all, length-take-le}
 use Rattle.task.specs.declared.Register.{Register}
 use Rattle.task.specs.Frames.{zeroRegister}
 use Rattle.task.specs.Stretches.{reads}
 use Rattle.task.specs.Step.{copied}
 use Rattle.task.proofs.Copying.{copies-first, copies-none}
-use Rattle.task.proofs.StretchLaws.{length-reads, getD-reads, reads-same, reads-all, reads-snoc}
+use Rattle.task.proofs.StretchLaws.{length-reads, reads-same, reads-all, reads-snoc}
 use Rattle.evaluator.specs.Registers.{valueOf, registersOf, Sized}
-use Rattle.evaluator.specs.Banks.{bankFrom, Exchanged}
+use Rattle.evaluator.specs.Banks.{bankFrom}
 use Rattle.evaluator.proofs.RegisterLaws.{written, value-at}
 
 module _ {A : Type 0} where
@@ -24,10 +24,8 @@ module _ {A : Type 0} where
   length-sets [] l b = refl
   length-sets (x ∷ xs) l b = length-sets xs (set l b x) (suc b) ∙ length-set l b x
 
-  -- past them nothing changes
-  getD-past : (xs l : List A) (b i : ℕ) (d : A) → b + length xs ≤ i → getD (sets l b xs) i d ≡ getD l i d
-  getD-past [] l b i d h = refl
-  getD-past (x ∷ xs) l b i d h = getD-past xs (set l b x) (suc b) i d (omega arith) ∙ getD-set-other l b i x d (omega arith)
+  pub saves-length : (xs l : List A) (b i : ℕ) {k : List A} → k ≡ sets l b (take i xs) → length k ≡ length l
+  saves-length xs l b i e = ap length e ∙ length-sets (take i xs) l b
 
   -- one more
   pub saves-one : (xs l : List A) (b i : ℕ) (d : A) {k : List A} → i < length xs → k ≡ sets l b (take i xs)
@@ -40,53 +38,40 @@ module _ {A : Type 0} where
   pub saves-all : (xs l : List A) (b i : ℕ) {k : List A} → length xs ≤ i → k ≡ sets l b (take i xs) → k ≡ sets l b xs
   saves-all xs l b i h e = e ∙ ap (sets l b) (take-all i xs h)
 
--- ---- a row and a stretch of a longer one change places, the first i elements so far
+-- ---- a row loaded with a stretch of a longer one: its first i elements so far, one more, all
 
-pub record Changed (row kept row′ kept′ : List ℕ) (at i : ℕ) : Type 0 where
-  pub so-taken : row′ ≡ sets row 0 (reads 0 kept at i)
-  pub so-given : kept′ ≡ sets kept at (take i row)
-
-module _ (row kept : List ℕ) (at : ℕ) (full : length row ≡ 16) where
-  pub none-changed : Changed row kept row kept at 0
+module _ {A : Type 0} (d : A) where
+  pub loads-none : (row kept : List A) (at : ℕ) → row ≡ sets row 0 (reads d kept at 0)
   unfolding reads
-  none-changed = record { so-taken = refl; so-given = refl }
+  loads-none row kept at = refl
 
-  module _ (row′ kept′ : List ℕ) (i : ℕ) (h : Changed row kept row′ kept′ at i) where
-    pub row-length : length row′ ≡ 16
-    row-length = ap length (h .so-taken) ∙ length-sets (reads 0 kept at i) row 0 ∙ full
+  pub loads-length : (row kept : List A) (at i : ℕ) {row′ : List A} → row′ ≡ sets row 0 (reads d kept at i) → length row′ ≡ length row
+  loads-length row kept at i e = ap length e ∙ length-sets (reads d kept at i) row 0
 
-    pub kept-length : length kept′ ≡ length kept
-    kept-length = ap length (h .so-given) ∙ length-sets (take i row) kept at
+  pub loads-one : (row kept : List A) (at i : ℕ) {row′ : List A} → row′ ≡ sets row 0 (reads d kept at i)
+      → set row′ i (getD kept (at + i) d) ≡ sets row 0 (reads d kept at (i + 1))
+  loads-one row kept at i e =
+      let q : i + 1 ≡ suc i = omega arith in
+      let n : 0 + length (reads d kept at i) ≡ i = omega (arith, length-reads d kept at i) in
+      rw (e, q, reads-snoc d kept at i, sets-snoc (reads d kept at i) row 0 (getD kept (at + i) d)) (rw n refl)
 
-    module _ (more : i < 16) where
-      taken-length : length (take i row) ≡ i
-      taken-length = length-take-le i row (omega (arith, full))
+  -- a row as a stretch of itself
+  pub reads-row : (row : List A) (n : ℕ) → length row ≡ n → reads d row 0 n ≡ row
+  reads-row row n e = ap (reads d row 0) (sym e) ∙ reads-all d row
 
-      old-number : getD row′ i 0 ≡ getD row i 0
-      old-number = ap (λ l. getD l i 0) (h .so-taken) ∙ getD-past (reads 0 kept at i) row 0 i 0 (omega (arith, length-reads 0 kept at i))
+  pub loads-all : (row kept : List A) (at n i : ℕ) {row′ : List A} → length row ≡ n → n ≤ i → i ≤ n → row′ ≡ sets row 0 (reads d kept at i)
+      → row′ ≡ reads d kept at n
+  loads-all row kept at n i full l m e =
+      let q : i ≡ n = omega arith in
+      let taken = length-reads d kept at n in
+      let long : length (sets row 0 (reads d kept at n)) ≡ length (reads d kept at n) = length-sets (reads d kept at n) row 0 ∙ full ∙ sym taken in
+      e ∙ ap (λ j. sets row 0 (reads d kept at j)) q
+      ∙ sym (reads-row (sets row 0 (reads d kept at n)) (length (reads d kept at n)) long)
+      ∙ reads-same d (reads d kept at n) row 0 (omega (arith, full, taken))
 
-      old-kept : getD kept′ (at + i) 0 ≡ getD kept (at + i) 0
-      old-kept = ap (λ l. getD l (at + i) 0) (h .so-given) ∙ getD-past (take i row) kept at (at + i) 0 (omega (arith, taken-length))
-
-      pub one-changed : Changed row kept (set row′ i (getD kept′ (at + i) 0)) (set kept′ (at + i) (getD row′ i 0)) at (i + 1)
-      one-changed =
-          let q : i + 1 ≡ suc i = omega arith in
-          let n : 0 + length (reads 0 kept at i) ≡ i = omega (arith, length-reads 0 kept at i) in
-          record {
-            so-taken = rw (old-kept, h .so-taken, q, reads-snoc 0 kept at i, sets-snoc (reads 0 kept at i) row 0 (getD kept (at + i) 0)) (rw n refl);
-            so-given = rw old-number (saves-one row kept at i 0 (omega (arith, full)) (h .so-given));
-          }
-
-    pub all-changed : 16 ≤ i → i ≤ 16 → Exchanged row kept row′ kept′ at
-    all-changed l m =
-        let q : i ≡ 16 = omega arith in
-        let e : row′ ≡ sets row 0 (reads 0 kept at 16) = h .so-taken ∙ ap (λ n. sets row 0 (reads 0 kept at n)) q in
-        record { taken = e ∙ whole (reads 0 kept at 16) (length-reads 0 kept at 16); given = saves-all row kept at i (omega (arith, full)) (h .so-given) }
-      where
-        whole : (vs : List ℕ) → length vs ≡ 16 → sets row 0 vs ≡ vs
-        whole vs n =
-            let z : length (sets row 0 vs) ≡ length vs = length-sets vs row 0 ∙ full ∙ sym n in
-            sym (reads-all 0 (sets row 0 vs)) ∙ ap (reads 0 (sets row 0 vs) 0) z ∙ reads-same 0 vs row 0 (omega (arith, full, n))
+  -- by a row between
+  pub loads-twice : (kept : List A) (at n : ℕ) {row row′ : List A} → row ≡ reads d kept at n → row′ ≡ reads d row 0 n → row′ ≡ reads d kept at n
+  loads-twice kept at n {row} e f = f ∙ reads-row row n (ap length e ∙ length-reads d kept at n) ∙ e
 
 -- ---- the pairs of a join
 
@@ -108,12 +93,12 @@ pub merges-none : (nums kinds theirs marks : List ℕ) (n packed : ℕ) (start :
     → registersOf nums kinds ≡ start
 merges-none nums kinds theirs marks n packed start l h = sym (h ∙ copies-none (registersOf theirs marks) n packed (registersOf nums kinds) l)
 
--- one more, from a bank of longer rows
-pub merges-kept : (nums kinds theirs marks : List ℕ) (at n packed : ℕ) {nums′ kinds′ : List ℕ} (start : List Register) → 0 < n
-    → start ≡ copied (bankFrom theirs marks at) n packed (registersOf nums kinds)
-    → nums′ ≡ set nums (packed % 16) (getD theirs (at + packed / 16 % 16) 0) → kinds′ ≡ set kinds (packed % 16) (getD marks (at + packed / 16 % 16) 0)
-    → start ≡ copied (bankFrom theirs marks at) (n - 1) (packed / 256) (registersOf nums′ kinds′)
-merges-kept nums kinds theirs marks at n packed start more h p q =
-    merges-one nums kinds (reads 0 theirs at 16) (reads 0 marks at 16) n packed start (length-reads 0 theirs at 16, length-reads 0 marks at 16) more h
-    (p ∙ ap (set nums (packed % 16)) (sym (getD-reads 0 theirs at 16 (packed / 16 % 16) (omega arith))))
-    (q ∙ ap (set kinds (packed % 16)) (sym (getD-reads 0 marks at 16 (packed / 16 % 16) (omega arith))))
+-- the pairs of rows that were loaded
+pub merges-loaded : (nums kinds bank marks : List ℕ) (at count bytes : ℕ) {own own-kinds other other-kinds : List ℕ} {end : List Register} → Sized nums kinds
+    → own ≡ reads 0 nums 0 16 → own-kinds ≡ reads 0 kinds 0 16 → other ≡ reads 0 bank at 16 → other-kinds ≡ reads 0 marks at 16
+    → end ≡ copied (registersOf own own-kinds) count bytes (registersOf other other-kinds)
+    → end ≡ copied (registersOf nums kinds) count bytes (bankFrom bank marks at)
+merges-loaded nums kinds bank marks at count bytes sized p q r s h =
+    let p′ = p ∙ reads-row 0 nums 16 (sized .0) in
+    let q′ = q ∙ reads-row 0 kinds 16 (sized .1) in
+    h ∙ (λ j. copied (registersOf (p′ j) (q′ j)) count bytes (registersOf (r j) (s j)))

@@ -30,7 +30,7 @@ use Rattle.task.proofs.Counts.{within-is}
 use Rattle.task.proofs.StretchLaws.{length-reads}
 use Rattle.evaluator.specs.declared.Hand.{Hand}
 use Rattle.evaluator.specs.declared.Kept.{Kept}
-use Rattle.evaluator.specs.Registers.{registersOf, Sized}
+use Rattle.evaluator.specs.Registers.{registersOf}
 use Rattle.evaluator.specs.Banks.{bankFrom, Exchanged, forkOf, forksOf}
 use Rattle.evaluator.specs.Turns.{rules}
 use Rattle.evaluator.specs.Sides.{Good}
@@ -326,32 +326,3 @@ module _ (cells : List ℕ) (h : Hand) (rows : Rows) (p : Point cells h rows) (e
                 ∙ ap (λ f. run (rules cells words interval) (h .left) (onward (rules cells words interval) f (pendingFrom (keptFrame joint) d))) (sym is-join)
                 ∙ ap (λ m. run (rules cells words interval) (h .left) (onward (rules cells words interval) (handFrame (joinedOf h k n pc) joint) (pendingFrom (keptFrame joint) m))) (sym x);
           })
-
-    -- the rows after the exchange and the pairs
-    module _ {nums kinds bank marks : List ℕ} (xn : Exchanged (rows .nums) (rows .bank) nums bank (16 * d)) (xk : Exchanged (rows .kinds) (rows .marks) kinds marks (16 * d)) where
-      given-is : (at : ℕ) → bankFrom bank marks at ≡ bankFrom (sets (rows .bank) (16 * d) (rows .nums)) (sets (rows .marks) (16 * d) (rows .kinds)) at
-      given-is at = ap (λ l. registersOf (reads 0 l at 16) (reads 0 marks at 16)) (xn .given)
-          ∙ ap (λ l. registersOf (reads 0 (sets (rows .bank) (16 * d) (rows .nums)) at 16) (reads 0 l at 16)) (xk .given)
-
-      pub exchanged-sized : Sized nums kinds
-      exchanged-sized = (ap length (xn .taken) ∙ length-reads 0 (rows .bank) (16 * d) 16, ap length (xk .taken) ∙ length-reads 0 (rows .marks) (16 * d) 16)
-
-      pub exchanged-bank : length bank ≡ 96
-      exchanged-bank = ap length (xn .given) ∙ length-sets (rows .nums) (rows .bank) (16 * d) ∙ p .full .bank-full
-
-      pub exchanged-marks : length marks ≡ 96
-      exchanged-marks = ap length (xk .given) ∙ length-sets (rows .kinds) (rows .marks) (16 * d) ∙ p .full .marks-full
-
-      pub merged : (nums′ kinds′ : List ℕ) (count bytes : ℕ) → registersOf nums′ kinds′ ≡ copied (bankFrom bank marks (16 * d)) count bytes (registersOf nums kinds)
-          → registersOf nums′ kinds′ ≡ copied (registersOf (rows .nums) (rows .kinds)) count bytes (bankFrom (rows .bank) (rows .marks) (16 * d))
-      merged nums′ kinds′ count bytes m =
-          m
-          ∙ ap (λ c. copied c count bytes (registersOf nums kinds))
-          (given-is (16 * d) ∙ bank-same (rows .bank) (rows .marks) (rows .nums) (rows .kinds) d (p .full .sized) (p .full .bank-full) (p .full .marks-full) d-inside)
-          ∙ ap (copied (registersOf (rows .nums) (rows .kinds)) count bytes)
-          (ap (λ l. registersOf l kinds) (xn .taken) ∙ ap (registersOf (reads 0 (rows .bank) (16 * d) 16)) (xk .taken))
-
-      pub exchanged-under : (nums′ kinds′ : List ℕ) (i : ℕ) → i < d → keptFrame (rowsOf nums′ kinds′ bank marks (rows .recs) (rows .sides)) i ≡ keptFrame rows i
-      exchanged-under nums′ kinds′ i l = kept-by (keptOf (rows .sides) i) (keptOf (rows .sides) i) (i + 1) (forksOf (rows .recs) (i + 1)) (forksOf (rows .recs) (i + 1))
-          (bankFrom bank marks (16 * i)) (bankFrom (rows .bank) (rows .marks) (16 * i)) refl refl
-          (given-is (16 * i) ∙ bank-other (rows .bank) (rows .marks) (rows .nums) (rows .kinds) d i (p .full .sized) (λ x. absurd (omega (arith, x, l))))

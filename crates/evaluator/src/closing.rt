@@ -2,7 +2,7 @@
 use crate::Hand;
 use crate::Kept;
 use crate::banks::exchange;
-use crate::banks::merge;
+use crate::banks::join_registers;
 use crate::keeping::keep;
 use crate::keeping::kept_at;
 use image::layout;
@@ -114,7 +114,6 @@ pub fn join_parent(
     let b = (recs[at] / 4294967296) as usize;
     let block = layout::block_of(cells, b);
     let first = layout::first_of(cells, block.label as usize) as usize;
-    exchange(nums, kinds, bank, marks, 16 * at);
-    merge(nums, kinds, bank, marks, 16 * at, block.pairs, block.packed);
+    join_registers(nums, kinds, bank, marks, 16 * at, block.pairs, block.packed);
     joined(hand, k, 0, 4 * first)
 }

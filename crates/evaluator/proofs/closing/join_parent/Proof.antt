@@ -13,7 +13,7 @@ use Rattle.evaluator.specs.Registers.{registersOf}
 use Rattle.evaluator.specs.Banks.{bankFrom}
 use Rattle.evaluator.specs.Hands.{rowsOf, keptOf, joinedOf, FirstFault}
 use Rattle.evaluator.proofs.CloseLaws.{d-inside, span-small, spun-small, places-small, other-places-small, continuation-inside, joint-faulted}
-use Rattle.evaluator.proofs.CloseLaws.{joint-running, join-leads, exchanged-sized, exchanged-bank, exchanged-marks, merged, exchanged-under}
+use Rattle.evaluator.proofs.CloseLaws.{joint-running, join-leads}
 use borrow.Author.Needs.{needs}
 use Rattle.evaluator.proofs.closing.join_parent.Statement.{statement}
 use Rattle.evaluator.proofs.closing.join_parent.Tie as tie
@@ -123,8 +123,8 @@ first-of-requires c κs =
     let l = ok .block b (continuation-inside cells h rows (a .pre .0) (a .pre .1) d deep) .label-below in
     omega (arith, ap (λ (x : Block). x .label) (c .block-of .ensures), ok .block (blockOf cells b .label) l .is-stored)
 
-mul-exchange : tie.Need-mul-exchange
-mul-exchange c =
+mul-join-registers : tie.Need-mul-join-registers
+mul-join-registers c =
     let a = c .before .before .before .before .before .before .before .before .before .before .before .before .before .before .before .before .before .before in
     let cells = a .args .cells .now in
     let h = a .args .hand in
@@ -133,8 +133,8 @@ mul-exchange c =
     let deep : h .depth ≡ suc d = omega (arith, a .pre .2) in
     omega (arith, d-inside cells h rows (a .pre .0) (a .pre .1) d deep)
 
-exchange-requires : tie.Need-exchange-requires
-exchange-requires c κs =
+join-registers-requires : tie.Need-join-registers-requires
+join-registers-requires c κs =
     let a = c .before .before .before .before .before .before .before .before .before .before .before .before .before .before .before .before .before .before in
     let cells = a .args .cells .now in
     let h = a .args .hand in
@@ -147,46 +147,9 @@ exchange-requires c κs =
           (arith, a .pre .0 .full .marks-full, d-inside cells h rows (a .pre .0) (a .pre .1) d deep),
     )
 
-mul-merge : tie.Need-mul-merge
-mul-merge c =
-    let half = c .before .before .before .before .before .before .before .before .before .before .before .before .before .before .before in
-    let a = half .before .before .before .before .before .before .before .before .before .before .before .before .before .before .before .before in
-    let cells = a .args .cells .now in
-    let h = a .args .hand in
-    let rows = rowsOf (a .args .nums .now) (a .args .kinds .now) (a .args .bank .now) (a .args .marks .now) (a .args .recs .now) (a .args .sides .now) in
-    let d = h .depth - 1 in
-    let deep : h .depth ≡ suc d = omega (arith, a .pre .2) in
-    omega (arith, d-inside cells h rows (a .pre .0) (a .pre .1) d deep)
-
-merge-requires : tie.Need-merge-requires
-merge-requires c κs =
-    let half = c .before .before .before .before .before .before .before .before .before .before .before .before .before .before .before in
-    let a = half .before .before .before .before .before .before .before .before .before .before .before .before .before .before .before .before in
-    let cells = a .args .cells .now in
-    let h = a .args .hand in
-    let rows = rowsOf (a .args .nums .now) (a .args .kinds .now) (a .args .bank .now) (a .args .marks .now) (a .args .recs .now) (a .args .sides .now) in
-    let d = h .depth - 1 in
-    let deep : h .depth ≡ suc d = omega (arith, a .pre .2) in
-    let x = c .before .before .before .before .before .before .before .before .before .before .before .before .exchange .ensures in (
-      exchanged-sized cells h rows (a .pre .0) (a .pre .1) d deep (x .0) (x .1),
-      omega (
-        arith,
-        exchanged-bank cells h rows (a .pre .0)
-            (a .pre .1) d deep (x .0) (x .1),
-        d-inside cells h rows (a .pre .0) (a .pre .1) d deep,
-      ),
-      omega (
-        arith,
-        exchanged-marks cells h rows
-            (a .pre .0) (a .pre .1) d deep (x .0) (x .1),
-        d-inside cells h rows (a .pre .0) (a .pre .1) d deep,
-      ),
-    )
-
 mul-joined : tie.Need-mul-joined
 mul-joined c =
-    let half = c .before .before .before .before .before .before .before .before .before .before .before .before .before .before .before .before .before .before in
-    let a = half .before .before .before .before .before .before .before .before .before .before .before .before .before .before .before .before .before .before in
+    let a = c .before .before .before .before .before .before .before .before .before .before .before .before .before .before .before .before .before .before .before .before .before .before .before in
     let cells = a .args .cells .now in
     let h = a .args .hand in
     let rows = rowsOf (a .args .nums .now) (a .args .kinds .now) (a .args .bank .now) (a .args .marks .now) (a .args .recs .now) (a .args .sides .now) in
@@ -197,24 +160,22 @@ mul-joined c =
     let l = ok .block b (continuation-inside cells h rows (a .pre .0) (a .pre .1) d deep) .label-below in
     omega (
       arith,
-      c .before .before .before .before .before .before .before .before .before .before .before .before .before .before .before .before .before .before .before .before .before .before .first-of .ensures,
+      c .before .before .before .before .before .before .before .before .before .first-of .ensures,
       ap (λ (x : Block). blockOf cells (x .label) .first)
-          (c .before .before .before .before .before .before .before .before .before .before .before .before .before .before .before .before .before .before .before .before .before .before .before .block-of .ensures),
+          (c .before .before .before .before .before .before .before .before .before .before .block-of .ensures),
       ok .block (blockOf cells b .label) l .first-below,
       ok .few-instructions,
     )
 
 joined-requires-2 : tie.Need-joined-requires-2
 joined-requires-2 c κs =
-    let half = c .before .before .before .before .before .before .before .before .before .before .before .before .before .before .before .before .before .before in
-    let a = half .before .before .before .before .before .before .before .before .before .before .before .before .before .before .before .before .before .before in
+    let a = c .before .before .before .before .before .before .before .before .before .before .before .before .before .before .before .before .before .before .before .before .before .before .before in
     let cells = a .args .cells .now in
     let h = a .args .hand in
     let rows = rowsOf (a .args .nums .now) (a .args .kinds .now) (a .args .bank .now) (a .args .marks .now) (a .args .recs .now) (a .args .sides .now) in
     let d = h .depth - 1 in
     let deep : h .depth ≡ suc d = omega (arith, a .pre .2) in
-    let half = c .before .before .before .before .before .before .before .before .before .before .before .before .before in
-    let k = half .before .before .before .before .before .before .before .before .before .before .before .before .before .before .kept-at in
+    let k = c .before .before .before .before .before .before .before .before .before .before .before .before .before .before .kept-at in
     let ks = ap (λ (x : Kept). x .span) (k .ensures) in
     let kp = ap (λ (x : Kept). x .places) (k .ensures) in (
       a .pre .2,
@@ -246,44 +207,37 @@ same-length-4 c = search needs
 
 returns-2 : tie.Need-returns-2
 returns-2 c =
-    let half = c .before .before .before .before .before .before .before .before .before .before .before .before .before .before .before .before .before .before in
-    let a = half .before .before .before .before .before .before .before .before .before .before .before .before .before .before .before .before .before .before .before in
+    let a = c .before .before .before .before .before .before .before .before .before .before .before .before .before .before .before .before .before .before .before .before .before .before .before .before in
     let cells = a .args .cells .now in
     let h = a .args .hand in
     let rows = rowsOf (a .args .nums .now) (a .args .kinds .now) (a .args .bank .now) (a .args .marks .now) (a .args .recs .now) (a .args .sides .now) in
     let d = h .depth - 1 in
     let deep : h .depth ≡ suc d = omega (arith, a .pre .2) in
-    let half = c .before .before .before .before .before .before .before .before .before .before .before .before .before .before in
-    let k = half .before .before .before .before .before .before .before .before .before .before .before .before .before .before .kept-at in
+    let k = c .before .before .before .before .before .before .before .before .before .before .before .before .before .before .before .kept-at in
     let b = getD (a .args .recs .now) d 0 / 4294967296 in
-    let half = c .before .before .before .before .before .before .before .before .before .before .before .before .before in
-    let n = half .before .before .before .before .before .before .before .before .before .before .before .before .before .before .first-fault in
-    let no = c .before .before .before .before .before .before .before .before .before .before .before .before .before .before .before .before .before .before .before .before .before .before .before .before .before .before .if1 .left in
+    let n = c .before .before .before .before .before .before .before .before .before .before .before .before .before .before .first-fault in
+    let no = c .before .before .before .before .before .before .before .before .before .before .before .before .before .if1 .left in
     let z = c .joined2 in
-    let x = c .before .before .before .before .before .before .before .before .before .before .before .before .before .before .before .before .before .before .exchange .ensures in
-    let m = c .before .before .before .before .before .merge .ensures in
-    let t = c .before .before .before .before .before .before .before .before .before .before .before .before .before .before .before .before .before .before .before .before .before .before .before .before .block-of in
-    let first = c .before .before .before .before .before .before .before .before .before .before .before .before .before .before .before .before .before .before .before .before .before .before .before .first-of in
+    let m = c .before .before .before .before .before .join-registers .ensures in
+    let t = c .before .before .before .before .before .before .before .before .before .before .before .block-of in
+    let first = c .before .before .before .before .before .before .before .before .before .before .first-of in
     let f : FirstFault (keptOf (a .args .sides .now) d .what) (h .what) (n .result) = subst (λ (x : Kept). FirstFault (x .what) (h .what) (n .result)) (k .ensures) (n .ensures) in
     let pc = 4 * first .result in
     let e : z .result ≡ joinedOf h (keptOf (a .args .sides .now) d) 0 pc = z .ensures ∙ ap (λ (x : Kept). joinedOf h x 0 pc) (k .ensures) in
     let q : first .result ≡ blockOf cells (blockOf cells b .label) .first = first .ensures ∙ ap (λ (x : Block). blockOf cells (x .label) .first) (t .ensures) in
-    let w = merged cells h rows (a .pre .0) (a .pre .1) d deep (x .0) (x .1) _ _ (t .result .pairs) (t .result .packed) (m .1)
-    ∙ ap (λ (y : Block). copied (registersOf (a .args .nums .now) (a .args .kinds .now)) (y .pairs) (y .packed) (bankFrom (a .args .bank .now) (a .args .marks .now) (16 * d))) (t .ensures) in (
+    let w = m .1 ∙ ap (λ (y : Block). copied (registersOf (a .args .nums .now) (a .args .kinds .now)) (y .pairs) (y .packed) (bankFrom (a .args .bank .now) (a .args .marks .now) (16 * d))) (t .ensures) in (
       (omega (arith, ap (λ (x : Hand). x .depth) e, a .pre .2), ap (λ (x : Hand). x .left) e),
       λ words interval.
           join-leads cells h rows (a .pre .0) (a .pre .1) d deep (a .pre .3) words interval 0 pc (omega arith) _ _ _ _
           (record {
             sized = m .0;
-            bank-full = exchanged-bank cells h rows (a .pre .0) (a .pre .1) d deep (x .0)
-                (x .1);
-            marks-full = exchanged-marks cells h rows (a .pre .0) (a .pre .1) d deep (x .0)
-                (x .1);
+            bank-full = a .pre .0 .full .bank-full;
+            marks-full = a .pre .0 .full .marks-full;
             recs-full = a .pre .0 .full .recs-full;
             sides-full = a .pre .0 .full .sides-full;
           })
           (joint-running cells h rows (a .pre .0) (a .pre .1) d deep (n .result) f no pc (omega (arith, q)) _ _ (a .args .bank .now)
-          (a .args .marks .now) w) (exchanged-under cells h rows (a .pre .0) (a .pre .1) d deep (x .0) (x .1) (a .args .nums .now) (a .args .kinds .now)) e,
+          (a .args .marks .now) w) (λ i l. refl) e,
     )
 
 pub join-parent-spec : {M : Type 1} → statement M
@@ -299,10 +253,8 @@ join-parent-spec =
     shared-slice-read-b
     block-of-requires
     first-of-requires
-    mul-exchange
-    exchange-requires
-    mul-merge
-    merge-requires
+    mul-join-registers
+    join-registers-requires
     mul-joined
     joined-requires-2
     same-length
