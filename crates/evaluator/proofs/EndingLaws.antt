@@ -25,7 +25,7 @@ use Rattle.task.specs.declared.Frame.{Frame}
 use Rattle.task.specs.declared.Executed.{Executed}
 use Rattle.task.specs.Frames.{workLimit}
 use Rattle.task.specs.Choices.{Choices}
-use Rattle.task.specs.Effect.{asked, Op, fork, halt, meet, unknown, opcodes, fits}
+use Rattle.task.specs.Effect.{asked, Op, fork, meet, unknown, opcodes, fits}
 use Rattle.task.specs.Formed.{isTarget, valueFits}
 use Rattle.task.specs.Step.{register, operand, activeOf, promotes}
 use Rattle.task.specs.Execute.{going, ending, entering, countedActive, answered, executed}

@@ -1,5 +1,5 @@
 -- Each way through an arm that sets a register.
-use mathlib.Core.Path.{_≡_, refl, sym, ap, subst, _∙_}
+use mathlib.Core.Path.{_≡_, refl, ap, subst, _∙_}
 use mathlib.Core.Bool.{Bool, true, false, not, _&&_, _||_}
 use mathlib.Core.List.{List, [], _∷_}
 use Prim.Native.Nat.{ℕ, zero, suc, _+_, _*_, _-_, _%_, _^_, _<_, _≤_}
@@ -10,7 +10,7 @@ use lib.ListN.{length, getD, set}
 use mir.Syntax.{w64}
 use mir.Val.{SFits, toZ, ofZ, sel}
 use mir.ValLaws.{toZ-ofZ}
-use borrow.Author.Tests.{eqb-false, leb-true, not-true, lt-ltb, le-ltb, lt-leb, ne-eqb}
+use borrow.Author.Tests.{eqb-false, leb-true, not-true, lt-ltb, le-ltb, ne-eqb}
 use Rattle.facts.proofs.Tests.{clash, both-true, never}
 use Rattle.image.specs.Program.{Program}
 use Rattle.task.specs.declared.Value.{Value}
@@ -19,7 +19,7 @@ use Rattle.task.specs.declared.Register.{Register}
 use Rattle.task.specs.declared.Fork.{Fork}
 use Rattle.task.specs.declared.Active.{Active}
 use Rattle.task.specs.Choices.{Choices}
-use Rattle.task.specs.Effect.{Effect, stores, faults, asked, integer, label, word, jralloc, unknown, opcodes, effectOf}
+use Rattle.task.specs.Effect.{Effect, stores, faults, asked, integer, word, jralloc, unknown, opcodes, effectOf}
 use Rattle.task.specs.Formed.{every}
 use Rattle.task.proofs.EveryLaws.{every-at}
 use Rattle.evaluator.specs.Registers.{valueOf, registersOf, Sized, inRegister, operandBy}

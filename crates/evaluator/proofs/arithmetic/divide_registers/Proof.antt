@@ -1,7 +1,5 @@
 -- `divide_registers` meets its contract.
-use lib.ListN.{getD}
 use Rattle.task.specs.Choices.{chosen}
-use Rattle.evaluator.specs.Registers.{registersOf}
 use Rattle.evaluator.proofs.RegisterLaws.{value-at}
 use borrow.Author.Needs.{needs}
 use Rattle.evaluator.proofs.arithmetic.divide_registers.Statement.{statement}

@@ -51,7 +51,8 @@ returns-4 c =
     let put = c .before .before .before .before .put .ensures in
     let b = c .before .before .before .before .before .before .before .if3 .left in (
       still-sized nums kinds (a .args .r) _ 0 (a .pre .0) (put .0) (put .1),
-      λ op e. sets-divided nums kinds (a .args .r) (a .args .s) (a .args .kind) (a .args .b) (a .pre .0) (a .pre .2) (c .before .before .before .before .before .before .before .before .if2 .left) (c .before .before .before .before .before .before .before .before .before .before .if1 .left) op (a .args .u) b (e b)
+      λ op e. sets-divided nums kinds (a .args .r) (a .args .s) (a .args .kind) (a .args .b) (a .pre .0) (a .pre .2)
+          (c .before .before .before .before .before .before .before .before .if2 .left) (c .before .before .before .before .before .before .before .before .before .before .if1 .left) op (a .args .u) b (e b)
           (put .0) (put .1),
     )
 

@@ -195,8 +195,11 @@ returns-4 c =
     let words = a .args .words .now in
     let s = valueOf (getD (a .args .kinds .now) (x .result .s) 0) (getD (a .args .nums .now) (x .result .s) 0) in
     let eo = ap (λ (y : Instruction). y .opcode) (x .ensures) in
-    executes cells own can z (x .result) (x .ensures) es ev words (chosen (a .args .interval)) halt (ap (λ n. getD opcodes n unknown) (eo ∙ a .pre .5 .left-there (c .before .before .before .before .before .before .before .before .before .before .before .if1 .left) (λ q. c .before .before .if2 .left (eo ∙ q)) (λ q. c .before .if3 .left (eo ∙ q))))
-    (c .halt-at .ensures (programOf cells) words (chosen (a .args .interval)) s (valueOf (v .result .kind) (v .result .num)) (forksOf (a .args .recs .now) (c .before .before .before .before .before .before .count .result .depth)) ∙ ap (λ (t : Active). answered (programOf cells) words (chosen (a .args .interval)) s (valueOf (v .result .kind) (v .result .num)) t
+    let halts = eo ∙ a .pre .5 .left-there (c .before .before .before .before .before .before .before .before .before .before .before .if1 .left) (λ q. c .before .before .if2 .left (eo ∙ q)) (λ q. c .before .if3 .left (eo ∙ q)) in
+    executes cells own can z (x .result) (x .ensures) es ev words (chosen (a .args .interval)) halt (ap (λ n. getD opcodes n unknown) halts)
+    (c .halt-at .ensures (programOf cells) words (chosen (a .args .interval)) s (valueOf (v .result .kind) (v .result .num))
+    (forksOf (a .args .recs .now) (c .before .before .before .before .before .before .count .result .depth))
+    ∙ ap (λ (t : Active). answered (programOf cells) words (chosen (a .args .interval)) s (valueOf (v .result .kind) (v .result .num)) t
     (forksOf (a .args .recs .now) (t .depth)) halt) (c .before .before .before .before .before .before .count .ensures))
 
 pub ending-spec : {M : Type 1} → statement M

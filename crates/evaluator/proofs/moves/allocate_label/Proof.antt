@@ -46,7 +46,8 @@ returns-2 c =
     λ w k s. (
       still-sized nums kinds (a .args .r) _ _ (a .pre .3) (put .0) (put .1),
       λ t o q. sets nums kinds (a .args .r) _ 2 _ (pair-record (a .args .v) (a .args .depth) (omega (arith, a .pre .2)) refl)
-          (gives-record (programOf (a .args .cells .now)) w k (s (registersOf (a .args .nums .now) (a .args .kinds .now))) t o (a .args .v) (a .args .depth) (sym (c .before .before .before .before .before .before .before .before .annotation-of .ensures) ∙ c .before .before .before .before .before .before .before .if1 .left) q) (put .0) (put .1),
+          (gives-record (programOf (a .args .cells .now)) w k (s (registersOf (a .args .nums .now) (a .args .kinds .now))) t o (a .args .v) (a .args .depth)
+          (sym (c .before .before .before .before .before .before .before .before .annotation-of .ensures) ∙ c .before .before .before .before .before .before .before .if1 .left) q) (put .0) (put .1),
     )
 
 pub allocate-label-spec : {M : Type 1} → statement M

@@ -47,10 +47,12 @@ turn-requires c κs =
     }
 
 same-length : tie.Need-same-length Inv-loop μ-loop
-same-length c = omega (arith, c .before .before .before .before .before .before .turn .ensures .0 .0, c .before .before .before .before .before .before .before .before .before .before .before .before .before .before .before .pre .sized .0)
+same-length c =
+    omega (arith, c .before .before .before .before .before .before .turn .ensures .0 .0, c .before .before .before .before .before .before .before .before .before .before .before .before .before .before .before .pre .sized .0)
 
 same-length-2 : tie.Need-same-length-2 Inv-loop μ-loop
-same-length-2 c = omega (arith, c .before .before .before .before .before .before .turn .ensures .0 .1, c .before .before .before .before .before .before .before .before .before .before .before .before .before .before .before .pre .sized .1)
+same-length-2 c =
+    omega (arith, c .before .before .before .before .before .before .turn .ensures .0 .1, c .before .before .before .before .before .before .before .before .before .before .before .before .before .before .before .pre .sized .1)
 
 returns : tie.Need-returns Inv-loop μ-loop
 returns c =
