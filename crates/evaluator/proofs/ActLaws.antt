@@ -17,7 +17,7 @@ use Rattle.task.specs.declared.Frame.{Frame}
 use Rattle.task.specs.declared.Kind.{Kind}
 use Rattle.task.specs.declared.Kind.the-variants.{Stores, Goes, Waits, Halts, Faults, Forks}
 use Rattle.task.specs.declared.Executed.{Executed}
-use Rattle.task.specs.Frames.{running, workLimit}
+use Rattle.task.specs.Frames.{workLimit}
 use Rattle.task.specs.Choices.{chosen}
 use Rattle.task.specs.Formed.{formed, within}
 use Rattle.task.specs.Step.{step}
@@ -28,9 +28,9 @@ use Rattle.evaluator.specs.declared.Hand.{Hand}
 use Rattle.evaluator.specs.Registers.{registersOf, Sized}
 use Rattle.evaluator.specs.Banks.{forksOf}
 use Rattle.evaluator.specs.Code.{Decodes}
-use Rattle.evaluator.specs.Turns.{frameAt, rules, Starts, RunsUntil}
+use Rattle.evaluator.specs.Turns.{frameAt, rules, executedOf, Starts, RunsUntil}
 use Rattle.evaluator.specs.Sides.{frameOf, Good, CanStep, madeOf}
-use Rattle.evaluator.specs.Hands.{frameFrom, Rows, rowsOf, keptOf, handFrame, keptFrame, pendingFrom, Point, found, LeadsTo, executedOf, handSide, steppedIn, Applied}
+use Rattle.evaluator.specs.Hands.{frameFrom, Rows, rowsOf, keptOf, handFrame, keptFrame, pendingFrom, Point, LeadsTo, handSide, steppedIn, Applied}
 use Rattle.evaluator.proofs.GoodLaws.{good-more, good-depth}
 use Rattle.evaluator.proofs.FrameLaws.{pending-same, pending-top, one-run, two-run, one-good, two-good}
 

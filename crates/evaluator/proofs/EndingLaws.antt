@@ -2,14 +2,14 @@
 use mathlib.Core.Path.{_≡_, refl, sym, ap, _∙_}
 use mathlib.Core.Bool.{Bool, true}
 use mathlib.Core.List.{List}
-use Prim.Native.Nat.{ℕ, zero, suc, _/_, _%_, _^_, _<_, _≤_}
+use Prim.Native.Nat.{ℕ, zero, suc, _/_, _%_, _<_, _≤_}
 use native.Mathlib.Omega.{arith}
 use lib.Dec.{eqb, ltb}
 use lib.IntN.{ℤ}
 use lib.ListN.{getD}
 use mir.Syntax.{w64}
 use mir.Val.{toZ}
-use borrow.Author.Tests.{eqb-true, ltb-true}
+use borrow.Author.Tests.{eqb-true}
 use Rattle.facts.proofs.Tests.{both-true}
 use Rattle.image.specs.declared.Instruction.{Instruction}
 use Rattle.image.specs.Program.{Program}
@@ -25,18 +25,17 @@ use Rattle.task.specs.declared.Frame.{Frame}
 use Rattle.task.specs.declared.Executed.{Executed}
 use Rattle.task.specs.Frames.{workLimit}
 use Rattle.task.specs.Choices.{Choices}
-use Rattle.task.specs.Effect.{asked, Op, move, plus, minus, times, divide, modulo, less, equal, word, ifJump, jralloc, fork, jump, halt, meet, unknown, opcodes, effectOf, fits}
-use Rattle.task.specs.Formed.{every, isTarget, valueFits}
+use Rattle.task.specs.Effect.{asked, Op, fork, meet, unknown, opcodes, fits}
+use Rattle.task.specs.Formed.{isTarget, valueFits}
 use Rattle.task.specs.Step.{register, operand, activeOf, promotes}
-use Rattle.task.specs.Execute.{going, ending, entering, countedActive, handed, answered, executed, Ready}
-use Rattle.task.proofs.EveryLaws.{every-at}
+use Rattle.task.specs.Execute.{going, ending, entering, countedActive, answered, executed}
 use Rattle.task.proofs.Formation.{Formed, formed-is}
 use Rattle.task.proofs.StepKeeps.{operand-fits}
 use Rattle.task.proofs.Counts.{Within, within-is}
 use Rattle.evaluator.specs.declared.Side.{Side}
 use Rattle.evaluator.specs.Registers.{valueOf, registersOf, Sized, operandBy}
+use Rattle.evaluator.specs.Turns.{executedOf}
 use Rattle.evaluator.specs.Sides.{frameOf, CanStep}
-use Rattle.evaluator.specs.Hands.{executedOf}
 use Rattle.evaluator.proofs.RegisterLaws.{value-at}
 
 -- ---- the operand by its kind, as two numbers
@@ -72,9 +71,6 @@ record-is (suc (suc k)) u h = refl
 pub label-is : (k u : ℕ) → k ≡ 1 → valueOf k u ≡ Label u
 label-is k u e = rw e
 
-pub label-inside : (cells : List ℕ) (k u : ℕ) → k ≡ 1 → valueFits (programOf cells) (valueOf k u) ≡ true → u < blockCount cells
-label-inside cells k u e h = ltb-true u (blockCount cells) (rw e at h)
-
 pub target-is : (cells : List ℕ) (k u : ℕ) → 2 ≤ k → valueFits (programOf cells) (valueOf k u) ≡ true → isTarget (programOf cells) (u / 4294967296) ≡ true
 target-is cells k u l h = rw (record-is k u l) at h
 
@@ -106,58 +102,6 @@ unfolding promotes isTarget
 target-enters program choices b t h =
     let e : program .block b .annotation ≡ 2 = eqb-true _ 2 (both-true (ltb b (program .blocks)) (eqb (program .block b .annotation) 2) h .1) in
     rw e
-
--- ---- no other instruction looks at the open forks
-
-abbrev unlooked : ℕ → Op → Bool
-unlooked n move = true
-unlooked n plus = true
-unlooked n minus = true
-unlooked n times = true
-unlooked n divide = true
-unlooked n modulo = true
-unlooked n less = true
-unlooked n equal = true
-unlooked n word = true
-unlooked n ifJump = true
-unlooked n jralloc = true
-unlooked n fork = eqb n 12
-unlooked n jump = true
-unlooked n halt = true
-unlooked n meet = eqb n 15
-unlooked n unknown = true
-
-opcodes-unlooked : every (λ n. unlooked n (getD opcodes n unknown)) 16 0 ≡ true
-unfolding every
-opcodes-unlooked = refl
-
-module _ (program : Program) (words : List ℤ) (choices : Choices) (s v : Value) (t : Active) (l m : List Fork) where
-  abbrev Same : Op → Type 0
-  Same o = effectOf program words choices s v t l o ≡ effectOf program words choices s v t m o
-
-  same-by : (n : ℕ) (o : Op) → unlooked n o ≡ true → (n ≡ 12 → ⊥) → (n ≡ 15 → ⊥) → Same o
-  same-by n move h p q = refl
-  same-by n plus h p q = refl
-  same-by n minus h p q = refl
-  same-by n times h p q = refl
-  same-by n divide h p q = refl
-  same-by n modulo h p q = refl
-  same-by n less h p q = refl
-  same-by n equal h p q = refl
-  same-by n word h p q = refl
-  same-by n ifJump h p q = refl
-  same-by n jralloc h p q = refl
-  same-by n fork h p q = absurd (p (eqb-true n 12 h))
-  same-by n jump h p q = refl
-  same-by n halt h p q = refl
-  same-by n meet h p q = absurd (q (eqb-true n 15 h))
-  same-by n unknown h p q = refl
-
-  pub same-without : (n : ℕ) → n ≤ 15 → (n ≡ 12 → ⊥) → (n ≡ 15 → ⊥)
-      → answered program words choices s v t l (getD opcodes n unknown) ≡ answered program words choices s v t m (getD opcodes n unknown)
-  same-without n most p q =
-      ap (handed program choices t)
-      (same-by n (getD opcodes n unknown) (every-at (λ n. unlooked n (getD opcodes n unknown)) 16 0 opcodes-unlooked n (omega arith) (omega arith)) p q)
 
 -- ---- the instruction of a running task
 
@@ -216,21 +160,6 @@ module _ (cells : List ℕ) (own : Side) (can : CanStep cells own) where
       pub v-fits : valueFits (programOf cells) v ≡ true
       v-fits = ap (valueFits (programOf cells)) ev ∙ operand-fits (programOf cells) g x (its .values-fit) label-below
 
-      pub ready-for : Ready cells s v (activeOf (own .task))
-      ready-for = record {
-        accepted-program = can .accepted-program;
-        pc-below = its .pc-below;
-        s-fits = s-fits;
-        v-fits = v-fits;
-        counter-below = counter-below;
-        depth-most = depth-most;
-        fork-room = λ h. omega (arith, its .has-depth, its .has-places, can .room, some-height (can .height) (rw (its .has-places) at h));
-      }
-        where
-          some-height : (h : ℕ) → 2 ≤ 2 ^ h → 0 < h
-          some-height zero p = absurd (omega arith)
-          some-height (suc h) p = omega arith
-
       module _ (words : List ℤ) (choices : Choices) where
         -- an answer to these values is the instruction's
         pub executes : (o : Op) → getD opcodes (x .opcode) unknown ≡ o → {e : Executed}
@@ -243,10 +172,3 @@ module _ (cells : List ℕ) (own : Side) (can : CanStep cells own) where
             ∙ ap (λ w. executed (programOf cells) words choices x w v (activeOf (own .task)) (own .task .forks)) es
             ∙ ap (λ w. executed (programOf cells) words choices x (register g (x .s)) w (activeOf (own .task)) (own .task .forks)) ev
             ∙ ap (λ (y : Instruction). executed (programOf cells) words choices y (register g (y .s)) (operand g y) (activeOf (own .task)) (own .task .forks)) ex
-
-        pub executes-other : (l : List Fork) → (x .opcode ≡ 12 → ⊥) → (x .opcode ≡ 15 → ⊥) → {e : Executed}
-            → e ≡ executed (programOf cells) words choices x s v (activeOf (own .task)) l → e ≡ executedOf (programOf cells) words choices g
-        unfolding executed
-        executes-other l p q h =
-            executes (getD opcodes (x .opcode) unknown) refl
-            (h ∙ same-without (programOf cells) words choices s v (countedActive (activeOf (own .task))) l (own .task .forks) (x .opcode) opcode-most p q)

@@ -7,7 +7,7 @@ use native.Mathlib.Omega.{arith}
 use lib.Dec.{eqb, ltb, leb}
 use lib.IntN.{ℤ}
 use lib.ListN.{length, getD, replicate}
-use borrow.Author.Tests.{eqb-true, eqb-false, eq-eqb, ne-eqb, leb-true, ltb-true}
+use borrow.Author.Tests.{eqb-true, eqb-false, leb-true, ltb-true}
 use Rattle.facts.proofs.Tests.{both-true}
 use Rattle.image.specs.Program.{Program}
 use Rattle.image.specs.Layout.{programOf}
@@ -16,20 +16,19 @@ use Rattle.agreement.specs.Plain.{eval}
 use Rattle.serial.specs.Serial.{onward, Outcome, spent, done, run, withinBudget}
 use Rattle.serial.proofs.SerialLaws.{serial-is-plain}
 use Rattle.task.specs.declared.Frame.{Frame}
-use Rattle.task.specs.Frames.{zeroFork, noForks, startFrame, running, workLimit}
+use Rattle.task.specs.Frames.{zeroFork, noForks, startFrame, workLimit}
 use Rattle.task.specs.Formed.{every, forkFits, valueFits, statusFits}
 use Rattle.task.proofs.EveryLaws.{every-at}
 use Rattle.task.proofs.Formation.{Formed, formed-is, is-formed}
 use Rattle.task.proofs.Counts.{within-is, is-within, start-within}
 use Rattle.evaluator.specs.declared.Hand.{Hand}
-use Rattle.evaluator.specs.declared.Finished.{Finished}
-use Rattle.evaluator.specs.Registers.{registersOf, Sized, inRegister}
+use Rattle.evaluator.specs.Registers.{registersOf, inRegister}
 use Rattle.evaluator.specs.Banks.{forksOf}
 use Rattle.evaluator.specs.Turns.{rules}
 use Rattle.evaluator.specs.Sides.{Good}
 use Rattle.evaluator.specs.Hands.{statusFrom, registersFrom, frameFrom, Rows, rowsOf, handFrame, keptFrame, pendingFrom, Full, Point}
-use Rattle.evaluator.specs.Hands.{found, LeadsTo, overBy, endedBy, weight, lastFrame, outcomeFrom, finishedOf, CanEvaluate, Closes}
-use Rattle.evaluator.proofs.ForkLaws.{length-forks, no-forks}
+use Rattle.evaluator.specs.Hands.{found, LeadsTo, overBy, endedBy, weight, lastFrame, outcomeFrom, CanEvaluate, Closes}
+use Rattle.evaluator.proofs.ForkLaws.{no-forks}
 use Rattle.evaluator.proofs.GoodLaws.{good-depth}
 use Rattle.evaluator.proofs.FrameLaws.{pending-none, run-over, run-out}
 use Rattle.evaluator.proofs.CloseLaws.{not-running, is-running, rests}

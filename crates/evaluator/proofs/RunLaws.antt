@@ -1,5 +1,5 @@
 -- The loop of turns is `serial`'s run.
-use mathlib.Core.Path.{_≡_, refl, ap, _∙_}
+use mathlib.Core.Path.{_≡_, refl, ap, _∙_, sym, subst}
 use mathlib.Core.Bool.{true}
 use mathlib.Core.List.{List}
 use Prim.Native.Nat.{ℕ, zero, suc, _+_, _*_, _-_, _/_, _<_, _≤_}
@@ -21,7 +21,7 @@ use Rattle.task.proofs.Counts.{within-is, is-within, within-more, step-one-with
 use Rattle.image.proofs.Accepted.{accepted}
 use Rattle.image.specs.Questions.{programNo}
 use Rattle.evaluator.specs.declared.Gone.{Gone}
-use Rattle.evaluator.specs.Turns.{frameAt, rules, Turned, Runs}
+use Rattle.evaluator.specs.Turns.{frameAt, rules, Ends, Turned, Runs}
 
 module _ (cells : List ℕ) (words : List ℤ) (interval : ℕ) where
   -- a step to one task that runs on
@@ -50,7 +50,7 @@ module _ (cells : List ℕ) (words : List ℤ) (interval : ℕ) where
         same span = omega arith
 
     -- one turn more
-    pub runs-on : (pc′ beat′ left′ : ℕ) (after : List Register) (g : Gone) (next : List Register) → 0 < left′ → g .on ≡ true
+    pub runs-on : (pc′ beat′ left′ : ℕ) (after : List Register) (g : Gone) (next : List Register) → 0 < left′ → g .what ≡ 0
         → Runs cells words interval places depth pc beat left before pc′ beat′ left′ after
         → Turned cells words interval places depth pc′ beat′ (left′ - 1) after g next
         → Runs cells words interval places depth pc beat left before (g .pc) (g .beat) (left′ - 1) next
@@ -89,3 +89,12 @@ module _ (cells : List ℕ) (words : List ℤ) (interval : ℕ) where
             let c : suc n - 1 + 1 ≡ suc n = omega arith in
             let w : span + (left - suc n) + 1 ≡ span + (left - (suc n - 1)) = omega (arith, h .fewer) in
             rw (c, w) at e
+
+-- a turn that was none: the instruction there is one that the task does not carry out by itself
+pub stops : (cells : List ℕ) (words : List ℤ) (interval places depth pc beat left : ℕ) (before : List Register) (g : Gone) (after : List Register)
+    → 0 < left → (g .what ≡ 0 → ⊥) → Turned cells words interval places depth pc beat (left - 1) before g after
+    → Ends cells words interval places depth (g .what) (pc / 4) (beat - left) after
+stops cells words interval places depth pc beat left before g after some off t =
+    let same : left - 1 + 1 ≡ left = omega (arith, some) in
+    subst (Ends cells words interval places depth (g .what) (pc / 4) (beat - left)) (sym (t .stays off .0))
+    (subst (λ n. Ends cells words interval places depth (g .what) (pc / 4) (beat - n) before) same (t .stays off .1))

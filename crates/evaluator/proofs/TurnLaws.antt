@@ -1,15 +1,18 @@
 -- One turn: what is known of the decoded instruction, and an arm held against `step`.
 use mathlib.Core.Path.{_≡_, refl, ap, _∙_}
-use mathlib.Core.Bool.{Bool, true, false}
-use mathlib.Core.List.{List, []}
-use Prim.Native.Nat.{ℕ, zero, suc, _+_, _*_, _-_, _/_, _%_, _<_, _≤_}
+use mathlib.Core.Logic.{_⊎_, inl, inr, ⊎-elim}
+use mathlib.Core.List.{List, [], _∷_}
+use Prim.Native.Nat.{ℕ, zero, suc, _+_, _*_, _-_, _/_, _<_, _≤_}
 use native.Mathlib.Omega.{arith}
+use lib.Dec.{eqb}
 use lib.IntN.{ℤ}
 use lib.ListN.{getD, set}
 use Rattle.image.specs.declared.Instruction.{Instruction}
 use Rattle.image.specs.Layout.{blockCount, instructionCount, instructionOf, programOf}
+use Rattle.image.specs.Questions.{programNo}
 use Rattle.image.proofs.Accepted.{accepted, InstructionAccepted}
-use Rattle.facts.proofs.Tests.{clash, by-test}
+use borrow.Author.Tests.{eqb-true, eqb-false}
+use Rattle.facts.proofs.Tests.{by-test, by-below}
 use Rattle.agreement.specs.Plain.{one}
 use Rattle.task.specs.declared.Value.{Value}
 use Rattle.task.specs.declared.Register.{Register}
@@ -19,13 +22,25 @@ use Rattle.task.specs.declared.Active.{Active}
 use Rattle.task.specs.Choices.{chosen}
 use Rattle.task.specs.Effect.{stores, unknown, opcodes, effectOf}
 use Rattle.task.specs.Step.{register, operand, activeOf, step}
-use Rattle.task.specs.Execute.{answered, executed}
+use Rattle.task.specs.Execute.{handed, answered, executed}
 use Rattle.task.proofs.Executing.{step-executed}
 use Rattle.evaluator.specs.declared.Gone.{Gone}
-use Rattle.evaluator.specs.Registers.{inRegister, operandBy}
+use Rattle.evaluator.specs.Registers.{registersOf, inRegister, operandBy}
 use Rattle.evaluator.specs.Code.{Plain, Decoded, Decodes}
-use Rattle.evaluator.specs.Arms.{active, Sets, Leads, Unready}
+use Rattle.evaluator.specs.Arms.{active, contextOf, Sets, SetsBy, Leads, Unready}
 use Rattle.evaluator.specs.Turns.{frameAt, At, Turned}
+use Rattle.evaluator.proofs.SetLaws.{NoneOf}
+use Rattle.evaluator.proofs.CodeLaws.{has-operand}
+
+-- the arms of `turn`, the last first
+abbrev pub jumping : List ℕ
+jumping = 205 ∷ 202 ∷ 109 ∷ 106 ∷ 77 ∷ 74 ∷ 45 ∷ 42 ∷ []
+
+from-13 : (n : ℕ) → 10 ≤ n → (n ≡ 10 → ⊥) → (n ≡ 11 → ⊥) → (n ≡ 12 → ⊥) → 13 ≤ n
+from-13 n l p q r = omega (arith, l, p, q, r)
+
+up-to-13 : (n : ℕ) → 13 ≤ n → n ≤ 15 → (n ≡ 14 → ⊥) → (n ≡ 15 → ⊥) → n ≡ 13
+up-to-13 n l h p q = omega (arith, l, h, p, q)
 
 -- ---- the decoded instruction at a place
 
@@ -53,7 +68,7 @@ pub record Fetched (cells : List ℕ) (pc arm r s v : ℕ) : Type 0 where
   pub block-inside : (b v : ℕ) → b < blockCount cells → Plain cells (instructionOf cells (pc / 4)) arm v → b ≡ instructionOf cells (pc / 4) .operand
       → Unready cells b v
 
-pub fetched : {cells code nums kinds : List ℕ} {left beat pc : ℕ} → At cells code nums kinds left beat pc
+pub fetched : {cells code nums kinds : List ℕ} {depth left beat pc : ℕ} → At cells code nums kinds depth left beat pc
     → Fetched cells pc (getD code pc 0) (getD code (pc + 1) 0) (getD code (pc + 2) 0) (getD code (pc + 3) 0)
 fetched {cells} {code} {pc} h =
     let k = accepted cells (h .accepted-program) in
@@ -74,7 +89,7 @@ module _ {cells : List ℕ} {pc arm r s v : ℕ} (d : Fetched cells pc arm r s v
   x = instructionOf cells (pc / 4)
 
   -- by the number of the arm
-  pub named : (n k : ℕ) → n ≤ 15 → k ≤ 3 → arm ≡ n + 16 * k → Named x n k v
+  pub named : (n k : ℕ) → n ≤ 15 → k ≤ 3 → arm ≡ n + 32 * k → Named x n k v
   named n k p q e =
       let c = d .decoded .armed .common (omega (arith, e, p, q)) in
       record {
@@ -94,14 +109,45 @@ module _ {cells : List ℕ} {pc arm r s v : ℕ} (d : Fetched cells pc arm r s v
   next-below n l h = d .its .next-below (omega (arith, l, h))
 
   -- whatever arm it is, but for the plain jumps
-  pub named-so : arm < 64 → Named x (x .opcode) (x .kind) v
+  pub named-so : arm < 128 → Named x (x .opcode) (x .kind) v
   named-so l = record { its-opcode = refl; its-kind = refl; its-operand = d .decoded .armed .common l .1; known = d .its .kind-known }
 
-  pub register-operand : 16 ≤ arm → arm < 32 → v < 16
+  pub register-operand : 32 ≤ arm → arm < 64 → v < 16
   register-operand l h =
       let c = d .decoded .armed .common (omega (arith, h)) in
       let k : x .kind ≡ 1 = omega (arith, c .0, l, h, d .its .opcode-most) in
       omega (arith, c .1, d .its .register-small k)
+
+  pub label-operand : 64 ≤ arm → arm < 96 → v < blockCount cells
+  label-operand l h =
+      let c = d .decoded .armed .common (omega (arith, h)) in
+      let k : x .kind ≡ 2 = omega (arith, c .0, l, h, d .its .opcode-most) in
+      omega (arith, c .1, d .its .label-below k)
+
+  -- what has an arm neither in `turn` nor in `set_register`: fork, halt and join
+  pub left-at : programNo cells ≡ 0 → pc / 4 < instructionCount cells
+      → ((n k : ℕ) → 1 ≤ n → n ≤ 15 → 1 ≤ k → k ≤ 3 → arm ≡ n + 32 * k → (10 ≤ n) × (n ≡ 11 → ⊥)) → NoneOf arm jumping
+      → (x .opcode ≡ 12 → ⊥) → (x .opcode ≡ 15 → ⊥) → x .opcode ≡ 14
+  left-at accept inside others rest p q = by-test (eqb (x .opcode) 14) (eqb-true (x .opcode) 14) (λ t.
+      let n = eqb-false (x .opcode) 14 t in
+      let z = has-operand cells (pc / 4) accept inside n in
+      by-below arm 128
+      (λ l.
+      let c = d .decoded .armed .common l .0 in
+      let o = others (x .opcode) (x .kind) (d .its .opcode-least) (d .its .opcode-most) z (d .its .kind-known) c in
+      let i : (x .opcode ≡ 10) ⊎ (x .opcode ≡ 13) = by-test (eqb (x .opcode) 10) (λ e. inl (eqb-true (x .opcode) 10 e))
+      (λ e. inr (up-to-13 (x .opcode) (from-13 (x .opcode) (o .0) (eqb-false (x .opcode) 10 e) (o .1) p) (d .its .opcode-most) n q)) in
+      absurd (⊎-elim
+      (λ e. by-kind 10 (x .kind) (rest .0 .0 .0 .0 .0 .0 .0 .1) (rest .0 .0 .0 .0 .0 .1) (rest .0 .0 .0 .1) (omega (arith, c, e)) z (d .its .kind-known))
+      (λ e. by-kind 13 (x .kind) (rest .0 .0 .0 .0 .0 .0 .1) (rest .0 .0 .0 .0 .1) (rest .0 .0 .1) (omega (arith, c, e)) z (d .its .kind-known)) i))
+      (λ l.
+      let j = d .decoded .armed .plain l in
+      absurd (by-test (eqb (x .opcode) 10)
+      (λ e. rest .0 .1 (omega (arith, j .plain-arm, j .to-label, eqb-true (x .opcode) 10 e)))
+      (λ e. rest .1 (omega (arith, j .plain-arm, j .to-label, j .is-jump (eqb-false (x .opcode) 10 e)))))))
+    where
+      by-kind : (m k : ℕ) → (arm ≡ m + 32 → ⊥) → (arm ≡ m + 64 → ⊥) → (arm ≡ m + 96 → ⊥) → arm ≡ m + 32 * k → 1 ≤ k → k ≤ 3 → ⊥
+      by-kind m k u v w e l h = omega (arith, u, v, w, e, l, h)
 
   -- a plain jump: the label b that stands in the instruction
   pub record Jumps (n : ℕ) : Type 0 where
@@ -110,7 +156,7 @@ module _ {cells : List ℕ} {pc arm r s v : ℕ} (d : Fetched cells pc arm r s v
     pub unready-there : Unready cells label v
     pub place-small : v < 4096
 
-  pub plain-jump : (n : ℕ) → n ≤ 15 → arm ≡ 64 + (n + 32) → Jumps n
+  pub plain-jump : (n : ℕ) → n ≤ 15 → arm ≡ 128 + (n + 64) → Jumps n
   plain-jump n l e =
       let p = d .decoded .armed .plain (omega (arith, e)) in
       let below = d .its .label-below (p .to-label) in
@@ -156,15 +202,21 @@ module _ (cells : List ℕ) (words : List ℤ) (interval places depth pc beat le
     means forks span = rw (operand-is (f forks span) y k (h .known) (h .its-kind), h .its-opcode, h .its-operand, same-s, counter-is)
 
     -- it sets a register
-    pub turned-sets : (on : Bool) (after : List Register) (r : ℕ) → r ≡ y .r → (on ≡ true → pc / 4 + 1 < instructionCount cells)
-        → ((t : Active) (o : List Fork) → Sets on r before after
+    pub turned-sets : (what : ℕ) (after : List Register) (r : ℕ) → r ≡ y .r → pc / 4 + 1 < instructionCount cells
+        → ((t : Active) (o : List Fork) → t .depth ≡ depth → Sets what r before after
         (effectOf (programOf cells) words (chosen interval) (inRegister s before) (operandBy k v before) t o (getD opcodes n unknown)))
-        → Turned cells words interval places depth pc beat left before (record { on = on; pc = pc + 4; beat = beat }) after
-    turned-sets on after r same inside e = record {
-      steps = λ t forks span. go forks span (e a forks .did t);
-      stays = e a [] .did-not;
+        → Turned cells words interval places depth pc beat left before (record { what = what; pc = pc + 4; beat = beat }) after
+    turned-sets what after r same inside e = record {
+      steps = λ t forks span. go forks span (e a forks refl .did t);
+      stays = λ t. (
+        e a [] refl .failed t .2,
+        record {
+          faults-there = λ l forks span. means forks span ∙ ap (handed (programOf cells) (chosen interval) a) (e a forks refl .failed t .1);
+          left-there = λ z. absurd (omega (arith, z, e a [] refl .failed t .0));
+        },
+      );
       aligned = omega (arith, aligned);
-      inside = λ t. rw place (inside t);
+      inside = λ t. rw place inside;
       counted = omega (arith, counts);
       beat-most = omega arith;
     }
@@ -187,7 +239,13 @@ module _ (cells : List ℕ) (words : List ℤ) (interval places depth pc beat le
         → Turned cells words interval places depth pc beat left before g before
     turned-leads g e = record {
       steps = λ t forks span. step-executed (programOf cells) words (chosen interval) (f forks span) ∙ rw (means forks span, e forks .leads t);
-      stays = λ t. refl;
+      stays = λ t. (
+        refl,
+        record {
+          faults-there = λ l forks span. means forks span ∙ e forks .failed t .1;
+          left-there = λ z. absurd (omega (arith, z, e [] .failed t .0));
+        },
+      );
       aligned = e [] .aligned;
       inside = e [] .inside;
       counted = e [] .counted;
@@ -195,27 +253,33 @@ module _ (cells : List ℕ) (words : List ℤ) (interval places depth pc beat le
     }
 
   -- it does not go on by itself
-  turned-off : (on : Bool) (after : List Register) → on ≡ false → after ≡ before
-      → Turned cells words interval places depth pc beat left before (record { on = on; pc = pc + 4; beat = beat }) after
-  turned-off on after q e = record {
-    steps = λ t. clash t q;
-    stays = λ t. e;
+  turned-off : (what : ℕ) (after : List Register) → what ≡ 1 → after ≡ before → ((y .opcode ≡ 12 → ⊥) → (y .opcode ≡ 15 → ⊥) → y .opcode ≡ 14)
+      → Turned cells words interval places depth pc beat left before (record { what = what; pc = pc + 4; beat = beat }) after
+  turned-off what after q e l = record {
+    steps = λ t. absurd (omega (arith, t, q));
+    stays = λ t. (e, record { faults-there = λ h. absurd (omega (arith, h, q)); left-there = λ z. l });
     aligned = omega (arith, aligned);
-    inside = λ t. clash t q;
+    inside = λ t. absurd (omega (arith, t, q));
     counted = omega (arith, counts);
     beat-most = omega arith;
   }
 
-  -- all the arms that set a register
-  pub turned-set : {arm r s v : ℕ} → Fetched cells pc arm r s v → (on : Bool) (after : List Register) → (on ≡ true → (arm % 16 < 13) × (arm < 64))
-      → ((n k : ℕ) → n ≤ 15 → arm ≡ n + 16 * k → (t : Active) (o : List Fork)
-      → Sets on r before after (effectOf (programOf cells) words (chosen interval) (inRegister s before) (operandBy k v before) t o (getD opcodes n unknown)))
-      → Turned cells words interval places depth pc beat left before (record { on = on; pc = pc + 4; beat = beat }) after
-  turned-set {arm} {r} {s} {v} d on after known h = by-test on
-      (λ q.
-      let low = known q .1 in
-      let c = d .decoded .armed .common low .0 in
-      turned-sets (y .opcode) (y .kind) s v (named-so d low) (d .decoded .same-s) on after r (d .decoded .same-r)
-      (λ t. next-below d (y .opcode) (omega (arith, known q .0, c, d .its .opcode-most)) refl)
-      (λ t o. h (y .opcode) (y .kind) (d .its .opcode-most) c t o))
-      (λ q. turned-off on after q (h (arm % 16) (arm / 16) (omega arith) (omega arith) a [] .did-not q))
+-- all the arms that set a register, and what has no arm
+pub turned-set : (cells : List ℕ) (words : List ℤ) (interval places depth : ℕ) {pc : ℕ} (beat left : ℕ) (nums kinds nums′ kinds′ : List ℕ)
+    {arm r s v : ℕ} → programNo cells ≡ 0 → pc ≡ 4 * (pc / 4) → pc / 4 < instructionCount cells → left < beat → Fetched cells pc arm r s v → NoneOf arm jumping
+    → (what : ℕ) → SetsBy (contextOf cells words interval depth) arm what r s v nums kinds nums′ kinds′
+    → Turned cells words interval places depth pc beat left (registersOf nums kinds) (record { what = what; pc = pc + 4; beat = beat }) (registersOf nums′ kinds′)
+turned-set cells words interval places depth {pc} beat left nums kinds nums′ kinds′ {s = s} {v = v} accept place inside counts d rest what h = by-test (eqb what 1)
+    (λ t.
+    let q = eqb-true what 1 t in
+    turned-off cells words interval places depth pc beat left (registersOf nums kinds) place counts what (registersOf nums′ kinds′) q (h .untouched q)
+    (left-at d accept inside (h .others q) rest))
+    (λ t.
+    let q = eqb-false what 1 t in
+    let low = h .carried q in
+    let c = d .decoded .armed .common (low .0) .0 in
+    let i : Instruction = instructionOf cells (pc / 4) in
+    turned-sets cells words interval places depth pc beat left (registersOf nums kinds) place counts (i .opcode) (i .kind) s v (named-so d (low .0))
+    (d .decoded .same-s) what (registersOf nums′ kinds′) _ (d .decoded .same-r)
+    (next-below d (i .opcode) (omega (arith, low .1, c, d .its .opcode-most)) refl)
+    (h .as-table q (i .opcode) (i .kind) (d .its .opcode-most) c .1))

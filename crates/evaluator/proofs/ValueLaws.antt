@@ -10,7 +10,9 @@ use mir.Syntax.{w64}
 use mir.Val.{SFits, toZ, ofZ, sel}
 use mir.ValLaws.{toZ-ofZ}
 use borrow.Author.Tests.{ne-eqb}
+use Rattle.facts.proofs.Tests.{clash}
 use Rattle.int64.specs.Equal.{eqZ}
+use Rattle.int64.proofs.Equality.{eq-eqZ}
 use Rattle.task.specs.declared.Value.{Value}
 use Rattle.task.specs.declared.Value.the-variants.{Int, Label, Record}
 use Rattle.task.specs.Values.{truth}
@@ -44,6 +46,9 @@ other-bits u h = go (ltb u (2 ^ 63))
     go : (t : Bool) → eqZ (sel t (pos u) (negsuc (2 ^ 64 - suc u))) (pos 0) ≡ false
     go true = ne-eqb u 0 h
     go false = refl
+
+pub not-zero : (u : ℕ) (y : ℤ) → mag y < 2 ^ 63 → y ≡ toZ w64 u → (u ≡ 0 → ⊥) → toZ w64 (ofZ w64 y) ≡ pos 0 → ⊥
+not-zero u y f e n q = clash (eq-eqZ (toZ w64 u) (pos 0) (sym e ∙ sym (same-number y f) ∙ q)) (other-bits u n)
 
 -- ---- out of two numbers
 

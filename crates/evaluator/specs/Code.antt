@@ -8,15 +8,16 @@ use Rattle.image.specs.Layout.{instructionCount, blockOf, instructionOf}
 
 -- a jump or if-jump to a label whose block is not promotion-ready: in place of the label the block's first place in the decoded code
 pub record Plain (cells : List ℕ) (x : Instruction) (arm v : ℕ) : Type 0 where
-  pub plain-arm : arm ≡ 64 + (x .opcode + 16 * x .kind)
+  pub plain-arm : arm ≡ 128 + (x .opcode + 32 * x .kind)
   pub to-label : x .kind ≡ 2
+  pub is-jump : (x .opcode ≡ 10 → ⊥) → x .opcode ≡ 13
   pub unready : blockOf cells (x .operand) .annotation ≡ 1 → ⊥
   pub its-first : v ≡ 4 * blockOf cells (x .operand) .first
 
 -- the number of the arm by opcode and operand kind, and the operand; or such a jump
 pub record Armed (cells : List ℕ) (x : Instruction) (arm v : ℕ) : Type 0 where
-  pub common : arm < 64 → (arm ≡ x .opcode + 16 * x .kind) × (v ≡ x .operand)
-  pub plain : 64 ≤ arm → Plain cells x arm v
+  pub common : arm < 128 → (arm ≡ x .opcode + 32 * x .kind) × (v ≡ x .operand)
+  pub plain : 128 ≤ arm → Plain cells x arm v
 
 -- these two numbers, with the registers r and s between them
 pub record Decoded (cells : List ℕ) (x : Instruction) (arm r s v : ℕ) : Type 0 where

@@ -8,7 +8,6 @@ use Prim.Native.Nat.{ℕ, zero, suc, _+_, _*_, _-_, _/_, _^_, _<_, _≤_, max}
 use lib.Dec.{eqb}
 use lib.IntN.{ℤ}
 use lib.ListN.{length, getD}
-use Rattle.image.specs.Program.{Program}
 use Rattle.image.specs.Layout.{programOf}
 use Rattle.image.specs.Questions.{programNo}
 use Rattle.agreement.specs.Plain.{Stepped, one, two}
@@ -22,17 +21,16 @@ use Rattle.task.specs.declared.Kind.{Kind}
 use Rattle.task.specs.declared.Kind.the-variants.{Stores, Goes, Waits, Halts, Faults, Forks}
 use Rattle.task.specs.declared.Executed.{Executed}
 use Rattle.task.specs.Frames.{zeros, noForks, running, faultOf, workLimit}
-use Rattle.task.specs.Choices.{Choices}
 use Rattle.task.specs.Formed.{valueFits}
-use Rattle.task.specs.Step.{register, operand, activeOf, firstFault}
-use Rattle.task.specs.Execute.{executed}
+use Rattle.task.specs.Step.{firstFault}
 use Rattle.evaluator.specs.declared.Side.{Side}
 use Rattle.evaluator.specs.declared.Hand.{Hand}
 use Rattle.evaluator.specs.declared.Kept.{Kept}
+use Rattle.evaluator.specs.declared.Ran.{Ran}
 use Rattle.evaluator.specs.declared.Finished.{Finished}
 use Rattle.evaluator.specs.Registers.{registersOf, Sized, inRegister}
 use Rattle.evaluator.specs.Banks.{bankFrom, forksOf}
-use Rattle.evaluator.specs.Turns.{rules}
+use Rattle.evaluator.specs.Turns.{rules, Ends}
 use Rattle.evaluator.specs.Sides.{frameOf, openOf, Base, Good, madeOf}
 
 -- ---- Frames
@@ -138,11 +136,13 @@ pub record LeadsTo (cells : List ℕ) (words : List ℤ) (interval : ℕ) (h : H
 
 -- ---- One instruction
 
--- what the instruction of a running task is, carried out
-abbrev pub executedOf : Program → List ℤ → Choices → Frame → Executed
-executedOf program words choices f =
-    let x = program .instruction (f .task .pc) in
-    executed program words choices x (register f (x .s)) (operand f x) (activeOf (f .task)) (f .task .forks)
+-- where a running task's instructions by itself end: the budget is used up (0), or there is one that it does not carry out by itself
+pub record Rests (cells : List ℕ) (words : List ℤ) (interval : ℕ) (h : Hand) (z : Ran) (registers : List Register) : Type 0 where
+  pub still-runs : z .hand .what ≡ 0
+  pub fewer : z .hand .left ≤ h .left
+  pub when-spent : z .what ≡ 0 → z .hand .left ≡ 0
+  pub when-not : (z .what ≡ 0 → ⊥) → (0 < z .hand .left)
+      × Ends cells words interval (z .hand .places) (z .hand .depth) (z .what) (z .hand .pc / 4) (z .hand .beat - z .hand .left) registers
 
 -- the task in hand, where it runs
 abbrev pub handSide : Hand → List ℕ → List ℕ → List ℕ → Side

@@ -1,11 +1,12 @@
 -- Turns of the loop: instructions that the task in hand carries out by itself, held against `step` and against `serial`'s run. The task is
 -- given by its numbers. Its counter is the difference of `beat` and what is left of the budget, so that an instruction counts both at once.
 use mathlib.Core.Path.{_≡_}
-use mathlib.Core.Bool.{true, false}
+use mathlib.Core.Bool.{true}
 use mathlib.Core.List.{List}
 use Prim.Native.Nat.{ℕ, _+_, _*_, _-_, _/_, _<_, _≤_}
 use lib.IntN.{ℤ}
-use Rattle.image.specs.Layout.{instructionCount, programOf}
+use Rattle.image.specs.Program.{Program}
+use Rattle.image.specs.Layout.{instructionCount, instructionOf, programOf}
 use Rattle.image.specs.Questions.{programNo}
 use Rattle.agreement.specs.Plain.{one, Rules}
 use Rattle.serial.specs.Serial.{Pending, held, run}
@@ -13,10 +14,13 @@ use Rattle.task.specs.declared.Register.{Register}
 use Rattle.task.specs.declared.Status.the-variants.{Running}
 use Rattle.task.specs.declared.Fork.{Fork}
 use Rattle.task.specs.declared.Frame.{Frame}
+use Rattle.task.specs.declared.Kind.the-variants.{Faults}
+use Rattle.task.specs.declared.Executed.{Executed}
 use Rattle.task.specs.Frames.{running}
-use Rattle.task.specs.Choices.{chosen}
+use Rattle.task.specs.Choices.{Choices, chosen}
 use Rattle.task.specs.Formed.{valueFits, formed, within}
-use Rattle.task.specs.Step.{step, join}
+use Rattle.task.specs.Step.{register, operand, activeOf, step, join}
+use Rattle.task.specs.Execute.{ending, executed}
 use Rattle.evaluator.specs.declared.Gone.{Gone}
 use Rattle.evaluator.specs.declared.Stopped.{Stopped}
 use Rattle.evaluator.specs.Registers.{registersOf, Sized, inRegister}
@@ -34,10 +38,18 @@ abbrev pub rules : List ℕ → List ℤ → ℕ → Rules Frame
 rules cells words interval =
     record { running = running; step = step (programOf cells) words (chosen interval); join = join (programOf cells) }
 
+-- ---- One instruction
+
+-- what the instruction of a running task is, carried out
+abbrev pub executedOf : Program → List ℤ → Choices → Frame → Executed
+executedOf program words choices f =
+    let x = program .instruction (f .task .pc) in
+    executed program words choices x (register f (x .s)) (operand f x) (activeOf (f .task)) (f .task .forks)
+
 -- ---- What they rest on
 
 -- a task at the place pc of the decoded code
-pub record At (cells code nums kinds : List ℕ) (left beat pc : ℕ) : Type 0 where
+pub record At (cells code nums kinds : List ℕ) (depth left beat pc : ℕ) : Type 0 where
   pub accepted-program : programNo cells ≡ 0
   pub decodes : Decodes cells code
   pub sized : Sized nums kinds
@@ -45,6 +57,7 @@ pub record At (cells code nums kinds : List ℕ) (left beat pc : ℕ) : Type 0 w
   pub inside-program : pc / 4 < instructionCount cells
   pub counter-least : left < beat
   pub values-fit : (i : ℕ) → valueFits (programOf cells) (inRegister i (registersOf nums kinds)) ≡ true
+  pub depth-most : depth ≤ 6
 
 -- a task where instructions by itself begin: well-formed
 pub record Starts (cells code nums kinds : List ℕ) (places depth left beat pc : ℕ) : Type 0 where
@@ -64,14 +77,20 @@ pub record Starts (cells code nums kinds : List ℕ) (places depth left beat pc 
 -- ---- What they do
 
 module _ (cells : List ℕ) (words : List ℤ) (interval places depth : ℕ) where
+  -- the instruction at pc, which such a task with these registers does not carry out by itself: a fault with this number, or fork, halt or join (1)
+  pub record Ends (what pc counter : ℕ) (registers : List Register) : Type 0 where
+    pub faults-there : 2 ≤ what → (forks : List Fork) (span : ℕ)
+        → executedOf (programOf cells) words (chosen interval) (frameAt places depth forks pc counter span registers) ≡ ending Faults what
+    pub left-there : what ≡ 1 → (instructionOf cells pc .opcode ≡ 12 → ⊥) → (instructionOf cells pc .opcode ≡ 15 → ⊥) → instructionOf cells pc .opcode ≡ 14
+
   -- one instruction, after which `left` is left
   pub record Turned (pc beat left : ℕ) (before : List Register) (g : Gone) (after : List Register) : Type 0 where
-    pub steps : g .on ≡ true → (forks : List Fork) (span : ℕ)
+    pub steps : g .what ≡ 0 → (forks : List Fork) (span : ℕ)
         → step (programOf cells) words (chosen interval) (frameAt places depth forks (pc / 4) (beat - (left + 1)) span before)
         ≡ one (frameAt places depth forks (g .pc / 4) (g .beat - left) (span + 1) after)
-    pub stays : g .on ≡ false → after ≡ before
+    pub stays : (g .what ≡ 0 → ⊥) → (after ≡ before) × Ends (g .what) (pc / 4) (beat - (left + 1)) before
     pub aligned : g .pc ≡ 4 * (g .pc / 4)
-    pub inside : g .on ≡ true → g .pc / 4 < instructionCount cells
+    pub inside : g .what ≡ 0 → g .pc / 4 < instructionCount cells
     pub counted : left ≤ g .beat
     pub beat-most : g .beat ≤ beat
 
@@ -95,5 +114,5 @@ module _ (cells : List ℕ) (words : List ℤ) (interval places depth : ℕ) whe
   -- until one that the task does not carry out by itself, or the budget is used up
   pub record RunsUntil (pc beat left : ℕ) (before : List Register) (z : Stopped) (after : List Register) : Type 0 where
     pub runs : Runs pc beat left before (z .pc) (z .beat) (z .left) after
-    pub when-spent : z .on ≡ true → z .left ≡ 0
-    pub when-not : z .on ≡ false → 0 < z .left
+    pub when-spent : z .what ≡ 0 → z .left ≡ 0
+    pub when-not : (z .what ≡ 0 → ⊥) → (0 < z .left) × Ends (z .what) (z .pc / 4) (z .beat - z .left) after

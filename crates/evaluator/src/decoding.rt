@@ -12,7 +12,7 @@ ghost use Rattle.evaluator.specs.Code.{Armed, DecodesOne, Decodes};
 
 // Whether it is a jump or if-jump to a label.
 fn jumps_to_label(x: Instruction) -> bool
-    ensures { λ r. ⌜ (r ≡ true → x .kind ≡ 2) ⌝ }
+    ensures { λ r. ⌜ (r ≡ true → (x .kind ≡ 2) × ((x .opcode ≡ 10 → ⊥) → x .opcode ≡ 13)) ⌝ }
 {
     if x.kind != 2 {
         return false;
@@ -29,7 +29,7 @@ fn arm_of(cells: &[u64], x: Instruction) -> Arm
     requires { ⌜ (programNo (now cells) ≡ 0) × (x .opcode ≤ 15) × (x .kind ≤ 3) × (x .kind ≡ 2 → x .operand < blockCount (now cells)) ⌝ }
     ensures { λ r. ⌜ Armed (now (cells .entry)) x (r .number) (r .operand) ⌝ }
 {
-    let number = x.opcode + 16 * x.kind;
+    let number = x.opcode + 32 * x.kind;
     if !jumps_to_label(x) {
         return Arm {
             number,
@@ -45,7 +45,7 @@ fn arm_of(cells: &[u64], x: Instruction) -> Arm
     }
     let first = layout::first_of(cells, b);
     Arm {
-        number: 64 + number,
+        number: 128 + number,
         operand: 4 * first,
     }
 }

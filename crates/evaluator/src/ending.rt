@@ -1,34 +1,34 @@
-// The instruction that the task in hand does not carry out by itself: a fork or a join by the rows, and any other by `execute`.
+// The instruction that the task in hand does not carry out by itself: a fault that its arm has found, or fork, join or halt.
 use crate::Hand;
 use crate::Pair;
 use crate::fitting::does_fit;
-use crate::rows::value_of;
 use image::Instruction;
 use image::layout;
 use task::Active;
 use task::Executed;
-use task::Fork;
 use task::Kind;
 use task::Value;
-use task::execution;
 use task::results;
 ghost use mathlib.Core.Path.{_≡_};
 ghost use mathlib.Core.Bool.{true};
 ghost use mathlib.Core.List.{List};
-ghost use Prim.Native.Nat.{ℕ, _<_, _≤_};
+ghost use Prim.Native.Nat.{ℕ, _-_, _/_, _<_, _≤_};
 ghost use lib.IntN.{ℤ};
 ghost use lib.ListN.{length};
+ghost use Rattle.image.specs.Program.{Program};
 ghost use Rattle.image.specs.Layout.{programOf};
 ghost use Rattle.image.specs.Questions.{mostInstructions, programNo};
 ghost use Rattle.task.specs.declared.Value.{Value};
+ghost use Rattle.task.specs.declared.Fork.{Fork};
 ghost use Rattle.task.specs.Choices.{Choices, chosen};
-ghost use Rattle.task.specs.Effect.{fork, meet};
+ghost use Rattle.task.specs.Effect.{fork, halt, meet};
 ghost use Rattle.task.specs.Formed.{valueFits};
 ghost use Rattle.task.specs.Execute.{answered};
 ghost use Rattle.evaluator.specs.Registers.{Sized, registersOf, valueOf, operandBy};
 ghost use Rattle.evaluator.specs.Banks.{forksOf};
+ghost use Rattle.evaluator.specs.Turns.{executedOf, Ends};
 ghost use Rattle.evaluator.specs.Sides.{frameOf, CanStep};
-ghost use Rattle.evaluator.specs.Hands.{executedOf, handSide};
+ghost use Rattle.evaluator.specs.Hands.{handSide};
 
 // The operand's kind and bits.
 fn operand_pair(nums: &[u64], kinds: &[u8], x: Instruction) -> Pair
@@ -53,8 +53,8 @@ fn operand_pair(nums: &[u64], kinds: &[u8], x: Instruction) -> Pair
     }
 }
 
-// Opcode 12, of a task that has counted it: a record s that fits, a label v, two places. `ending` alone calls these two, with the values of a
-// well-formed task.
+// Opcode 12, of a task that has counted it: a record s that fits, a label v, two places. `ending` alone calls these three, with the values
+// of a well-formed task.
 fn fork_under(cells: &[u64], recs: &[u64], s: Pair, v: Pair, t: Active) -> Executed
     requires { ⌜ (programNo (now cells) ≡ 0) × (valueFits (programOf (now cells)) (valueOf (v .kind) (v .num)) ≡ true) × (length (now recs) ≡ 6) × (t .pc < mostInstructions) × (t .depth ≤ 6) ⌝ }
     ensures { λ r. ⌜ ((w : List ℤ) (c : Choices) → r ≡ answered (programOf (now (cells .entry))) w c (valueOf (s .kind) (s .num)) (valueOf (v .kind)
@@ -104,27 +104,42 @@ fn meet_under(cells: &[u64], recs: &[u64], v: Pair, t: Active) -> Executed
     results::go(layout::first_of(cells, b) as u16, t.counter)
 }
 
-// `act` alone calls it, and ensures `CanStep`.
+// Opcode 14, likewise: no open fork at halt.
+fn halt_at(t: Active) -> Executed
+    ensures { λ r. ⌜ ((p : Program) (w : List ℤ) (c : Choices) (s v : Value) (o : List Fork) → r ≡ answered p w c s v t o halt) ⌝ }
+{
+    if t.depth != 0 {
+        return results::fault(38);
+    }
+    results::end(Kind::Halts, 0)
+}
+
+// `act` alone calls it, and ensures `CanStep`; `run_hand` ensures `Ends`.
 pub fn ending(
     cells: &[u64],
     words: &[i64],
     interval: u64,
+    what: u8,
     hand: Hand,
     nums: &[u64],
     kinds: &[u8],
     recs: &[u64],
 ) -> Executed
-    requires { ⌜ CanStep (now cells) (handSide hand (now recs) (now nums) (now kinds)) × Sized (now nums) (now kinds) × (length (now recs) ≡ 6) × (hand .left ≤ hand .beat) ⌝ }
+    requires { ⌜ CanStep (now cells) (handSide hand (now recs) (now nums) (now kinds)) × Sized (now nums) (now kinds) × (length (now recs) ≡ 6) × (hand .left ≤ hand .beat)
+        × (what ≡ 0 → ⊥) × Ends (now cells) (now words) interval (hand .places) (hand .depth) what (hand .pc / 4) (hand .beat - hand .left) (registersOf (now nums) (now kinds)) ⌝ }
     ensures { λ r. ⌜ r ≡ executedOf (programOf (now (cells .entry))) (now (words .entry)) (chosen interval) (frameOf (handSide hand (now (recs .entry)) (now (nums .entry)) (now (kinds .entry)))) ⌝ }
 {
+    if what != 1 {
+        return results::fault(what);
+    }
     let at = hand.pc / 4;
     let x = layout::instruction_of(cells, at);
-    let t = Active {
+    let t = results::count(Active {
         places: hand.places,
         pc: at as u16,
         counter: (hand.beat - hand.left) as u32,
         depth: hand.depth as u32,
-    };
+    });
     let at_s = x.s as usize;
     let s = Pair {
         kind: kinds[at_s],
@@ -133,16 +148,10 @@ pub fn ending(
     let v = operand_pair(nums, kinds, x);
     let opcode = x.opcode;
     if opcode == 12 {
-        return fork_under(cells, recs, s, v, results::count(t));
+        return fork_under(cells, recs, s, v, t);
     }
     if opcode == 15 {
-        return meet_under(cells, recs, v, results::count(t));
+        return meet_under(cells, recs, v, t);
     }
-    let first = value_of(s.kind, s.num);
-    let second = value_of(v.kind, v.num);
-    let forks = [Fork {
-        continuation: 0,
-        depth: 0,
-    }; 6];
-    execution::execute(cells, words, interval, x, first, second, t, forks)
+    halt_at(t)
 }

@@ -50,14 +50,15 @@ fn advance(
 {
     if hand.what == 0 {
         let ran = run_hand(cells, code, words, interval, hand, nums, kinds);
-        if ran.left == 0 {
-            return ran;
+        if ran.what == 0 {
+            return ran.hand;
         }
         return act(
             cells,
             words,
             interval,
-            ran,
+            ran.what,
+            ran.hand,
             nums,
             kinds,
             bank,

@@ -1,6 +1,7 @@
 // The task in hand: its instructions by itself, and then one that it does not carry out by itself.
 use crate::Hand;
 use crate::Kept;
+use crate::Ran;
 use crate::banks::save;
 use crate::ending::ending;
 use crate::keeping::keep;
@@ -13,14 +14,15 @@ use task::Kind;
 use task::Value;
 ghost use mathlib.Core.Path.{_≡_};
 ghost use mathlib.Core.List.{List};
-ghost use Prim.Native.Nat.{ℕ, _*_, _<_, _≤_};
+ghost use Prim.Native.Nat.{ℕ, _*_, _-_, _/_, _<_, _≤_};
 ghost use lib.ListN.{set};
 ghost use lib.Seq.{sets};
 ghost use Rattle.task.specs.Values.{recordOf};
 ghost use Rattle.task.specs.declared.Kind.the-variants.{Faults, Forks};
+ghost use Rattle.evaluator.specs.Registers.{registersOf};
 ghost use Rattle.evaluator.specs.Banks.{forkOf};
-ghost use Rattle.evaluator.specs.Turns.{Starts};
-ghost use Rattle.evaluator.specs.Hands.{rowsOf, Keeps, Full, Point, LeadsTo, goneOn, endedWith, parentOf, childOf, Applied};
+ghost use Rattle.evaluator.specs.Turns.{Starts, Ends};
+ghost use Rattle.evaluator.specs.Hands.{rowsOf, Keeps, Full, Point, LeadsTo, Rests, goneOn, endedWith, parentOf, childOf, Applied};
 
 // The instructions by itself. `evaluate` alone calls it, with a running task.
 pub fn run_hand(
@@ -31,12 +33,12 @@ pub fn run_hand(
     hand: Hand,
     nums: &mut [u64],
     kinds: &mut [u8],
-) -> Hand
+) -> Ran
     requires { ⌜ Starts (now cells) (now code) (now nums) (now kinds) (hand .places) (hand .depth) (hand .left) (hand .beat) (hand .pc) × (hand .what ≡ 0) ⌝ }
-    ensures { λ z. ⌜ (z .what ≡ 0) × (z .left ≤ hand .left) ⌝ }
+    ensures { λ z. ⌜ Rests (now (cells .entry)) (now (words .entry)) interval hand z (registersOf (now (nums .exit)) (now (kinds .exit))) ⌝ }
     ensures { λ z. ⌜ ((bank marks recs sides : List ℕ) → Point (now (cells .entry)) hand (rowsOf (now (nums .entry)) (now
         (kinds .entry)) bank marks recs sides) → LeadsTo (now (cells .entry)) (now (words .entry)) interval hand (rowsOf (now (nums .entry)) (now
-        (kinds .entry)) bank marks recs sides) z (rowsOf (now (nums .exit)) (now (kinds .exit)) bank marks recs sides)) ⌝ }
+        (kinds .entry)) bank marks recs sides) (z .hand) (rowsOf (now (nums .exit)) (now (kinds .exit)) bank marks recs sides)) ⌝ }
 {
     let ran = run_on(
         cells,
@@ -51,14 +53,17 @@ pub fn run_hand(
         hand.beat,
         hand.pc,
     );
-    Hand {
-        what: 0,
-        places: hand.places,
-        depth: hand.depth,
-        pc: ran.pc,
-        beat: ran.beat,
-        left: ran.left,
-        spun: hand.spun,
+    Ran {
+        what: ran.what,
+        hand: Hand {
+            what: 0,
+            places: hand.places,
+            depth: hand.depth,
+            pc: ran.pc,
+            beat: ran.beat,
+            left: ran.left,
+            spun: hand.spun,
+        },
     }
 }
 
@@ -191,11 +196,13 @@ fn apply(
     }
 }
 
-// The instruction that the task does not carry out by itself. `evaluate` alone calls it, with a running task and something left.
+// The instruction that the task does not carry out by itself. `evaluate` alone calls it, with a running task and something left; `run_hand` ensures
+// `Ends`.
 pub fn act(
     cells: &[u64],
     words: &[i64],
     interval: u64,
+    what: u8,
     hand: Hand,
     nums: &mut [u64],
     kinds: &mut [u8],
@@ -204,13 +211,14 @@ pub fn act(
     recs: &mut [u64],
     sides: &mut [u64],
 ) -> Hand
-    requires { ⌜ Point (now cells) hand (rowsOf (now nums) (now kinds) (now bank) (now marks) (now recs) (now sides)) × (hand .what ≡ 0) × (0 < hand .left) ⌝ }
+    requires { ⌜ Point (now cells) hand (rowsOf (now nums) (now kinds) (now bank) (now marks) (now recs) (now sides)) × (hand .what ≡ 0) × (0 < hand .left)
+        × (what ≡ 0 → ⊥) × Ends (now cells) (now words) interval (hand .places) (hand .depth) what (hand .pc / 4) (hand .beat - hand .left) (registersOf (now nums) (now kinds)) ⌝ }
     ensures { λ z. ⌜ z .left < hand .left ⌝ }
     ensures { λ z. ⌜ LeadsTo (now (cells .entry)) (now (words .entry)) interval hand (rowsOf (now (nums .entry)) (now (kinds .entry)) (now
         (bank .entry)) (now (marks .entry)) (now (recs .entry)) (now (sides .entry))) z (rowsOf (now (nums .exit)) (now (kinds .exit)) (now
         (bank .exit)) (now (marks .exit)) (now (recs .exit)) (now (sides .exit))) ⌝ }
 {
     let x = layout::instruction_of(cells, hand.pc / 4);
-    let e = ending(cells, words, interval, hand, nums, kinds, recs);
+    let e = ending(cells, words, interval, what, hand, nums, kinds, recs);
     apply(x.r, e, hand, nums, kinds, bank, marks, recs, sides)
 }

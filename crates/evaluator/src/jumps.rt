@@ -1,4 +1,4 @@
-// Arms for opcodes 10 and 13, if-jump and jump, and entering a block. `turn` ensures what they require: an accepted program, the place of one of
+// Arms for opcodes 10 and 13, if-jump and jump, and entering a block; each answers as `Gone` says. `turn` ensures what they require: an accepted program, the place of one of
 // its instructions, and registers of a well-formed task.
 use crate::Gone;
 use image::layout;
@@ -15,7 +15,7 @@ ghost use Rattle.task.specs.Effect.{ifJump, jump};
 ghost use Rattle.task.specs.Formed.{valueFits};
 ghost use Rattle.task.specs.Step.{promotes};
 ghost use Rattle.task.specs.Execute.{entering};
-ghost use Rattle.evaluator.specs.Registers.{Sized, registersOf, inRegister};
+ghost use Rattle.evaluator.specs.Registers.{Sized, valueOf, registersOf, inRegister};
 ghost use Rattle.evaluator.specs.Arms.{active, Leads, LeadsAs, Unready};
 
 // Whether control goes to the handler of block b instead.
@@ -45,14 +45,14 @@ pub fn enter(cells: &[u64], interval: u64, places: u64, left: u64, beat: u64, b:
         let handler = layout::label_of(cells, b) as usize;
         let first = layout::first_of(cells, handler) as usize;
         return Gone {
-            on: true,
+            what: 0,
             pc: 4 * first,
             beat: left,
         };
     }
     let first = layout::first_of(cells, b) as usize;
     Gone {
-        on: true,
+        what: 0,
         pc: 4 * first,
         beat,
     }
@@ -75,17 +75,47 @@ pub fn jump_register(
     ensures { λ r. ⌜ ((s : Value) → LeadsAs (now (cells .entry)) interval jump places pc beat left r s (inRegister v (registersOf (now (nums .entry)) (now (kinds .entry))))) ⌝ }
 {
     if kinds[v] != 1 {
-        return Gone {
-            on: false,
-            pc,
-            beat,
-        };
+        return Gone { what: 34, pc, beat };
     }
     enter(cells, interval, places, left, beat, nums[v] as usize)
 }
 
-// If-jump to a label.
-pub fn branch_label(
+// If-jump to a value of this kind with these bits, which it looks at only when it jumps.
+pub fn branch_to(
+    cells: &[u64],
+    nums: &[u64],
+    kinds: &[u8],
+    interval: u64,
+    places: u64,
+    left: u64,
+    beat: u64,
+    s: usize,
+    pc: usize,
+    kind: u8,
+    num: u64,
+) -> Gone
+    requires { ⌜ (programNo (now cells) ≡ 0) × (valueFits (programOf (now cells)) (valueOf kind num) ≡ true) × (left ≤ beat) × Sized (now nums) (now kinds) × (s < 16)
+        × (pc ≡ 4 * (pc / 4)) × (pc / 4 + 1 < instructionCount (now cells)) ⌝ }
+    ensures { λ r. ⌜ LeadsAs (now (cells .entry)) interval ifJump places pc beat left r (inRegister s (registersOf (now (nums .entry)) (now (kinds .entry)))) (valueOf kind num) ⌝ }
+{
+    if kinds[s] != 0 {
+        return Gone { what: 31, pc, beat };
+    }
+    if nums[s] != 0 {
+        return Gone {
+            what: 0,
+            pc: pc + 4,
+            beat,
+        };
+    }
+    if kind != 1 {
+        return Gone { what: 34, pc, beat };
+    }
+    enter(cells, interval, places, left, beat, num as usize)
+}
+
+// If-jump to the label in a register.
+pub fn branch_register(
     cells: &[u64],
     nums: &[u64],
     kinds: &[u8],
@@ -97,25 +127,26 @@ pub fn branch_label(
     pc: usize,
     v: usize,
 ) -> Gone
-    requires { ⌜ (programNo (now cells) ≡ 0) × (v < blockCount (now cells)) × (left ≤ beat) × Sized (now nums) (now kinds) × (s < 16) × (pc ≡ 4 * (pc / 4))
-        × (pc / 4 + 1 < instructionCount (now cells)) ⌝ }
-    ensures { λ r. ⌜ LeadsAs (now (cells .entry)) interval ifJump places pc beat left r (inRegister s (registersOf (now (nums .entry)) (now (kinds .entry)))) (Label v) ⌝ }
+    requires { ⌜ (programNo (now cells) ≡ 0) × (valueFits (programOf (now cells)) (inRegister v (registersOf (now nums) (now kinds))) ≡ true) × (left ≤ beat)
+        × Sized (now nums) (now kinds) × (s < 16) × (pc ≡ 4 * (pc / 4)) × (pc / 4 + 1 < instructionCount (now cells)) × (v < 16) ⌝ }
+    ensures { λ r. ⌜ LeadsAs (now (cells .entry)) interval ifJump places pc beat left r (inRegister s (registersOf (now (nums .entry)) (now (kinds .entry))))
+        (inRegister v (registersOf (now (nums .entry)) (now (kinds .entry)))) ⌝ }
 {
-    if kinds[s] != 0 {
-        return Gone {
-            on: false,
-            pc,
-            beat,
-        };
-    }
-    if nums[s] == 0 {
-        return enter(cells, interval, places, left, beat, v);
-    }
-    Gone {
-        on: true,
-        pc: pc + 4,
+    let kind = kinds[v];
+    let num = nums[v];
+    branch_to(
+        cells,
+        nums,
+        kinds,
+        interval,
+        places,
+        left,
         beat,
-    }
+        s,
+        pc,
+        kind,
+        num,
+    )
 }
 
 // If-jump to a block that is not promotion-ready, whose first place in the decoded code is v.
@@ -125,21 +156,17 @@ pub fn branch_plain(nums: &[u64], kinds: &[u8], beat: u64, s: usize, pc: usize, 
         → left ≤ beat → LeadsAs cells interval ifJump places pc beat left r (inRegister s (registersOf (now (nums .entry)) (now (kinds .entry)))) (Label b)) ⌝ }
 {
     if kinds[s] != 0 {
-        return Gone {
-            on: false,
-            pc,
-            beat,
-        };
+        return Gone { what: 31, pc, beat };
     }
     if nums[s] == 0 {
         return Gone {
-            on: true,
+            what: 0,
             pc: v,
             beat,
         };
     }
     Gone {
-        on: true,
+        what: 0,
         pc: pc + 4,
         beat,
     }

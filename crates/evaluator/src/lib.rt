@@ -29,17 +29,19 @@ pub struct Arm {
     pub operand: u64,
 }
 
-// Whether the task goes on by itself, and where: the place of the next instruction, and the number that its counter is the difference of
-// and what is left of the budget.
+// What the task does: 0 it goes on by itself, 1 its instruction is not one that it carries out by itself; any other number is that instruction's
+// fault's. And where it goes: the place of the next instruction, and the number that its counter is the difference of and what is left of the
+// budget.
 pub struct Gone {
-    pub on: bool,
+    pub what: u8,
     pub pc: usize,
     pub beat: u64,
 }
 
-// Where a task stands before an instruction that it does not carry out by itself; or, where it would go on, once the budget is used up.
+// Where a task stands before an instruction that it does not carry out by itself, and what that is, as in `Gone`; or, where it would go on, once
+// the budget is used up.
 pub struct Stopped {
-    pub on: bool,
+    pub what: u8,
     pub pc: usize,
     pub beat: u64,
     pub left: u64,
@@ -62,6 +64,12 @@ pub struct Hand {
     pub beat: u64,
     pub left: u64,
     pub spun: u64,
+}
+
+// The task in hand after its instructions by itself, and what is the matter with the next one, as in `Stopped`.
+pub struct Ran {
+    pub what: u8,
+    pub hand: Hand,
 }
 
 // The other side of a fork: the child's, still to come, or the parent's, that has ended.

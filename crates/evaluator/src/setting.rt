@@ -1,58 +1,68 @@
 // The arms that set a register.
 use crate::arithmetic::add_number;
 use crate::arithmetic::add_registers;
+use crate::arithmetic::divide_number;
+use crate::arithmetic::divide_registers;
 use crate::arithmetic::equal_number;
 use crate::arithmetic::equal_registers;
 use crate::arithmetic::less_number;
 use crate::arithmetic::less_registers;
+use crate::arithmetic::modulo_number;
+use crate::arithmetic::modulo_registers;
 use crate::arithmetic::multiply_number;
 use crate::arithmetic::multiply_registers;
 use crate::arithmetic::subtract_number;
 use crate::arithmetic::subtract_registers;
+use crate::moves::allocate_label;
+use crate::moves::allocate_register;
 use crate::moves::fetch_number;
 use crate::moves::fetch_register;
 use crate::moves::move_register;
 use crate::moves::move_value;
-ghost use mathlib.Core.Path.{_≡_};
-ghost use mathlib.Core.Bool.{true};
-ghost use Prim.Native.Nat.{ℕ, _+_, _*_, _%_, _<_, _≤_};
-ghost use lib.ListN.{getD};
-ghost use Rattle.task.specs.Effect.{unknown, opcodes};
-ghost use Rattle.evaluator.specs.Registers.{Sized, inRegister, operandBy};
-ghost use Rattle.evaluator.specs.Arms.{SetsAs};
+ghost use Prim.Native.Nat.{ℕ};
+ghost use Rattle.evaluator.specs.Arms.{contextOf, CanSet, SetsBy};
 
-// The arm of opcode n and operand kind k is n + 16 k; one that is not here the task does not carry out by itself. `turn` alone calls it, with
-// the numbers of an accepted program's instruction.
+// The arm of opcode n and operand kind k is n + 32 k. A label is no operand of an operation or of word, a number none of jralloc. `turn` alone
+// calls it, with the numbers of an accepted program's instruction.
 pub fn set_register(
+    cells: &[u64],
     words: &[i64],
     nums: &mut [u64],
     kinds: &mut [u8],
+    depth: u64,
     arm: u64,
     r: usize,
     s: usize,
     v: u64,
-) -> bool
-    requires { ⌜ Sized (now nums) (now kinds) × (r < 16) × (s < 16) × (16 ≤ arm → arm < 32 → v < 16) ⌝ }
-    ensures { λ z. ⌜ (z ≡ true → (arm % 16 < 13) × (arm < 64)) ⌝ }
-    ensures { λ z. ⌜ ((n k : ℕ) → n ≤ 15 → arm ≡ n + 16 * k
-        → SetsAs (now (words .entry)) (getD opcodes n unknown) z r (now (nums .entry)) (now (kinds .entry)) (now (nums .exit)) (now (kinds .exit)) (inRegister s) (operandBy k v)) ⌝ }
+) -> u8
+    requires { ⌜ CanSet (now cells) (now nums) (now kinds) depth arm r s v ⌝ }
+    ensures { λ z. ⌜ ((interval : ℕ) → SetsBy (contextOf (now (cells .entry)) (now (words .entry)) interval depth) arm z r s v (now (nums .entry)) (now
+        (kinds .entry)) (now (nums .exit)) (now (kinds .exit))) ⌝ }
 {
     match arm {
-        17 => move_register(nums, kinds, r, v as usize),
-        18 => add_registers(nums, kinds, r, s, v as usize),
-        19 => subtract_registers(nums, kinds, r, s, v as usize),
-        20 => multiply_registers(nums, kinds, r, s, v as usize),
-        23 => less_registers(nums, kinds, r, s, v as usize),
-        24 => equal_registers(nums, kinds, r, s, v as usize),
-        25 => fetch_register(words, nums, kinds, r, v as usize),
-        33 => move_value(nums, kinds, r, v, 1),
-        49 => move_value(nums, kinds, r, v, 0),
-        50 => add_number(nums, kinds, r, s, v),
-        51 => subtract_number(nums, kinds, r, s, v),
-        52 => multiply_number(nums, kinds, r, s, v),
-        55 => less_number(nums, kinds, r, s, v),
-        56 => equal_number(nums, kinds, r, s, v),
-        57 => fetch_number(words, nums, kinds, r, v),
-        _ => false,
+        33 => move_register(nums, kinds, r, v as usize),
+        34 => add_registers(nums, kinds, r, s, v as usize),
+        35 => subtract_registers(nums, kinds, r, s, v as usize),
+        36 => multiply_registers(nums, kinds, r, s, v as usize),
+        37 => divide_registers(nums, kinds, r, s, v as usize),
+        38 => modulo_registers(nums, kinds, r, s, v as usize),
+        39 => less_registers(nums, kinds, r, s, v as usize),
+        40 => equal_registers(nums, kinds, r, s, v as usize),
+        41 => fetch_register(words, nums, kinds, r, v as usize),
+        43 => allocate_register(cells, nums, kinds, depth, r, v as usize),
+        65 => move_value(nums, kinds, r, v, 1),
+        75 => allocate_label(cells, nums, kinds, depth, r, v),
+        97 => move_value(nums, kinds, r, v, 0),
+        98 => add_number(nums, kinds, r, s, v),
+        99 => subtract_number(nums, kinds, r, s, v),
+        100 => multiply_number(nums, kinds, r, s, v),
+        101 => divide_number(nums, kinds, r, s, v),
+        102 => modulo_number(nums, kinds, r, s, v),
+        103 => less_number(nums, kinds, r, s, v),
+        104 => equal_number(nums, kinds, r, s, v),
+        105 => fetch_number(words, nums, kinds, r, v),
+        107 => 35,
+        66..=73 => 31,
+        _ => 1,
     }
 }

@@ -1,8 +1,9 @@
 // The loop of a task by itself: one turn is one instruction that neither forks nor ends the task.
 use crate::Gone;
 use crate::Stopped;
-use crate::jumps::branch_label;
 use crate::jumps::branch_plain;
+use crate::jumps::branch_register;
+use crate::jumps::branch_to;
 use crate::jumps::enter;
 use crate::jumps::jump_register;
 use crate::setting::set_register;
@@ -23,7 +24,7 @@ fn turn(
     beat: u64,
     pc: usize,
 ) -> Gone
-    requires { ⌜ At (now cells) (now code) (now nums) (now kinds) left beat pc ⌝ }
+    requires { ⌜ At (now cells) (now code) (now nums) (now kinds) depth left beat pc ⌝ }
     ensures { λ z. ⌜ Sized (now (nums .exit)) (now (kinds .exit)) ⌝ }
     ensures { λ z. ⌜ Turned (now (cells .entry)) (now (words .entry)) interval places depth pc beat left
         (registersOf (now (nums .entry)) (now (kinds .entry))) z (registersOf (now (nums .exit)) (now (kinds .exit))) ⌝ }
@@ -33,18 +34,7 @@ fn turn(
     let s = code[pc + 2] as usize;
     let v = code[pc + 3];
     match arm {
-        29 => jump_register(
-            cells,
-            nums,
-            kinds,
-            interval,
-            places,
-            left,
-            beat,
-            pc,
-            v as usize,
-        ),
-        42 => branch_label(
+        42 => branch_register(
             cells,
             nums,
             kinds,
@@ -56,17 +46,55 @@ fn turn(
             pc,
             v as usize,
         ),
-        45 => enter(cells, interval, places, left, beat, v as usize),
-        106 => branch_plain(nums, kinds, beat, s, pc, v as usize),
-        109 => Gone {
-            on: true,
+        45 => jump_register(
+            cells,
+            nums,
+            kinds,
+            interval,
+            places,
+            left,
+            beat,
+            pc,
+            v as usize,
+        ),
+        74 => branch_to(
+            cells,
+            nums,
+            kinds,
+            interval,
+            places,
+            left,
+            beat,
+            s,
+            pc,
+            1,
+            v,
+        ),
+        77 => enter(cells, interval, places, left, beat, v as usize),
+        106 => branch_to(
+            cells,
+            nums,
+            kinds,
+            interval,
+            places,
+            left,
+            beat,
+            s,
+            pc,
+            0,
+            v,
+        ),
+        109 => Gone { what: 34, pc, beat },
+        202 => branch_plain(nums, kinds, beat, s, pc, v as usize),
+        205 => Gone {
+            what: 0,
             pc: v as usize,
             beat,
         },
         _ => {
-            let on = set_register(words, nums, kinds, arm, r, s, v);
+            let what = set_register(cells, words, nums, kinds, depth, arm, r, s, v);
             Gone {
-                on,
+                what,
                 pc: pc + 4,
                 beat,
             }
@@ -111,9 +139,9 @@ pub fn run_on(
             beat,
             pc,
         );
-        if !g.on {
+        if g.what != 0 {
             return Stopped {
-                on: false,
+                what: g.what,
                 pc,
                 beat,
                 left,
@@ -124,7 +152,7 @@ pub fn run_on(
         left = left - 1;
     }
     Stopped {
-        on: true,
+        what: 0,
         pc,
         beat,
         left,

@@ -24,9 +24,8 @@ same-length-2 c = search needs
 
 returns : tie.Need-returns
 returns c =
-    let one = c .before .before .before .before .store-of-one .ensures
-    (c .before .before .before .before .before .before .before .before .before .before .before .args .v) in
-    λ w. (one .0, λ p k t o. one .1 isEqual (c .before .before .before .before .before .before .before .sameness-bits .ensures))
+    let one = c .before .before .before .before .store-of-one .ensures (c .before .before .before .before .before .before .before .before .before .before .before .args .v) in
+    λ x. (one .0, λ t o q. one .1 isEqual (c .before .before .before .before .before .before .before .sameness-bits .ensures))
 
 pub equal-number-spec : {M : Type 1} → statement M
 equal-number-spec =

@@ -29,9 +29,7 @@ same-length-2 : tie.Need-same-length-2
 same-length-2 c = search needs
 
 returns : tie.Need-returns
-returns c =
-    let two = c .before .before .before .before .store-of-two .ensures in
-    λ w. (two .0, λ p k t o. two .1 isEqual (c .before .before .before .before .before .before .before .sameness-bits .ensures))
+returns c = let two = c .before .before .before .before .store-of-two .ensures in λ x. (two .0, λ t o q. two .1 isEqual (c .before .before .before .before .before .before .before .sameness-bits .ensures))
 
 pub equal-registers-spec : {M : Type 1} → statement M
 equal-registers-spec =

@@ -24,18 +24,8 @@ same-length-2 c = search needs
 
 returns : tie.Need-returns
 returns c =
-    let one = c .before .before .before .before .store-of-one .ensures
-    (c .before .before .before .before .before .before .before .before .before .before .before .args .v) in
-    λ w. (one .0, λ p k t o. one .1 isLess (c .before .before .before .before .before .before .before .order-bits .ensures))
+    let one = c .before .before .before .before .store-of-one .ensures (c .before .before .before .before .before .before .before .before .before .before .before .args .v) in
+    λ x. (one .0, λ t o q. one .1 isLess (c .before .before .before .before .before .before .before .order-bits .ensures))
 
 pub less-number-spec : {M : Type 1} → statement M
-less-number-spec =
-    tie.close
-    (tie.spec
-    mul-order-bits
-    slice-read-order-bits
-    order-bits-requires
-    store-of-one-requires
-    same-length
-    same-length-2
-    returns)
+less-number-spec = tie.close (tie.spec mul-order-bits slice-read-order-bits order-bits-requires store-of-one-requires same-length same-length-2 returns)

@@ -1,6 +1,6 @@
 -- `store_of_one` meets its contract.
 use Rattle.evaluator.proofs.RegisterLaws.{still-sized}
-use Rattle.evaluator.proofs.SetLaws.{unset, sets-computed}
+use Rattle.evaluator.proofs.SetLaws.{left-other, sets-computed}
 use borrow.Author.Needs.{needs}
 use Rattle.evaluator.proofs.arithmetic.store_of_one.Statement.{statement}
 use Rattle.evaluator.proofs.arithmetic.store_of_one.Tie as tie
@@ -9,7 +9,11 @@ slice-read-if1 : tie.Need-slice-read-if1
 slice-read-if1 c = search needs
 
 returns : tie.Need-returns
-returns c = λ b. (c .before .before .before .before .pre .0, λ op e. unset)
+returns c =
+    let a = c .before .before .before .before in
+    let nums = a .args .nums .now in
+    let kinds = a .args .kinds .now in
+    λ b. (a .pre .0, λ op e. left-other nums kinds (a .args .s) (a .pre .0) (a .pre .2) (c .if1 .taken) _)
 
 put-requires : tie.Need-put-requires
 put-requires c κs = search needs
@@ -28,10 +32,8 @@ returns-2 c =
     let put = c .before .before .before .before .put .ensures in
     λ b. (
       still-sized nums kinds (a .args .r) _ 0 (a .pre .0) (put .0) (put .1),
-      λ op e. sets-computed nums kinds (a .args .r) (a .args .s) (a .args .u) b (a .pre .0) (a .pre .2)
-          (c .before .before .before .before .before .before .before .if1 .left) (put .0) (put .1) op e,
+      λ op e. sets-computed nums kinds (a .args .r) (a .args .s) (a .args .u) b (a .pre .0) (a .pre .2) (c .before .before .before .before .before .before .before .if1 .left) (put .0) (put .1) op e,
     )
 
 pub store-of-one-spec : {M : Type 1} → statement M
-store-of-one-spec =
-    tie.close (tie.spec slice-read-if1 returns put-requires same-length same-length-2 returns-2)
+store-of-one-spec = tie.close (tie.spec slice-read-if1 returns put-requires same-length same-length-2 returns-2)

@@ -24,9 +24,8 @@ same-length-2 c = search needs
 
 returns : tie.Need-returns
 returns c =
-    let one = c .before .before .before .before .store-of-one .ensures
-    (c .before .before .before .before .before .before .before .before .before .before .before .args .v) in
-    λ w. (one .0, λ p k t o. one .1 difference (c .before .before .before .before .before .before .before .difference-bits .ensures))
+    let one = c .before .before .before .before .store-of-one .ensures (c .before .before .before .before .before .before .before .before .before .before .before .args .v) in
+    λ x. (one .0, λ t o q. one .1 difference (c .before .before .before .before .before .before .before .difference-bits .ensures))
 
 pub subtract-number-spec : {M : Type 1} → statement M
 subtract-number-spec =

@@ -25,7 +25,7 @@ annotation-of-requires c κs =
     let a = c .before .before .before .before .before in
     let x = a .args .x in
     let k = c .before .jumps-to-label .ensures (not-false _ (c .if1 .left)) in
-    accepted (a .args .cells .now) (a .pre .0) .block _ (a .pre .3 k) .is-stored
+    accepted (a .args .cells .now) (a .pre .0) .block _ (a .pre .3 (k .0)) .is-stored
 
 returns-2 : tie.Need-returns-2
 returns-2 c = let a = c .before .before .before .before .before .before .before in armed-common (a .args .cells .now) (a .args .x) (a .pre .1) (a .pre .2)
@@ -34,7 +34,7 @@ first-of-requires : tie.Need-first-of-requires
 first-of-requires c κs =
     let a = c .before .before .before .before .before .before .before in
     let k = c .before .before .before .jumps-to-label .ensures (not-false _ (c .before .before .if1 .left)) in
-    accepted (a .args .cells .now) (a .pre .0) .block _ (a .pre .3 k) .is-stored
+    accepted (a .args .cells .now) (a .pre .0) .block _ (a .pre .3 (k .0)) .is-stored
 
 add-t6 : tie.Need-add-t6
 add-t6 c = search needs
@@ -44,13 +44,13 @@ mul-t9 c =
     let a = c .before .before .before .before .before .before .before .before in
     let k = c .before .before .before .before .jumps-to-label .ensures (not-false _ (c .before .before .before .if1 .left)) in
     let p = accepted (a .args .cells .now) (a .pre .0) in
-    omega (arith, c .first-of .ensures, p .block _ (a .pre .3 k) .first-below, p .few-instructions)
+    omega (arith, c .first-of .ensures, p .block _ (a .pre .3 (k .0)) .first-below, p .few-instructions)
 
 returns-3 : tie.Need-returns-3
 returns-3 c =
     let a = c .before .before .before .before .before .before .before .before in
     let k = c .before .before .before .before .jumps-to-label .ensures (not-false _ (c .before .before .before .if1 .left)) in
-    armed-plain (a .args .cells .now) (a .args .x) (a .pre .1) (a .pre .2) k
+    armed-plain (a .args .cells .now) (a .args .x) (a .pre .1) (a .pre .2) (k .0) (k .1)
     (λ q. c .before .if2 .left (c .before .before .annotation-of .ensures ∙ q)) (c .first-of .ensures)
 
 pub arm-of-spec : {M : Type 1} → statement M

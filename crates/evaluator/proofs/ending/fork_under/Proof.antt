@@ -7,7 +7,8 @@ use Rattle.image.proofs.Accepted.{accepted}
 use Rattle.task.proofs.Belonging.{fork-unfit, fork-no-places, opens}
 use Rattle.evaluator.specs.Registers.{valueOf}
 use Rattle.evaluator.specs.Banks.{forksOf}
-use Rattle.evaluator.proofs.EndingLaws.{record-is, label-is, label-inside, fork-no-record, fork-no-label}
+use Rattle.evaluator.proofs.LeadLaws.{label-inside}
+use Rattle.evaluator.proofs.EndingLaws.{record-is, label-is, fork-no-record, fork-no-label}
 use borrow.Author.Needs.{needs}
 use Rattle.evaluator.proofs.ending.fork_under.Statement.{statement}
 use Rattle.evaluator.proofs.ending.fork_under.Tie as tie

@@ -32,17 +32,15 @@ same-length-2 c = search needs
 
 returns : tie.Need-returns
 returns c =
-    let a = c .before .before .before .before .before .before .before .before .before .before .before .before .before .before .before .before .before .before .before in
+    let a = c .before .before .before .before .before .before .before .before .before .before .before .before .before .before .before .before .before .before .before .before in
     let cells = a .args .cells .now in
     let words = a .args .words .now in
     let h = a .args .hand in
-    let rows = rowsOf (a .args .nums .now) (a .args .kinds .now) (a .args .bank .now) (a .args .marks .now) (a .args .recs .now) (a .args .sides .now) in
     let p = a .pre .0 in
-    let e = c .before .before .before .before .before .before .before .before .before .if1 .taken in
-    let some = still-left (h .what) (h .left) (h .depth) e (a .pre .2) in
-    let r = c .before .before .before .before .before .before .run-hand in
+    let r = c .before .before .before .before .before .before .before .run-hand in
     let x = r .ensures .1 (a .args .bank .now) (a .args .marks .now) (a .args .recs .now) (a .args .sides .now) p in
-    (less-left cells h (r .result) _ (x .point) (omega (arith, c .if2 .taken, some)), x)
+    let some = still-left (h .what) (h .left) (h .depth) (c .before .before .before .before .before .before .before .before .before .before .if1 .taken) (a .pre .2) in
+    (less-left cells h (r .result .hand) _ (x .point) (omega (arith, r .ensures .0 .when-spent (c .before .if2 .taken), some)), x)
 
 act-requires : tie.Need-act-requires
 act-requires c κs =
@@ -50,13 +48,11 @@ act-requires c κs =
     let cells = a .args .cells .now in
     let words = a .args .words .now in
     let h = a .args .hand in
-    let rows = rowsOf (a .args .nums .now) (a .args .kinds .now) (a .args .bank .now) (a .args .marks .now) (a .args .recs .now) (a .args .sides .now) in
     let p = a .pre .0 in
-    let e = c .before .before .before .before .before .before .before .before .before .before .before .before .before .before .before .if1 .taken in
-    let some = still-left (h .what) (h .left) (h .depth) e (a .pre .2) in
     let r = c .before .before .before .before .before .before .before .before .before .before .before .before .run-hand in
     let x = r .ensures .1 (a .args .bank .now) (a .args .marks .now) (a .args .recs .now) (a .args .sides .now) p in
-    (x .point, r .ensures .0 .0, omega (arith, c .before .before .before .before .before .before .if2 .left))
+    let n = r .ensures .0 .when-not (c .before .before .before .before .before .before .if2 .left) in
+    (x .point, r .ensures .0 .still-runs, n .0, c .before .before .before .before .before .before .if2 .left, n .1)
 
 same-length-3 : tie.Need-same-length-3
 same-length-3 c = search needs
@@ -83,15 +79,13 @@ returns-2 c =
     let cells = a .args .cells .now in
     let words = a .args .words .now in
     let h = a .args .hand in
-    let rows = rowsOf (a .args .nums .now) (a .args .kinds .now) (a .args .bank .now) (a .args .marks .now) (a .args .recs .now) (a .args .sides .now) in
     let p = a .pre .0 in
-    let half = c .before .before .before .before .before .before .before .before .before .before .before .before .before .before in
-    let e = half .before .before .before .before .before .before .before .before .before .before .before .before .before .before .if1 .taken in
-    let some = still-left (h .what) (h .left) (h .depth) e (a .pre .2) in
     let r = c .before .before .before .before .before .before .before .before .before .before .before .before .before .before .before .before .before .before .before .before .before .before .before .before .before .run-hand in
     let x = r .ensures .1 (a .args .bank .now) (a .args .marks .now) (a .args .recs .now) (a .args .sides .now) p in
-    let y = c .before .before .before .before .before .before .before .before .before .before .before .before .act in
-    (less-left cells h (y .result) _ (y .ensures .1 .point) (omega (arith, y .ensures .0, r .ensures .0 .1)), leads-on cells words (a .args .interval) x (y .ensures .1))
+    let y = c .before .before .before .before .before .before .before .before .before .before .before .before .act in (
+      less-left cells h (y .result) _ (y .ensures .1 .point) (omega (arith, y .ensures .0, r .ensures .0 .fewer)),
+      leads-on cells words (a .args .interval) x (y .ensures .1),
+    )
 
 sub-kept-at : tie.Need-sub-kept-at
 sub-kept-at c =

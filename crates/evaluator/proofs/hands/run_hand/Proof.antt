@@ -19,7 +19,7 @@ returns : tie.Need-returns
 returns c =
     let a = c .before .before .before .before .before .before .before .before .before .before .before in
     let t = c .before .before .before .before .run-on in (
-      (refl, t .ensures .1 .runs .fewer),
+      record { still-runs = refl; fewer = t .ensures .1 .runs .fewer; when-spent = t .ensures .1 .when-spent; when-not = t .ensures .1 .when-not },
       λ bank marks recs sides p.
           run-leads (a .args .cells .now) (a .args .words .now) (a .args .interval) (a .args .hand) (rowsOf (a .args .nums .now)
           (a .args .kinds .now) bank marks recs sides) p (a .pre .1) (t .result) _ _ (t .ensures .0) (t .ensures .1),

@@ -3,13 +3,15 @@ use mathlib.Core.Path.{refl}
 use native.Mathlib.Omega.{arith}
 use Rattle.evaluator.specs.Registers.{registersOf}
 use Rattle.evaluator.proofs.RegisterLaws.{still-sized}
-use Rattle.evaluator.proofs.SetLaws.{unset, sets, gives-word}
+use Rattle.evaluator.proofs.SetLaws.{unset, sets, gives-word, no-word}
 use borrow.Author.Needs.{needs}
 use Rattle.evaluator.proofs.moves.fetch_number.Statement.{statement}
 use Rattle.evaluator.proofs.moves.fetch_number.Tie as tie
 
 returns : tie.Need-returns
-returns c = λ s. (c .before .before .before .pre .0, λ p k t o. unset)
+returns c =
+    let a = c .before .before .before in
+    λ p k d s. (a .pre .0, λ t o q. unset 33 (omega arith) (no-word (a .args .words .now) (a .args .v) p k (s (registersOf (a .args .nums .now) (a .args .kinds .now))) t o (c .if1 .taken)))
 
 mul-bits : tie.Need-mul-bits
 mul-bits c = search needs
@@ -36,25 +38,13 @@ returns-2 c =
     let kinds = a .args .kinds .now in
     let put = c .before .before .before .before .put .ensures in
     let b = c .before .before .before .before .before .before .before .bits in
-    λ s. (
+    λ p k d s. (
       still-sized nums kinds (a .args .r) _ _ (a .pre .0) (put .0) (put .1),
-      λ p k t o.
+      λ t o q.
           sets nums kinds (a .args .r) (b .result) 0 _ refl
-          (gives-word (a .args .words .now) (a .args .v) (b .result) p k (s (registersOf nums kinds)) t o
-          (c .before .before .before .before .before .before .before .before .before .if1 .left)
-          (omega (arith, mul-bits (c .before .before .before .before .before .before .before .before .before))) (search needs) (b .ensures)) (put .0)
-          (put .1),
+          (gives-word (a .args .words .now) (a .args .v) p k (s (registersOf nums kinds)) t o (b .result) (c .before .before .before .before .before .before .before .before .before .if1 .left)
+          (omega (arith, mul-bits (c .before .before .before .before .before .before .before .before .before))) (search needs) (b .ensures)) (put .0) (put .1),
     )
 
 pub fetch-number-spec : {M : Type 1} → statement M
-fetch-number-spec =
-    tie.close
-    (tie.spec
-    returns
-    mul-bits
-    shared-slice-copy-out-bits
-    bits-requires
-    put-requires
-    same-length
-    same-length-2
-    returns-2)
+fetch-number-spec = tie.close (tie.spec returns mul-bits shared-slice-copy-out-bits bits-requires put-requires same-length same-length-2 returns-2)

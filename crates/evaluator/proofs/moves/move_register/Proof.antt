@@ -32,19 +32,10 @@ returns c =
     let kinds = a .args .kinds .now in
     let v = a .args .v in
     let put = c .before .before .before .before .put .ensures in
-    λ w s. (
+    λ x s. (
       still-sized nums kinds (a .args .r) _ _ (a .pre .0) (put .0) (put .1),
-      λ p k t o. sets nums kinds (a .args .r) (getD nums v 0) (getD kinds v 0) _ (sym (value-at nums kinds v (a .pre .0) (a .pre .2))) refl (put .0) (put .1),
+      λ t o q. sets nums kinds (a .args .r) (getD nums v 0) (getD kinds v 0) _ (sym (value-at nums kinds v (a .pre .0) (a .pre .2))) refl (put .0) (put .1),
     )
 
 pub move-register-spec : {M : Type 1} → statement M
-move-register-spec =
-    tie.close
-    (tie.spec
-    mul-num
-    slice-read-num
-    slice-read-kind
-    put-requires
-    same-length
-    same-length-2
-    returns)
+move-register-spec = tie.close (tie.spec mul-num slice-read-num slice-read-kind put-requires same-length same-length-2 returns)

@@ -21,9 +21,9 @@ returns c =
     let nums = a .args .nums .now in
     let kinds = a .args .kinds .now in
     let put = c .before .before .before .before .put .ensures in
-    λ w s. (
+    λ x s. (
       still-sized nums kinds (a .args .r) _ _ (a .pre .0) (put .0) (put .1),
-      λ p k t o. sets nums kinds (a .args .r) (a .args .num) (a .args .kind) _ refl refl (put .0) (put .1),
+      λ t o q. sets nums kinds (a .args .r) (a .args .num) (a .args .kind) _ refl refl (put .0) (put .1),
     )
 
 pub move-value-spec : {M : Type 1} → statement M

@@ -1,13 +1,11 @@
 -- `run_on` meets its contract.
-use mathlib.Core.Path.{sym}
-use mathlib.Core.Bool.{true≢false}
+use mathlib.Core.Path.{refl}
 use native.Mathlib.Omega.{arith}
-use borrow.Author.Tests.{not-true, not-false}
 use Rattle.image.specs.Layout.{programOf}
 use Rattle.task.proofs.Formation.{formed-is}
 use Rattle.evaluator.specs.Registers.{registersOf, Sized}
 use Rattle.evaluator.specs.Turns.{Runs}
-use Rattle.evaluator.proofs.RunLaws.{runs-start, runs-on}
+use Rattle.evaluator.proofs.RunLaws.{runs-start, runs-on, stops}
 use Rattle.evaluator.proofs.turning.run_on.Statement.{statement}
 use Rattle.evaluator.proofs.turning.run_on.Tie as tie
 
@@ -35,6 +33,8 @@ turn-requires c κs =
     let a = c .before .before .before .before .before .before .before .before in
     let l = c .before .before .before .loop in
     let i = l .inv .1 in
+    let f = formed-is (programOf (a .args .cells .now)) (a .pre .rank) (a .pre .height) _
+    (i .keeps-formed (a .pre .forks) (a .pre .span) (a .pre .rank) (a .pre .height) (a .pre .room) (a .pre .is-formed)) in
     record {
       accepted-program = a .pre .accepted-program;
       decodes = a .pre .decodes;
@@ -42,36 +42,34 @@ turn-requires c κs =
       on-place = i .aligned;
       inside-program = i .inside;
       counter-least = omega (arith, i .counted, c .before .before .loop-test .taken);
-      values-fit =
-          formed-is (programOf (a .args .cells .now)) (a .pre .rank) (a .pre .height) _
-          (i .keeps-formed (a .pre .forks) (a .pre .span) (a .pre .rank) (a .pre .height) (a .pre .room) (a .pre .is-formed)) .values-fit;
+      values-fit = f .values-fit;
+      depth-most = omega (arith, f .has-depth, a .pre .room);
     }
 
 same-length : tie.Need-same-length Inv-loop μ-loop
 same-length c =
-    omega (
-      arith,
-      c .before .before .before .before .before .before .turn .ensures .0 .0,
-      c .before .before .before .before .before .before .before .before .before .before .before .before .before .before .before .pre .sized .0,
-    )
+    omega (arith, c .before .before .before .before .before .before .turn .ensures .0 .0, c .before .before .before .before .before .before .before .before .before .before .before .before .before .before .before .pre .sized .0)
 
 same-length-2 : tie.Need-same-length-2 Inv-loop μ-loop
 same-length-2 c =
-    omega (
-      arith,
-      c .before .before .before .before .before .before .turn .ensures .0 .1,
-      c .before .before .before .before .before .before .before .before .before .before .before .before .before .before .before .pre .sized .1,
-    )
+    omega (arith, c .before .before .before .before .before .before .turn .ensures .0 .1, c .before .before .before .before .before .before .before .before .before .before .before .before .before .before .before .pre .sized .1)
 
 returns : tie.Need-returns Inv-loop μ-loop
 returns c =
+    let a = c .before .before .before .before .before .before .before .before .before .before .before .before .before .before .before in
+    let l = c .before .before .before .before .before .before .before .before .before .before .loop in
     let t = c .before .before .before .before .before .before .turn in
-    let off = not-true (t .result .on) (c .if1 .taken) in (
+    let off = c .if1 .taken in
+    let some = c .before .before .before .before .before .before .before .before .before .loop-test .taken in (
       t .ensures .0,
       record {
-        runs = rw (t .ensures .1 .stays off) (c .before .before .before .before .before .before .before .before .before .before .loop .inv .1);
-        when-spent = λ q. absurd (true≢false (sym q));
-        when-not = λ q. c .before .before .before .before .before .before .before .before .before .loop-test .taken;
+        runs = rw (t .ensures .1 .stays off .0) (l .inv .1);
+        when-spent = λ q. absurd (off q);
+        when-not = λ q. (
+          some,
+          stops (a .args .cells .now) (a .args .words .now) (a .args .interval) (a .args .places) (a .args .depth) (l .pc) (l .beat) (l .left)
+              (registersOf (l .nums) (l .kinds)) (t .result) _ some off (t .ensures .1),
+        );
       },
     )
 
@@ -85,13 +83,12 @@ loop-again : tie.Need-loop-again Inv-loop μ-loop
 loop-again c =
     let a = c .before .before .before .before .before .before .before .before .before .before .before .before .before .before .before in
     let t = c .before .before .before .before .before .before .turn in
-    let l = c .before .before .before .before .before .before .before .before .before .before .loop in
-    let on = not-false (t .result .on) (c .if1 .left) in (
+    let l = c .before .before .before .before .before .before .before .before .before .before .loop in (
       t .ensures .0,
       runs-on (a .args .cells .now) (a .args .words .now) (a .args .interval) (a .pre .accepted-program) (a .args .places) (a .args .depth)
           (a .args .start) (a .args .begun)
           (a .args .budget) (registersOf (a .args .nums .now) (a .args .kinds .now)) (l .pc) (l .beat) (l .left) (registersOf (l .nums) (l .kinds)) (t .result) _
-          (c .before .before .before .before .before .before .before .before .before .loop-test .taken) on (l .inv .1) (t .ensures .1),
+          (c .before .before .before .before .before .before .before .before .before .loop-test .taken) (c .if1 .left) (l .inv .1) (t .ensures .1),
     )
 
 same-length-3 : tie.Need-same-length-3 Inv-loop μ-loop
@@ -103,7 +100,7 @@ same-length-4 c = omega (arith, c .before .loop .inv .0 .1, c .before .before .b
 returns-2 : tie.Need-returns-2 Inv-loop μ-loop
 returns-2 c =
     let l = c .before .loop in
-    (l .inv .0, record { runs = l .inv .1; when-spent = λ q. omega (arith, c .loop-test .left); when-not = λ q. absurd (true≢false q) })
+    (l .inv .0, record { runs = l .inv .1; when-spent = λ q. omega (arith, c .loop-test .left); when-not = λ q. absurd (q refl) })
 
 pub run-on-spec : {M : Type 1} → statement M
 run-on-spec =
