@@ -99,14 +99,13 @@ fn end_with(hand: Hand, what: u64) -> Hand
     requires { ⌜ 0 < hand .left ⌝ }
     ensures { λ z. ⌜ z ≡ endedWith hand what ⌝ }
 {
-    let left = hand.left - 1;
     Hand {
         what,
         places: hand.places,
         depth: hand.depth,
         pc: 0,
-        beat: left,
-        left,
+        beat: hand.left - 1,
+        left: hand.left - 1,
         spun: hand.spun,
     }
 }
@@ -131,7 +130,7 @@ fn open_fork(
     ensures { λ z. ⌜ Keeps (now (sides .entry)) (hand .depth) (childOf hand (e .child)) (now (sides .exit)) ⌝ }
 {
     let at = hand.depth as usize;
-    let left = hand.left - 1;
+    let rest = hand.left - 1;
     let places = hand.places / 2;
     save(nums, kinds, bank, marks, 16 * at);
     recs[at] = under;
@@ -139,7 +138,7 @@ fn open_fork(
         what: 0,
         places,
         pc: 4 * (e.child as usize),
-        span: hand.spun - left,
+        span: hand.spun - rest,
     };
     keep(sides, at, child);
     Hand {
@@ -147,8 +146,8 @@ fn open_fork(
         places,
         depth: hand.depth + 1,
         pc: 4 * (e.pc as usize),
-        beat: left + (e.counter as u64),
-        left,
+        beat: rest + (e.counter as u64),
+        left: rest,
         spun: hand.spun,
     }
 }

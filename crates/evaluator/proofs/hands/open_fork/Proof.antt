@@ -7,8 +7,8 @@ use borrow.Author.Needs.{needs}
 use Rattle.evaluator.proofs.hands.open_fork.Statement.{statement}
 use Rattle.evaluator.proofs.hands.open_fork.Tie as tie
 
-sub-left : tie.Need-sub-left
-sub-left c = search needs
+sub-rest : tie.Need-sub-rest
+sub-rest c = search needs
 
 mul-save : tie.Need-mul-save
 mul-save c = search needs
@@ -75,7 +75,7 @@ pub open-fork-spec : {M : Type 1} → statement M
 open-fork-spec =
     tie.close
     (tie.spec
-    sub-left
+    sub-rest
     mul-save
     save-requires
     mul-recs
