@@ -1,0 +1,339 @@
+//! One task from block to block, until it asks something of those who hold it.
+
+use crate::job::word;
+use crate::op::{Code, Op, Target};
+use crate::task::{continuation, depth, Task};
+use model::fault;
+
+/// Why a task does not go on by itself.
+pub enum Stop {
+    /// It forks under this record, the child to start this block; it goes on with operation `next`.
+    Fork {
+        record: i64,
+        label: u8,
+        next: usize,
+    },
+    /// Its side of the innermost fork has ended.
+    Wait,
+    Fault(u8),
+    Halt,
+    /// More was done than the budget allows.
+    Spent,
+    /// The block that is entered is to be gone through with care, or no longer so.
+    Care(Target),
+}
+
+/// What a task's operations look at besides the task.
+pub struct Scene<'a> {
+    pub code: &'a Code,
+    /// The call record's bytes.
+    pub words: &'a [u8],
+    pub interval: u16,
+    /// The work allowed.
+    pub limit: u64,
+}
+
+/// The innermost open fork.
+#[derive(Clone, Copy)]
+pub struct Innermost {
+    pub depth: i64,
+    pub record: i64,
+}
+
+impl Innermost {
+    /// Whether a record fits the task. Every fork opened beyond a record's depth was opened under a
+    /// record that fitted then. So those beyond it belong to it if the innermost does.
+    fn fits(self, record: i64) -> bool {
+        depth(record) == self.depth || record == self.record
+    }
+}
+
+impl Scene<'_> {
+    /// Where the next look at the beat and the budget is due, for a task whose counter is 0.
+    pub fn beat(&self, work: u64, places: u8) -> u64 {
+        if self.interval == 0 || places < 2 {
+            return self.limit + 1;
+        }
+        (work + u64::from(self.interval)).min(self.limit + 1)
+    }
+
+    /// Runs a task from this operation on. Work is advanced where a block is left: a task can't
+    /// look at it in between.
+    pub fn run<const CARE: bool>(
+        &self,
+        task: &mut Task,
+        innermost: Innermost,
+        first: usize,
+        work: &mut u64,
+    ) -> Stop {
+        let ops = &self.code.ops[..];
+        let mut rest = ops[first..].iter();
+        let mut done = *work;
+        let fault = 'run: loop {
+            let op = match rest.next() {
+                Some(op) => op,
+                None => unreachable!("a block's last operation leads out of it"),
+            };
+            let (count, to) = match *op {
+                Op::Set(r, integer) => {
+                    task.set::<CARE>(r, integer);
+                    continue;
+                }
+                Op::SetLabel(r, label) => {
+                    task.set_label(r, label);
+                    continue;
+                }
+                Op::Copy(two) => {
+                    task.copy_integer::<CARE>(two);
+                    continue;
+                }
+                Op::CopyAny(two) => {
+                    task.copy(two.r, &task.copied(two.v));
+                    continue;
+                }
+                Op::AddInteger(of) => {
+                    if task.with_integer::<CARE>(of, i64::wrapping_add) {
+                        continue;
+                    }
+                    break 'run fault::INTEGERS;
+                }
+                Op::MultiplyInteger(of) => {
+                    if task.with_integer::<CARE>(of, i64::wrapping_mul) {
+                        continue;
+                    }
+                    break 'run fault::INTEGERS;
+                }
+                Op::DivideInteger(of) => {
+                    if task.with_integer::<CARE>(of, i64::wrapping_div) {
+                        continue;
+                    }
+                    break 'run fault::INTEGERS;
+                }
+                Op::RemainderInteger(of) => {
+                    if task.with_integer::<CARE>(of, i64::wrapping_rem) {
+                        continue;
+                    }
+                    break 'run fault::INTEGERS;
+                }
+                Op::LessInteger(of) => {
+                    if task.with_integer::<CARE>(of, less) {
+                        continue;
+                    }
+                    break 'run fault::INTEGERS;
+                }
+                Op::EqualInteger(of) => {
+                    if task.with_integer::<CARE>(of, equal) {
+                        continue;
+                    }
+                    break 'run fault::INTEGERS;
+                }
+                Op::Add(of) => {
+                    if task.three::<CARE>(of, i64::wrapping_add) {
+                        continue;
+                    }
+                    break 'run fault::INTEGERS;
+                }
+                Op::Subtract(of) => {
+                    if task.three::<CARE>(of, i64::wrapping_sub) {
+                        continue;
+                    }
+                    break 'run fault::INTEGERS;
+                }
+                Op::Multiply(of) => {
+                    if task.three::<CARE>(of, i64::wrapping_mul) {
+                        continue;
+                    }
+                    break 'run fault::INTEGERS;
+                }
+                Op::Less(of) => {
+                    if task.three::<CARE>(of, less) {
+                        continue;
+                    }
+                    break 'run fault::INTEGERS;
+                }
+                Op::Equal(of) => {
+                    if task.three::<CARE>(of, equal) {
+                        continue;
+                    }
+                    break 'run fault::INTEGERS;
+                }
+                Op::Divide(of) | Op::Remainder(of) => {
+                    if CARE && !(task.is_integer(of.s) && task.is_integer(of.v)) {
+                        break 'run fault::INTEGERS;
+                    }
+                    if task.value(of.v) == 0 {
+                        break 'run fault::DIVISOR;
+                    }
+                    let op = if matches!(op, Op::Divide(_)) {
+                        i64::wrapping_div
+                    } else {
+                        i64::wrapping_rem
+                    };
+                    task.set::<CARE>(of.r, op(task.value(of.s), task.value(of.v)));
+                    continue;
+                }
+                Op::ByZero(s) if CARE && !task.is_integer(s) => break 'run fault::INTEGERS,
+                Op::ByZero(_) => break 'run fault::DIVISOR,
+                Op::Word(two) => {
+                    if CARE && !task.is_integer(two.v) {
+                        break 'run fault::INTEGERS;
+                    }
+                    match word(self.words, task.value(two.v)) {
+                        Some(word) => task.set::<CARE>(two.r, word),
+                        None => break 'run fault::INDEX,
+                    }
+                    continue;
+                }
+                Op::IfJump { s, count, to } => {
+                    if CARE && !task.is_integer(s) {
+                        break 'run fault::INTEGERS;
+                    }
+                    if task.value(s) != 0 {
+                        continue;
+                    }
+                    (count, to)
+                }
+                Op::IfJumpBy { s, count, v } => {
+                    if CARE && !task.is_integer(s) {
+                        break 'run fault::INTEGERS;
+                    }
+                    if task.value(s) != 0 {
+                        continue;
+                    }
+                    match task.label(v) {
+                        Some(label) => (count, self.target(label)),
+                        None => break 'run fault::TARGET,
+                    }
+                }
+                Op::IfFault(s) => {
+                    if CARE && !task.is_integer(s) {
+                        break 'run fault::INTEGERS;
+                    }
+                    if task.value(s) != 0 {
+                        continue;
+                    }
+                    break 'run fault::TARGET;
+                }
+                Op::Allocate(r, label) => {
+                    task.set_record(r, label, innermost.depth);
+                    continue;
+                }
+                Op::AllocateBy(two) => {
+                    match task.label(two.v) {
+                        Some(label) if self.code.blocks[usize::from(label)].is_join_target() => {
+                            task.set_record(two.r, label, innermost.depth);
+                        }
+                        _ => break 'run fault::JOIN_TARGET,
+                    }
+                    continue;
+                }
+                Op::Fork { s, count, label } => {
+                    let record = match task.record(s) {
+                        Some(record) if innermost.fits(record) => record,
+                        _ => break 'run fault::RECORD,
+                    };
+                    if task.places < 2 {
+                        break 'run fault::PLACES;
+                    }
+                    *work = done + u64::from(count);
+                    let next = ops.len() - rest.as_slice().len();
+                    return Stop::Fork {
+                        record,
+                        label,
+                        next,
+                    };
+                }
+                Op::ForkBy { s, count, v } => {
+                    let record = match task.record(s) {
+                        Some(record) if innermost.fits(record) => record,
+                        _ => break 'run fault::RECORD,
+                    };
+                    let label = match task.label(v) {
+                        Some(label) => label,
+                        None => break 'run fault::TARGET,
+                    };
+                    if task.places < 2 {
+                        break 'run fault::PLACES;
+                    }
+                    *work = done + u64::from(count);
+                    let next = ops.len() - rest.as_slice().len();
+                    return Stop::Fork {
+                        record,
+                        label,
+                        next,
+                    };
+                }
+                Op::ForkNowhere(s) => match task.record(s) {
+                    Some(record) if innermost.fits(record) => break 'run fault::TARGET,
+                    _ => break 'run fault::RECORD,
+                },
+                Op::Jump { count, to } => (count, to),
+                Op::JumpBy { count, v } => match task.label(v) {
+                    Some(label) => (count, self.target(label)),
+                    None => break 'run fault::TARGET,
+                },
+                Op::Halt { count } => {
+                    *work = done + u64::from(count);
+                    if innermost.depth != 0 {
+                        return Stop::Fault(fault::OPEN_FORK);
+                    }
+                    return Stop::Halt;
+                }
+                Op::Join { count, v } => match task.record(v) {
+                    Some(record) if depth(record) == innermost.depth => {
+                        (count, self.target(continuation(record)))
+                    }
+                    Some(record) if innermost.fits(record) => {
+                        *work = done + u64::from(count);
+                        return Stop::Wait;
+                    }
+                    _ => break 'run fault::RECORD,
+                },
+                Op::Fault(number) => break 'run number,
+            };
+            done += u64::from(count);
+            let mut to = to;
+            if done >= task.beat {
+                if done > self.limit {
+                    *work = done;
+                    return Stop::Spent;
+                }
+                let block = &self.code.blocks[usize::from(to.label)];
+                if block.is_ready() {
+                    task.beat = self.beat(done, task.places);
+                    to = self.target(block.label);
+                }
+            }
+            if (task.others & to.needs != 0) != CARE {
+                *work = done;
+                return Stop::Care(to);
+            }
+            rest = ops[usize::from(to.first)..].iter();
+        };
+        let at = ops.len() - rest.as_slice().len();
+        *work = done + counted(&ops[..at]);
+        Stop::Fault(fault)
+    }
+
+    pub fn target(&self, label: u8) -> Target {
+        self.code.blocks[usize::from(label)].to
+    }
+}
+
+/// The instructions up to the last of these since the block began, or since the fork before.
+#[cold]
+fn counted(ops: &[Op]) -> u64 {
+    let before = ops.iter().rev().skip(1);
+    1 + before.take_while(|op| !op.ends_count()).count() as u64
+}
+
+/// A comparison's value: 0 when true.
+#[inline(always)]
+fn less(a: i64, b: i64) -> i64 {
+    i64::from(a >= b)
+}
+
+#[inline(always)]
+fn equal(a: i64, b: i64) -> i64 {
+    i64::from(a != b)
+}
