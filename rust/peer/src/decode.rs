@@ -2,7 +2,7 @@
 
 use crate::job::word;
 use crate::needs;
-use crate::op::{Block, Code, Op, Register, Target, Three, Two, WithInteger};
+use crate::op::{Block, Code, Op, Register, Target};
 use model::{fault, opcode, BLOCK_BYTES, HEADER_BYTES, INSTRUCTION_BYTES, MAX_PAIRS};
 
 /// Kinds of operands.
@@ -128,20 +128,18 @@ impl Decoder<'_> {
             Register::of(record.s()),
             self.count,
         );
-        let three = Three { r, s, v };
-        let two = Two { r, v };
         match record.opcode() {
-            opcode::MOVE => self.copy(two),
-            opcode::ADD => Op::Add(three),
-            opcode::SUBTRACT => Op::Subtract(three),
-            opcode::MULTIPLY => Op::Multiply(three),
-            opcode::DIVIDE => Op::Divide(three),
-            opcode::REMAINDER => Op::Remainder(three),
-            opcode::LESS => Op::Less(three),
-            opcode::EQUAL => Op::Equal(three),
-            opcode::WORD => Op::Word(two),
+            opcode::MOVE => self.copy(r, v),
+            opcode::ADD => Op::Add { r, s, v },
+            opcode::SUBTRACT => Op::Subtract { r, s, v },
+            opcode::MULTIPLY => Op::Multiply { r, s, v },
+            opcode::DIVIDE => Op::Divide { r, s, v },
+            opcode::REMAINDER => Op::Remainder { r, s, v },
+            opcode::LESS => Op::Less { r, s, v },
+            opcode::EQUAL => Op::Equal { r, s, v },
+            opcode::WORD => Op::Word { r, v },
             opcode::IF_JUMP => Op::IfJumpBy { s, count, v },
-            opcode::JRALLOC => Op::AllocateBy(two),
+            opcode::JRALLOC => Op::AllocateBy { r, v },
             opcode::FORK => {
                 self.count = 0;
                 Op::ForkBy { s, count, v }
@@ -151,12 +149,12 @@ impl Decoder<'_> {
         }
     }
 
-    fn copy(&self, two: Two) -> Op {
-        let both = two.r.bit() | two.v.bit();
+    fn copy(&self, r: Register, v: Register) -> Op {
+        let both = r.bit() | v.bit();
         if self.needs & both == both {
-            Op::Copy(two)
+            Op::Copy { r, v }
         } else {
-            Op::CopyAny(two)
+            Op::CopyAny { r, v }
         }
     }
 
@@ -168,14 +166,16 @@ impl Decoder<'_> {
         );
         let block = &self.blocks[usize::from(label)];
         match record.opcode() {
-            opcode::MOVE => Op::SetLabel(r, label),
+            opcode::MOVE => Op::SetLabel { r, label },
             opcode::IF_JUMP => Op::IfJump {
                 s,
                 count,
                 to: block.to,
             },
-            opcode::JRALLOC if block.is_join_target() => Op::Allocate(r, label),
-            opcode::JRALLOC => Op::Fault(fault::JOIN_TARGET),
+            opcode::JRALLOC if block.is_join_target() => Op::Allocate { r, label },
+            opcode::JRALLOC => Op::Fault {
+                number: fault::JOIN_TARGET,
+            },
             opcode::FORK => {
                 self.count = 0;
                 Op::Fork { s, count, label }
@@ -184,35 +184,48 @@ impl Decoder<'_> {
                 count,
                 to: block.to,
             },
-            opcode::JOIN => Op::Fault(fault::RECORD),
-            _ => Op::Fault(fault::INTEGERS),
+            opcode::JOIN => Op::Fault {
+                number: fault::RECORD,
+            },
+            _ => Op::Fault {
+                number: fault::INTEGERS,
+            },
         }
     }
 
     fn with_integer(&mut self, record: Record, v: i64) -> Op {
         let (r, s) = (Register::of(record.r()), Register::of(record.s()));
-        let with = WithInteger { r, s, v };
         match record.opcode() {
-            opcode::MOVE => Op::Set(r, v),
-            opcode::ADD => Op::AddInteger(with),
-            opcode::SUBTRACT => Op::AddInteger(WithInteger {
+            opcode::MOVE => Op::Set { r, v },
+            opcode::ADD => Op::AddInteger { r, s, v },
+            opcode::SUBTRACT => Op::AddInteger {
+                r,
+                s,
                 v: v.wrapping_neg(),
-                ..with
-            }),
-            opcode::MULTIPLY => Op::MultiplyInteger(with),
-            opcode::DIVIDE | opcode::REMAINDER if v == 0 => Op::ByZero(s),
-            opcode::DIVIDE => Op::DivideInteger(with),
-            opcode::REMAINDER => Op::RemainderInteger(with),
-            opcode::LESS => Op::LessInteger(with),
-            opcode::EQUAL => Op::EqualInteger(with),
-            opcode::WORD => {
-                word(self.words, v).map_or(Op::Fault(fault::INDEX), |word| Op::Set(r, word))
-            }
-            opcode::IF_JUMP => Op::IfFault(s),
-            opcode::JRALLOC => Op::Fault(fault::JOIN_TARGET),
-            opcode::FORK => Op::ForkNowhere(s),
-            opcode::JUMP => Op::Fault(fault::TARGET),
-            _ => Op::Fault(fault::RECORD),
+            },
+            opcode::MULTIPLY => Op::MultiplyInteger { r, s, v },
+            opcode::DIVIDE | opcode::REMAINDER if v == 0 => Op::ByZero { s },
+            opcode::DIVIDE => Op::DivideInteger { r, s, v },
+            opcode::REMAINDER => Op::RemainderInteger { r, s, v },
+            opcode::LESS => Op::LessInteger { r, s, v },
+            opcode::EQUAL => Op::EqualInteger { r, s, v },
+            opcode::WORD => word(self.words, v).map_or(
+                Op::Fault {
+                    number: fault::INDEX,
+                },
+                |v| Op::Set { r, v },
+            ),
+            opcode::IF_JUMP => Op::IfFault { s },
+            opcode::JRALLOC => Op::Fault {
+                number: fault::JOIN_TARGET,
+            },
+            opcode::FORK => Op::ForkNowhere { s },
+            opcode::JUMP => Op::Fault {
+                number: fault::TARGET,
+            },
+            _ => Op::Fault {
+                number: fault::RECORD,
+            },
         }
     }
 }

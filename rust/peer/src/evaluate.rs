@@ -58,7 +58,7 @@ type Ended = Option<End>;
 
 impl Evaluator<'_> {
     fn end(&mut self) -> Ended {
-        let mut to = self.scene.target(0);
+        let mut to = *self.scene.target(0);
         loop {
             let cares = self.tasks[self.current].others & to.needs != 0;
             let stop = if cares {
@@ -164,7 +164,7 @@ impl Evaluator<'_> {
         let child = &mut self.tasks[self.current];
         child.span = self.work - child.span;
         child.beat = self.scene.beat(self.work, child.places);
-        self.scene.target(label)
+        *self.scene.target(label)
     }
 
     /// One task of two ended sides, the child's being the last: in the parent's place, to start the
@@ -181,7 +181,7 @@ impl Evaluator<'_> {
         task.beat = self.scene.beat(self.work, task.places);
         self.tasks.truncate(self.current);
         self.current = parent;
-        self.scene.target(continuation.label)
+        *self.scene.target(continuation.label)
     }
 
     fn report(&self, end: Ended) -> Report {

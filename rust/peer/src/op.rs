@@ -41,100 +41,52 @@ pub struct Target {
     pub label: u8,
 }
 
-/// `r := s op v` of registers.
-#[derive(Clone, Copy, Debug)]
-pub struct Three {
-    pub r: Register,
-    pub s: Register,
-    pub v: Register,
-}
-
-/// `r := s op v` with an integer v.
-#[derive(Clone, Copy, Debug)]
-pub struct WithInteger {
-    pub r: Register,
-    pub s: Register,
-    pub v: i64,
-}
-
-/// `r := v` or a like operation of registers.
-#[derive(Clone, Copy, Debug)]
-pub struct Two {
-    pub r: Register,
-    pub v: Register,
-}
-
 /// A count is of the instructions since the block began, or since the fork before, this one included.
+/// The fields stand in the variants themselves: so an operation has 16 bytes.
 #[derive(Clone, Copy, Debug)]
+#[rustfmt::skip]
 pub enum Op {
     /// An integer, or the word at an index that is inside the record.
-    Set(Register, i64),
-    SetLabel(Register, u8),
+    Set { r: Register, v: i64 },
+    SetLabel { r: Register, label: u8 },
     /// A copy between registers that the block needs integers in.
-    Copy(Two),
-    CopyAny(Two),
+    Copy { r: Register, v: Register },
+    CopyAny { r: Register, v: Register },
     /// Differences with an integer are sums too.
-    AddInteger(WithInteger),
-    MultiplyInteger(WithInteger),
+    AddInteger { r: Register, s: Register, v: i64 },
+    MultiplyInteger { r: Register, s: Register, v: i64 },
     /// The divisor is not 0.
-    DivideInteger(WithInteger),
-    RemainderInteger(WithInteger),
-    LessInteger(WithInteger),
-    EqualInteger(WithInteger),
-    Add(Three),
-    Subtract(Three),
-    Multiply(Three),
-    Divide(Three),
-    Remainder(Three),
-    Less(Three),
-    Equal(Three),
+    DivideInteger { r: Register, s: Register, v: i64 },
+    RemainderInteger { r: Register, s: Register, v: i64 },
+    LessInteger { r: Register, s: Register, v: i64 },
+    EqualInteger { r: Register, s: Register, v: i64 },
+    Add { r: Register, s: Register, v: Register },
+    Subtract { r: Register, s: Register, v: Register },
+    Multiply { r: Register, s: Register, v: Register },
+    Divide { r: Register, s: Register, v: Register },
+    Remainder { r: Register, s: Register, v: Register },
+    Less { r: Register, s: Register, v: Register },
+    Equal { r: Register, s: Register, v: Register },
     /// A division by the integer 0.
-    ByZero(Register),
-    Word(Two),
-    IfJump {
-        s: Register,
-        count: u16,
-        to: Target,
-    },
-    IfJumpBy {
-        s: Register,
-        count: u16,
-        v: Register,
-    },
+    ByZero { s: Register },
+    Word { r: Register, v: Register },
+    IfJump { s: Register, count: u16, to: Target },
+    IfJumpBy { s: Register, count: u16, v: Register },
     /// An if-jump to what is no label.
-    IfFault(Register),
+    IfFault { s: Register },
     /// With the label of a join target.
-    Allocate(Register, u8),
-    AllocateBy(Two),
-    Fork {
-        s: Register,
-        count: u16,
-        label: u8,
-    },
-    ForkBy {
-        s: Register,
-        count: u16,
-        v: Register,
-    },
+    Allocate { r: Register, label: u8 },
+    AllocateBy { r: Register, v: Register },
+    Fork { s: Register, count: u16, label: u8 },
+    ForkBy { s: Register, count: u16, v: Register },
     /// A fork to what is no label.
-    ForkNowhere(Register),
-    Jump {
-        count: u16,
-        to: Target,
-    },
-    JumpBy {
-        count: u16,
-        v: Register,
-    },
-    Halt {
-        count: u16,
-    },
-    Join {
-        count: u16,
-        v: Register,
-    },
+    ForkNowhere { s: Register },
+    Jump { count: u16, to: Target },
+    JumpBy { count: u16, v: Register },
+    Halt { count: u16 },
+    Join { count: u16, v: Register },
     /// What can only fault.
-    Fault(u8),
+    Fault { number: u8 },
 }
 
 impl Op {
@@ -149,7 +101,7 @@ impl Op {
                 | JumpBy { .. }
                 | Halt { .. }
                 | Join { .. }
-                | Fault(_)
+                | Fault { .. }
         )
     }
 }

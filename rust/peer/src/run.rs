@@ -74,126 +74,132 @@ impl Scene<'_> {
                 Some(op) => op,
                 None => unreachable!("a block's last operation leads out of it"),
             };
-            let (count, to) = match *op {
-                Op::Set(r, integer) => {
-                    task.set::<CARE>(r, integer);
+            let mut to = match op {
+                &Op::Set { r, v } => {
+                    task.set::<CARE>(r, v);
                     continue;
                 }
-                Op::SetLabel(r, label) => {
+                &Op::SetLabel { r, label } => {
                     task.set_label(r, label);
                     continue;
                 }
-                Op::Copy(two) => {
-                    task.copy_integer::<CARE>(two);
+                &Op::Copy { r, v } => {
+                    task.copy_integer::<CARE>(r, v);
                     continue;
                 }
-                Op::CopyAny(two) => {
-                    task.copy(two.r, &task.copied(two.v));
+                &Op::CopyAny { r, v } => {
+                    task.copy(r, &task.copied(v));
                     continue;
                 }
-                Op::AddInteger(of) => {
-                    if task.with_integer::<CARE>(of, i64::wrapping_add) {
+                &Op::AddInteger { r, s, v } => {
+                    if task.combine_integer::<CARE>((r, s, v), i64::wrapping_add) {
                         continue;
                     }
                     break 'run fault::INTEGERS;
                 }
-                Op::MultiplyInteger(of) => {
-                    if task.with_integer::<CARE>(of, i64::wrapping_mul) {
+                &Op::MultiplyInteger { r, s, v } => {
+                    if task.combine_integer::<CARE>((r, s, v), i64::wrapping_mul) {
                         continue;
                     }
                     break 'run fault::INTEGERS;
                 }
-                Op::DivideInteger(of) => {
-                    if task.with_integer::<CARE>(of, i64::wrapping_div) {
+                &Op::DivideInteger { r, s, v } => {
+                    if task.combine_integer::<CARE>((r, s, v), i64::wrapping_div) {
                         continue;
                     }
                     break 'run fault::INTEGERS;
                 }
-                Op::RemainderInteger(of) => {
-                    if task.with_integer::<CARE>(of, i64::wrapping_rem) {
+                &Op::RemainderInteger { r, s, v } => {
+                    if task.combine_integer::<CARE>((r, s, v), i64::wrapping_rem) {
                         continue;
                     }
                     break 'run fault::INTEGERS;
                 }
-                Op::LessInteger(of) => {
-                    if task.with_integer::<CARE>(of, less) {
+                &Op::LessInteger { r, s, v } => {
+                    if task.combine_integer::<CARE>((r, s, v), less) {
                         continue;
                     }
                     break 'run fault::INTEGERS;
                 }
-                Op::EqualInteger(of) => {
-                    if task.with_integer::<CARE>(of, equal) {
+                &Op::EqualInteger { r, s, v } => {
+                    if task.combine_integer::<CARE>((r, s, v), equal) {
                         continue;
                     }
                     break 'run fault::INTEGERS;
                 }
-                Op::Add(of) => {
-                    if task.three::<CARE>(of, i64::wrapping_add) {
+                &Op::Add { r, s, v } => {
+                    if task.combine::<CARE>((r, s, v), i64::wrapping_add) {
                         continue;
                     }
                     break 'run fault::INTEGERS;
                 }
-                Op::Subtract(of) => {
-                    if task.three::<CARE>(of, i64::wrapping_sub) {
+                &Op::Subtract { r, s, v } => {
+                    if task.combine::<CARE>((r, s, v), i64::wrapping_sub) {
                         continue;
                     }
                     break 'run fault::INTEGERS;
                 }
-                Op::Multiply(of) => {
-                    if task.three::<CARE>(of, i64::wrapping_mul) {
+                &Op::Multiply { r, s, v } => {
+                    if task.combine::<CARE>((r, s, v), i64::wrapping_mul) {
                         continue;
                     }
                     break 'run fault::INTEGERS;
                 }
-                Op::Less(of) => {
-                    if task.three::<CARE>(of, less) {
+                &Op::Less { r, s, v } => {
+                    if task.combine::<CARE>((r, s, v), less) {
                         continue;
                     }
                     break 'run fault::INTEGERS;
                 }
-                Op::Equal(of) => {
-                    if task.three::<CARE>(of, equal) {
+                &Op::Equal { r, s, v } => {
+                    if task.combine::<CARE>((r, s, v), equal) {
                         continue;
                     }
                     break 'run fault::INTEGERS;
                 }
-                Op::Divide(of) | Op::Remainder(of) => {
-                    if CARE && !(task.is_integer(of.s) && task.is_integer(of.v)) {
+                &Op::Divide { r, s, v } => {
+                    if CARE && !(task.is_integer(s) && task.is_integer(v)) {
                         break 'run fault::INTEGERS;
                     }
-                    if task.value(of.v) == 0 {
+                    if task.value(v) == 0 {
                         break 'run fault::DIVISOR;
                     }
-                    let op = if matches!(op, Op::Divide(_)) {
-                        i64::wrapping_div
-                    } else {
-                        i64::wrapping_rem
-                    };
-                    task.set::<CARE>(of.r, op(task.value(of.s), task.value(of.v)));
+                    task.set::<CARE>(r, task.value(s).wrapping_div(task.value(v)));
                     continue;
                 }
-                Op::ByZero(s) if CARE && !task.is_integer(s) => break 'run fault::INTEGERS,
-                Op::ByZero(_) => break 'run fault::DIVISOR,
-                Op::Word(two) => {
-                    if CARE && !task.is_integer(two.v) {
+                &Op::Remainder { r, s, v } => {
+                    if CARE && !(task.is_integer(s) && task.is_integer(v)) {
                         break 'run fault::INTEGERS;
                     }
-                    match word(self.words, task.value(two.v)) {
-                        Some(word) => task.set::<CARE>(two.r, word),
+                    if task.value(v) == 0 {
+                        break 'run fault::DIVISOR;
+                    }
+                    task.set::<CARE>(r, task.value(s).wrapping_rem(task.value(v)));
+                    continue;
+                }
+                &Op::ByZero { s } if CARE && !task.is_integer(s) => break 'run fault::INTEGERS,
+                Op::ByZero { .. } => break 'run fault::DIVISOR,
+                &Op::Word { r, v } => {
+                    if CARE && !task.is_integer(v) {
+                        break 'run fault::INTEGERS;
+                    }
+                    match word(self.words, task.value(v)) {
+                        Some(word) => task.set::<CARE>(r, word),
                         None => break 'run fault::INDEX,
                     }
                     continue;
                 }
-                Op::IfJump { s, count, to } => {
+                &Op::IfJump { s, count, ref to } => {
                     if CARE && !task.is_integer(s) {
                         break 'run fault::INTEGERS;
                     }
                     if task.value(s) != 0 {
                         continue;
                     }
-                    (count, to)
+                    done += u64::from(count);
+                    to
                 }
-                Op::IfJumpBy { s, count, v } => {
+                &Op::IfJumpBy { s, count, v } => {
                     if CARE && !task.is_integer(s) {
                         break 'run fault::INTEGERS;
                     }
@@ -201,11 +207,14 @@ impl Scene<'_> {
                         continue;
                     }
                     match task.label(v) {
-                        Some(label) => (count, self.target(label)),
+                        Some(label) => {
+                            done += u64::from(count);
+                            self.target(label)
+                        }
                         None => break 'run fault::TARGET,
                     }
                 }
-                Op::IfFault(s) => {
+                &Op::IfFault { s } => {
                     if CARE && !task.is_integer(s) {
                         break 'run fault::INTEGERS;
                     }
@@ -214,20 +223,18 @@ impl Scene<'_> {
                     }
                     break 'run fault::TARGET;
                 }
-                Op::Allocate(r, label) => {
+                &Op::Allocate { r, label } => {
                     task.set_record(r, label, innermost.depth);
                     continue;
                 }
-                Op::AllocateBy(two) => {
-                    match task.label(two.v) {
-                        Some(label) if self.code.blocks[usize::from(label)].is_join_target() => {
-                            task.set_record(two.r, label, innermost.depth);
-                        }
-                        _ => break 'run fault::JOIN_TARGET,
+                &Op::AllocateBy { r, v } => match task.label(v) {
+                    Some(label) if self.code.blocks[usize::from(label)].is_join_target() => {
+                        task.set_record(r, label, innermost.depth);
+                        continue;
                     }
-                    continue;
-                }
-                Op::Fork { s, count, label } => {
+                    _ => break 'run fault::JOIN_TARGET,
+                },
+                &Op::Fork { s, count, label } => {
                     let record = match task.record(s) {
                         Some(record) if innermost.fits(record) => record,
                         _ => break 'run fault::RECORD,
@@ -243,7 +250,7 @@ impl Scene<'_> {
                         next,
                     };
                 }
-                Op::ForkBy { s, count, v } => {
+                &Op::ForkBy { s, count, v } => {
                     let record = match task.record(s) {
                         Some(record) if innermost.fits(record) => record,
                         _ => break 'run fault::RECORD,
@@ -263,25 +270,32 @@ impl Scene<'_> {
                         next,
                     };
                 }
-                Op::ForkNowhere(s) => match task.record(s) {
+                &Op::ForkNowhere { s } => match task.record(s) {
                     Some(record) if innermost.fits(record) => break 'run fault::TARGET,
                     _ => break 'run fault::RECORD,
                 },
-                Op::Jump { count, to } => (count, to),
-                Op::JumpBy { count, v } => match task.label(v) {
-                    Some(label) => (count, self.target(label)),
+                &Op::Jump { count, ref to } => {
+                    done += u64::from(count);
+                    to
+                }
+                &Op::JumpBy { count, v } => match task.label(v) {
+                    Some(label) => {
+                        done += u64::from(count);
+                        self.target(label)
+                    }
                     None => break 'run fault::TARGET,
                 },
-                Op::Halt { count } => {
+                &Op::Halt { count } => {
                     *work = done + u64::from(count);
                     if innermost.depth != 0 {
                         return Stop::Fault(fault::OPEN_FORK);
                     }
                     return Stop::Halt;
                 }
-                Op::Join { count, v } => match task.record(v) {
+                &Op::Join { count, v } => match task.record(v) {
                     Some(record) if depth(record) == innermost.depth => {
-                        (count, self.target(continuation(record)))
+                        done += u64::from(count);
+                        self.target(continuation(record))
                     }
                     Some(record) if innermost.fits(record) => {
                         *work = done + u64::from(count);
@@ -289,10 +303,8 @@ impl Scene<'_> {
                     }
                     _ => break 'run fault::RECORD,
                 },
-                Op::Fault(number) => break 'run number,
+                &Op::Fault { number } => break 'run number,
             };
-            done += u64::from(count);
-            let mut to = to;
             if done >= task.beat {
                 if done > self.limit {
                     *work = done;
@@ -306,24 +318,25 @@ impl Scene<'_> {
             }
             if (task.others & to.needs != 0) != CARE {
                 *work = done;
-                return Stop::Care(to);
+                return Stop::Care(*to);
             }
             rest = ops[usize::from(to.first)..].iter();
         };
-        let at = ops.len() - rest.as_slice().len();
-        *work = done + counted(&ops[..at]);
+        *work = done + counted(ops, rest.as_slice());
         Stop::Fault(fault)
     }
 
-    pub fn target(&self, label: u8) -> Target {
-        self.code.blocks[usize::from(label)].to
+    #[inline]
+    pub fn target(&self, label: u8) -> &Target {
+        &self.code.blocks[usize::from(label)].to
     }
 }
 
-/// The instructions up to the last of these since the block began, or since the fork before.
+/// The instructions up to the one before `rest` since the block began, or since the fork before.
 #[cold]
-fn counted(ops: &[Op]) -> u64 {
-    let before = ops.iter().rev().skip(1);
+#[inline(never)]
+fn counted(ops: &[Op], rest: &[Op]) -> u64 {
+    let before = ops[..ops.len() - rest.len()].iter().rev().skip(1);
     1 + before.take_while(|op| !op.ends_count()).count() as u64
 }
 

@@ -1,7 +1,7 @@
 //! A task: its registers, and what it counts.
 
 use crate::needs::CARE;
-use crate::op::{Register, Three, Two, WithInteger};
+use crate::op::Register;
 use model::{Record, Registers, Value, REGISTERS};
 
 /// The number of a register that holds a record: its continuation, and from here on its depth.
@@ -95,36 +95,41 @@ impl Task {
         }
     }
 
-    /// Whether it was done: both are integers.
+    /// `r := s op v` of registers. Whether it was done: both are integers.
     #[inline(always)]
-    pub fn three<const CARE: bool>(&mut self, of: Three, op: impl Fn(i64, i64) -> i64) -> bool {
-        if CARE && !(self.is_integer(of.s) && self.is_integer(of.v)) {
+    pub fn combine<const CARE: bool>(
+        &mut self,
+        (r, s, v): (Register, Register, Register),
+        op: impl Fn(i64, i64) -> i64,
+    ) -> bool {
+        if CARE && !(self.is_integer(s) && self.is_integer(v)) {
             return false;
         }
-        self.set::<CARE>(of.r, op(self.value(of.s), self.value(of.v)));
+        self.set::<CARE>(r, op(self.value(s), self.value(v)));
         true
     }
 
+    /// The same with an integer v.
     #[inline(always)]
-    pub fn with_integer<const CARE: bool>(
+    pub fn combine_integer<const CARE: bool>(
         &mut self,
-        of: WithInteger,
+        (r, s, v): (Register, Register, i64),
         op: impl Fn(i64, i64) -> i64,
     ) -> bool {
-        if CARE && !self.is_integer(of.s) {
+        if CARE && !self.is_integer(s) {
             return false;
         }
-        self.set::<CARE>(of.r, op(self.value(of.s), of.v));
+        self.set::<CARE>(r, op(self.value(s), v));
         true
     }
 
     /// A copy in a block that needs integers in both.
     #[inline(always)]
-    pub fn copy_integer<const CARE: bool>(&mut self, of: Two) {
+    pub fn copy_integer<const CARE: bool>(&mut self, r: Register, v: Register) {
         if CARE {
-            self.copy(of.r, &self.copied(of.v));
+            self.copy(r, &self.copied(v));
         } else {
-            self.values[of.r.index()] = self.value(of.v);
+            self.values[r.index()] = self.value(v);
         }
     }
 
