@@ -5,10 +5,11 @@ use crate::op::{Code, Target};
 use crate::run::{Innermost, Scene, Stop};
 use crate::task::{continuation, Task};
 use model::job::Report;
-use model::task::ZEROS;
+use model::task::{MAX_DEPTH, ZEROS};
 use model::{End, WORK_LIMIT};
 
-/// A fork that is open: of the task that is evaluated, or of one whose parent's side it is.
+/// An open fork.
+#[derive(Clone, Copy)]
 struct Fork {
     record: i64,
     /// The parent's place among the tasks.
@@ -21,15 +22,26 @@ struct Fork {
     fault: u8,
 }
 
+const NO_FORK: Fork = Fork {
+    record: 0,
+    parent: 0,
+    label: 0,
+    has_ended: false,
+    fault: 0,
+};
+
 struct Evaluator<'a> {
     scene: Scene<'a>,
     work: u64,
-    /// The tasks that are evaluated, that have ended as a parent's side, or that start as a child's.
+    /// The first task, and after it the child of each open fork, the outermost first. There are as
+    /// many places as forks can be open, and one more.
     tasks: Vec<Task>,
     /// The place of the one that is evaluated.
     current: usize,
     /// The outermost first.
-    forks: Vec<Fork>,
+    forks: [Fork; MAX_DEPTH],
+    /// The number of open forks.
+    depth: usize,
 }
 
 /// Evaluates a job within a budget.
@@ -45,9 +57,10 @@ pub fn evaluate(job: &Job, code: &Code, budget: u64) -> Report {
     let mut evaluator = Evaluator {
         scene,
         work: 0,
-        tasks: vec![task],
+        tasks: vec![task; 1 + job.places.trailing_zeros() as usize],
         current: 0,
-        forks: Vec::new(),
+        forks: [NO_FORK; MAX_DEPTH],
+        depth: 0,
     };
     let end = evaluator.end();
     evaluator.report(end)
@@ -109,47 +122,51 @@ impl Evaluator<'_> {
 
     fn innermost(&self) -> Innermost {
         Innermost {
-            depth: self.forks.len() as i64,
-            // No record has this number.
-            record: self.forks.last().map_or(-1, |fork| fork.record),
+            depth: self.depth as i64,
+            record: match self.depth {
+                // No record has this number.
+                0 => -1,
+                depth => self.forks[depth - 1].record,
+            },
         }
     }
 
     /// The parent goes on with the lower half of its places. The child starts later.
     fn fork(&mut self, record: i64, label: u8) {
-        let parent = &mut self.tasks[self.current];
-        parent.places /= 2;
-        if parent.places < 2 {
-            parent.beat = self.scene.limit + 1;
-        }
-        let mut child = parent.clone();
-        child.span = self.work - parent.span;
-        self.tasks.push(child);
-        self.forks.push(Fork {
+        self.forks[self.depth] = Fork {
             record,
             parent: self.current,
             label,
             has_ended: false,
             fault: 0,
-        });
+        };
+        self.depth += 1;
+        let (before, child) = self.tasks.split_at_mut(self.depth);
+        let (parent, child) = (&mut before[self.current], &mut child[0]);
+        parent.places /= 2;
+        if parent.places < 2 {
+            parent.beat = self.scene.limit + 1;
+        }
+        *child = *parent;
+        child.span = self.work - parent.span;
     }
 
     /// Ends the task's side of the innermost fork, with a fault unless the number is 0. Hands back
     /// the block with which the evaluation goes on, or the fault that the job ends with.
     fn end_side(&mut self, mut fault: u8) -> Result<Target, u8> {
-        while let Some(fork) = self.forks.last_mut() {
+        while self.depth > 0 {
+            let fork = &mut self.forks[self.depth - 1];
             if !fork.has_ended {
                 fork.has_ended = true;
                 fork.fault = fault;
                 let label = fork.label;
                 return Ok(self.start_child(label));
             }
-            let (parent, record) = (fork.parent, fork.record);
+            let fork = *fork;
             if fork.fault != 0 {
                 fault = fork.fault;
             }
-            self.forks.pop();
-            let combining = self.join(parent, record);
+            let combining = self.join(fork.parent, fork.record);
             if fault == 0 {
                 return Ok(combining);
             }
@@ -160,18 +177,18 @@ impl Evaluator<'_> {
     fn start_child(&mut self, label: u8) -> Target {
         let parent = &mut self.tasks[self.current];
         parent.span = self.work - parent.span;
-        self.current = self.tasks.len() - 1;
+        self.current = self.depth;
         let child = &mut self.tasks[self.current];
         child.span = self.work - child.span;
         child.beat = self.scene.beat(self.work, child.places);
         *self.scene.target(label)
     }
 
-    /// One task of two ended sides, the child's being the last: in the parent's place, to start the
+    /// One task of the innermost fork's two ended sides: in the parent's place, to start the
     /// combining block that is handed back. If a side faulted, its registers are nobody's.
     fn join(&mut self, parent: usize, record: i64) -> Target {
         let continuation = &self.scene.code.blocks[usize::from(continuation(record))];
-        let (before, child) = self.tasks.split_at_mut(self.current);
+        let (before, child) = self.tasks.split_at_mut(self.depth);
         let (task, child) = (&mut before[parent], &child[0]);
         for (from, to) in continuation.register_pairs() {
             task.copy(to, &child.copied(from));
@@ -179,7 +196,7 @@ impl Evaluator<'_> {
         task.places *= 2;
         task.span = self.work - task.span.max(self.work - child.span);
         task.beat = self.scene.beat(self.work, task.places);
-        self.tasks.truncate(self.current);
+        self.depth -= 1;
         self.current = parent;
         *self.scene.target(continuation.label)
     }

@@ -7,7 +7,7 @@ use model::{Record, Registers, Value, REGISTERS};
 /// The number of a register that holds a record: its continuation, and from here on its depth.
 const DEPTH_AT: u32 = 8;
 
-#[derive(Clone)]
+#[derive(Clone, Copy)]
 pub struct Task {
     /// Integers, labels, and records as numbers.
     values: [i64; REGISTERS],
