@@ -1,18 +1,18 @@
 //! From the bytes of an image that the reader accepts to operations.
 
 use crate::job::word;
-use crate::needs;
+use crate::needs::Needs;
 use crate::op::{Block, Code, Op, Register, Target};
 use model::{fault, opcode, BLOCK_BYTES, HEADER_BYTES, INSTRUCTION_BYTES, MAX_PAIRS};
 
 /// Kinds of operands.
-pub const REGISTER: u8 = 1;
+const REGISTER: u8 = 1;
 const LABEL: u8 = 2;
 const INTEGER: u8 = 3;
 
 /// An instruction's bytes.
 #[derive(Clone, Copy)]
-pub struct Record<'a>(&'a [u8; INSTRUCTION_BYTES]);
+struct Record<'a>(&'a [u8; INSTRUCTION_BYTES]);
 
 impl<'a> Record<'a> {
     fn all(bytes: &'a [u8]) -> impl Iterator<Item = Record<'a>> + Clone {
@@ -20,32 +20,24 @@ impl<'a> Record<'a> {
         records.map(|record| Record(record.try_into().expect("twelve bytes")))
     }
 
-    pub fn opcode(self) -> u8 {
+    fn opcode(self) -> u8 {
         self.0[0]
     }
 
-    pub fn r(self) -> u8 {
+    fn r(self) -> u8 {
         self.0[1]
     }
 
-    pub fn s(self) -> u8 {
+    fn s(self) -> u8 {
         self.0[2]
     }
 
-    pub fn kind(self) -> u8 {
+    fn kind(self) -> u8 {
         self.0[3]
     }
 
-    pub fn operand(self) -> u64 {
+    fn operand(self) -> u64 {
         u64::from_le_bytes(self.0[4..].try_into().expect("eight bytes"))
-    }
-
-    pub fn is_integer(self) -> bool {
-        self.kind() == INTEGER
-    }
-
-    pub fn is_copy(self) -> bool {
-        self.opcode() == opcode::MOVE && self.kind() == REGISTER
     }
 }
 
@@ -53,38 +45,34 @@ impl<'a> Record<'a> {
 pub fn code(image: &[u8], words: &[u8]) -> Code {
     let block_bytes = BLOCK_BYTES * usize::from(image[5]);
     let (blocks, instructions) = image[HEADER_BYTES..].split_at(block_bytes);
-    let blocks = read_blocks(blocks, instructions);
+    let blocks = blocks.chunks_exact(BLOCK_BYTES).zip(0..);
+    let mut blocks: Vec<Block> = blocks.map(|(record, label)| block(record, label)).collect();
     let mut ops = Vec::with_capacity(instructions.len() / INSTRUCTION_BYTES);
-    let ends = blocks.iter().skip(1).map(|block| block.to.first);
-    let ends = ends.chain([u16::MAX]);
     let mut records = Record::all(instructions);
-    for (block, end) in blocks.iter().zip(ends) {
-        let length = usize::from(end - block.to.first);
+    for label in 0..blocks.len() {
+        let first = blocks[label].to.first;
+        let end = blocks.get(label + 1).map_or(u16::MAX, |next| next.to.first);
         let mut decoder = Decoder {
             blocks: &blocks,
             words,
-            needs: block.to.needs,
+            needs: Needs::default(),
             count: 0,
         };
-        let records = records.by_ref().take(length);
-        ops.extend(records.map(|record| decoder.op(record)));
+        let block = records.by_ref().take(usize::from(end - first));
+        block.for_each(|record| ops.push(decoder.op(record)));
+        blocks[label].to.needs = decoder.needs.settled(&mut ops[first.into()..]);
     }
+    set_needs(&mut ops, &blocks);
     Code { ops, blocks }
 }
 
-fn read_blocks(blocks: &[u8], instructions: &[u8]) -> Vec<Block> {
-    let mut end = instructions.len();
-    let mut read: Vec<Block> = blocks
-        .chunks_exact(BLOCK_BYTES)
-        .zip(0..)
-        .map(|(record, label)| block(record, label))
-        .collect();
-    for block in read.iter_mut().rev() {
-        let start = INSTRUCTION_BYTES * usize::from(block.to.first);
-        block.to.needs = needs::of(Record::all(&instructions[start..end]));
-        end = start;
+/// Tells the jumps what the blocks need that they lead to.
+fn set_needs(ops: &mut [Op], blocks: &[Block]) {
+    for op in ops {
+        if let Op::Jump { to, .. } | Op::IfJump { to, .. } = op {
+            to.needs = blocks[usize::from(to.label)].to.needs;
+        }
     }
-    read
 }
 
 fn block(record: &[u8], label: u8) -> Block {
@@ -106,7 +94,7 @@ fn block(record: &[u8], label: u8) -> Block {
 struct Decoder<'a> {
     blocks: &'a [Block],
     words: &'a [u8],
-    needs: u32,
+    needs: Needs,
     count: u16,
 }
 
@@ -123,23 +111,29 @@ impl Decoder<'_> {
     }
 
     fn with_register(&mut self, record: Record, v: Register) -> Op {
-        let (r, s, count) = (
-            Register::of(record.r()),
-            Register::of(record.s()),
-            self.count,
-        );
+        let (r, s) = (Register::of(record.r()), Register::of(record.s()));
+        let count = self.count;
         match record.opcode() {
-            opcode::MOVE => self.copy(r, v),
-            opcode::ADD => Op::Add { r, s, v },
-            opcode::SUBTRACT => Op::Subtract { r, s, v },
-            opcode::MULTIPLY => Op::Multiply { r, s, v },
-            opcode::DIVIDE => Op::Divide { r, s, v },
-            opcode::REMAINDER => Op::Remainder { r, s, v },
-            opcode::LESS => Op::Less { r, s, v },
-            opcode::EQUAL => Op::Equal { r, s, v },
-            opcode::WORD => Op::Word { r, v },
-            opcode::IF_JUMP => Op::IfJumpBy { s, count, v },
-            opcode::JRALLOC => Op::AllocateBy { r, v },
+            opcode::MOVE => {
+                self.needs.copies = true;
+                Op::CopyAny { r, v }
+            }
+            operation @ opcode::ADD..=opcode::EQUAL => {
+                self.needs.integers |= r.bit() | s.bit() | v.bit();
+                of_registers(operation, r, s, v)
+            }
+            opcode::WORD => {
+                self.needs.integers |= r.bit() | v.bit();
+                Op::Word { r, v }
+            }
+            opcode::IF_JUMP => {
+                self.needs.integers |= s.bit();
+                Op::IfJumpBy { s, count, v }
+            }
+            opcode::JRALLOC => {
+                self.needs.others |= r.bit();
+                Op::AllocateBy { r, v }
+            }
             opcode::FORK => {
                 self.count = 0;
                 Op::ForkBy { s, count, v }
@@ -149,30 +143,27 @@ impl Decoder<'_> {
         }
     }
 
-    fn copy(&self, r: Register, v: Register) -> Op {
-        let both = r.bit() | v.bit();
-        if self.needs & both == both {
-            Op::Copy { r, v }
-        } else {
-            Op::CopyAny { r, v }
-        }
-    }
-
     fn with_label(&mut self, record: Record, label: u8) -> Op {
-        let (r, s, count) = (
-            Register::of(record.r()),
-            Register::of(record.s()),
-            self.count,
-        );
+        let (r, s) = (Register::of(record.r()), Register::of(record.s()));
+        let count = self.count;
         let block = &self.blocks[usize::from(label)];
         match record.opcode() {
-            opcode::MOVE => Op::SetLabel { r, label },
-            opcode::IF_JUMP => Op::IfJump {
-                s,
-                count,
-                to: block.to,
-            },
-            opcode::JRALLOC if block.is_join_target() => Op::Allocate { r, label },
+            opcode::MOVE => {
+                self.needs.others |= r.bit();
+                Op::SetLabel { r, label }
+            }
+            opcode::IF_JUMP => {
+                self.needs.integers |= s.bit();
+                Op::IfJump {
+                    s,
+                    count,
+                    to: block.to,
+                }
+            }
+            opcode::JRALLOC if block.is_join_target() => {
+                self.needs.others |= r.bit();
+                Op::Allocate { r, label }
+            }
             opcode::JRALLOC => Op::Fault {
                 number: fault::JOIN_TARGET,
             },
@@ -196,26 +187,27 @@ impl Decoder<'_> {
     fn with_integer(&mut self, record: Record, v: i64) -> Op {
         let (r, s) = (Register::of(record.r()), Register::of(record.s()));
         match record.opcode() {
-            opcode::MOVE => Op::Set { r, v },
-            opcode::ADD => Op::AddInteger { r, s, v },
-            opcode::SUBTRACT => Op::AddInteger {
-                r,
-                s,
-                v: v.wrapping_neg(),
-            },
-            opcode::MULTIPLY => Op::MultiplyInteger { r, s, v },
-            opcode::DIVIDE | opcode::REMAINDER if v == 0 => Op::ByZero { s },
-            opcode::DIVIDE => Op::DivideInteger { r, s, v },
-            opcode::REMAINDER => Op::RemainderInteger { r, s, v },
-            opcode::LESS => Op::LessInteger { r, s, v },
-            opcode::EQUAL => Op::EqualInteger { r, s, v },
-            opcode::WORD => word(self.words, v).map_or(
-                Op::Fault {
-                    number: fault::INDEX,
-                },
-                |v| Op::Set { r, v },
-            ),
-            opcode::IF_JUMP => Op::IfFault { s },
+            opcode::MOVE => {
+                self.needs.integers |= r.bit();
+                Op::Set { r, v }
+            }
+            operation @ opcode::ADD..=opcode::EQUAL => {
+                self.needs.integers |= r.bit() | s.bit();
+                of_integer(operation, r, s, v)
+            }
+            opcode::WORD => {
+                self.needs.integers |= r.bit();
+                match word(self.words, v) {
+                    Some(v) => Op::Set { r, v },
+                    None => Op::Fault {
+                        number: fault::INDEX,
+                    },
+                }
+            }
+            opcode::IF_JUMP => {
+                self.needs.integers |= s.bit();
+                Op::IfFault { s }
+            }
             opcode::JRALLOC => Op::Fault {
                 number: fault::JOIN_TARGET,
             },
@@ -227,5 +219,36 @@ impl Decoder<'_> {
                 number: fault::RECORD,
             },
         }
+    }
+}
+
+/// Opcodes 2 to 8 of registers.
+fn of_registers(operation: u8, r: Register, s: Register, v: Register) -> Op {
+    match operation {
+        opcode::ADD => Op::Add { r, s, v },
+        opcode::SUBTRACT => Op::Subtract { r, s, v },
+        opcode::MULTIPLY => Op::Multiply { r, s, v },
+        opcode::DIVIDE => Op::Divide { r, s, v },
+        opcode::REMAINDER => Op::Remainder { r, s, v },
+        opcode::LESS => Op::Less { r, s, v },
+        _ => Op::Equal { r, s, v },
+    }
+}
+
+/// Opcodes 2 to 8 with an integer.
+fn of_integer(operation: u8, r: Register, s: Register, v: i64) -> Op {
+    match operation {
+        opcode::ADD => Op::AddInteger { r, s, v },
+        opcode::SUBTRACT => Op::AddInteger {
+            r,
+            s,
+            v: v.wrapping_neg(),
+        },
+        opcode::MULTIPLY => Op::MultiplyInteger { r, s, v },
+        opcode::DIVIDE | opcode::REMAINDER if v == 0 => Op::ByZero { s },
+        opcode::DIVIDE => Op::DivideInteger { r, s, v },
+        opcode::REMAINDER => Op::RemainderInteger { r, s, v },
+        opcode::LESS => Op::LessInteger { r, s, v },
+        _ => Op::EqualInteger { r, s, v },
     }
 }
