@@ -2,13 +2,9 @@
 
 use crate::job::word;
 use crate::needs::Needs;
-use crate::op::{Block, Code, Op, Register, Target};
-use model::{fault, opcode, BLOCK_BYTES, HEADER_BYTES, INSTRUCTION_BYTES, MAX_PAIRS};
-
-/// Kinds of operands.
-const REGISTER: u8 = 1;
-const LABEL: u8 = 2;
-const INTEGER: u8 = 3;
+use crate::op::{Block, Code, Op, OpCode, Operand, Register, Target};
+use crate::rows::{row, Row};
+use model::{fault, BLOCK_BYTES, HEADER_BYTES, INSTRUCTION_BYTES, MAX_PAIRS};
 
 /// An instruction's bytes.
 #[derive(Clone, Copy)]
@@ -62,15 +58,15 @@ pub fn code(image: &[u8], words: &[u8]) -> Code {
         block.for_each(|record| ops.push(decoder.op(record)));
         blocks[label].to.needs = decoder.needs.settled(&mut ops[first.into()..]);
     }
-    set_needs(&mut ops, &blocks);
+    set_targets(&mut ops, &blocks);
     Code { ops, blocks }
 }
 
-/// Tells the jumps what the blocks need that they lead to.
-fn set_needs(ops: &mut [Op], blocks: &[Block]) {
+/// Tells the jumps where they lead, once it is known what all blocks need.
+fn set_targets(ops: &mut [Op], blocks: &[Block]) {
     for op in ops {
-        if let Op::Jump { to, .. } | Op::IfJump { to, .. } = op {
-            to.needs = blocks[usize::from(to.label)].to.needs;
+        if matches!(op.code, OpCode::Jump | OpCode::IfJump) {
+            op.operand = Operand::of_target(blocks[usize::from(op.operand.byte())].to);
         }
     }
 }
@@ -101,154 +97,47 @@ struct Decoder<'a> {
 impl Decoder<'_> {
     #[inline]
     fn op(&mut self, record: Record) -> Op {
+        let row = row(record.opcode(), record.kind());
         self.count += 1;
-        match record.kind() {
-            REGISTER => self.with_register(record, Register::of(record.operand() as u8)),
-            LABEL => self.with_label(record, record.operand() as u8),
-            INTEGER => self.with_integer(record, record.operand() as i64),
-            _ => Op::Halt { count: self.count },
+        let mut op = Op {
+            code: row.code,
+            r: Register::of(record.r()),
+            s: Register::of(record.s()),
+            v: Register::of(record.operand() as u8),
+            count: self.count,
+            operand: Operand(record.operand()),
+        };
+        self.needs.add(row, &op);
+        if row.is_special {
+            self.complete(row, &mut op);
         }
+        op
     }
 
-    fn with_register(&mut self, record: Record, v: Register) -> Op {
-        let (r, s) = (Register::of(record.r()), Register::of(record.s()));
-        let count = self.count;
-        match record.opcode() {
-            opcode::MOVE => {
-                self.needs.copies = true;
-                Op::CopyAny { r, v }
+    /// What the opcode and the operand's kind don't settle.
+    fn complete(&mut self, row: &Row, op: &mut Op) {
+        match op.code {
+            OpCode::Fork | OpCode::ForkBy => self.count = 0,
+            OpCode::Fault => op.operand = Operand(row.fault.into()),
+            OpCode::DivideInteger | OpCode::RemainderInteger if op.operand.0 == 0 => {
+                op.code = OpCode::ByZero;
             }
-            operation @ opcode::ADD..=opcode::EQUAL => {
-                self.needs.integers |= r.bit() | s.bit() | v.bit();
-                of_registers(operation, r, s, v)
-            }
-            opcode::WORD => {
-                self.needs.integers |= r.bit() | v.bit();
-                Op::Word { r, v }
-            }
-            opcode::IF_JUMP => {
-                self.needs.integers |= s.bit();
-                Op::IfJumpBy { s, count, v }
-            }
-            opcode::JRALLOC => {
-                self.needs.others |= r.bit();
-                Op::AllocateBy { r, v }
-            }
-            opcode::FORK => {
-                self.count = 0;
-                Op::ForkBy { s, count, v }
-            }
-            opcode::JUMP => Op::JumpBy { count, v },
-            _ => Op::Join { count, v },
-        }
-    }
-
-    fn with_label(&mut self, record: Record, label: u8) -> Op {
-        let (r, s) = (Register::of(record.r()), Register::of(record.s()));
-        let count = self.count;
-        let block = &self.blocks[usize::from(label)];
-        match record.opcode() {
-            opcode::MOVE => {
-                self.needs.others |= r.bit();
-                Op::SetLabel { r, label }
-            }
-            opcode::IF_JUMP => {
-                self.needs.integers |= s.bit();
-                Op::IfJump {
-                    s,
-                    count,
-                    to: block.to,
+            OpCode::WordInteger => match word(self.words, op.operand.integer()) {
+                Some(word) => {
+                    op.code = OpCode::Set;
+                    op.operand = Operand(word as u64);
                 }
-            }
-            opcode::JRALLOC if block.is_join_target() => {
-                self.needs.others |= r.bit();
-                Op::Allocate { r, label }
-            }
-            opcode::JRALLOC => Op::Fault {
-                number: fault::JOIN_TARGET,
+                None => set_fault(op, fault::INDEX),
             },
-            opcode::FORK => {
-                self.count = 0;
-                Op::Fork { s, count, label }
+            OpCode::Allocate if !self.blocks[usize::from(op.operand.byte())].is_join_target() => {
+                set_fault(op, fault::JOIN_TARGET);
             }
-            opcode::JUMP => Op::Jump {
-                count,
-                to: block.to,
-            },
-            opcode::JOIN => Op::Fault {
-                number: fault::RECORD,
-            },
-            _ => Op::Fault {
-                number: fault::INTEGERS,
-            },
-        }
-    }
-
-    fn with_integer(&mut self, record: Record, v: i64) -> Op {
-        let (r, s) = (Register::of(record.r()), Register::of(record.s()));
-        match record.opcode() {
-            opcode::MOVE => {
-                self.needs.integers |= r.bit();
-                Op::Set { r, v }
-            }
-            operation @ opcode::ADD..=opcode::EQUAL => {
-                self.needs.integers |= r.bit() | s.bit();
-                of_integer(operation, r, s, v)
-            }
-            opcode::WORD => {
-                self.needs.integers |= r.bit();
-                match word(self.words, v) {
-                    Some(v) => Op::Set { r, v },
-                    None => Op::Fault {
-                        number: fault::INDEX,
-                    },
-                }
-            }
-            opcode::IF_JUMP => {
-                self.needs.integers |= s.bit();
-                Op::IfFault { s }
-            }
-            opcode::JRALLOC => Op::Fault {
-                number: fault::JOIN_TARGET,
-            },
-            opcode::FORK => Op::ForkNowhere { s },
-            opcode::JUMP => Op::Fault {
-                number: fault::TARGET,
-            },
-            _ => Op::Fault {
-                number: fault::RECORD,
-            },
+            _ => {}
         }
     }
 }
 
-/// Opcodes 2 to 8 of registers.
-fn of_registers(operation: u8, r: Register, s: Register, v: Register) -> Op {
-    match operation {
-        opcode::ADD => Op::Add { r, s, v },
-        opcode::SUBTRACT => Op::Subtract { r, s, v },
-        opcode::MULTIPLY => Op::Multiply { r, s, v },
-        opcode::DIVIDE => Op::Divide { r, s, v },
-        opcode::REMAINDER => Op::Remainder { r, s, v },
-        opcode::LESS => Op::Less { r, s, v },
-        _ => Op::Equal { r, s, v },
-    }
-}
-
-/// Opcodes 2 to 8 with an integer.
-fn of_integer(operation: u8, r: Register, s: Register, v: i64) -> Op {
-    match operation {
-        opcode::ADD => Op::AddInteger { r, s, v },
-        opcode::SUBTRACT => Op::AddInteger {
-            r,
-            s,
-            v: v.wrapping_neg(),
-        },
-        opcode::MULTIPLY => Op::MultiplyInteger { r, s, v },
-        opcode::DIVIDE | opcode::REMAINDER if v == 0 => Op::ByZero { s },
-        opcode::DIVIDE => Op::DivideInteger { r, s, v },
-        opcode::REMAINDER => Op::RemainderInteger { r, s, v },
-        opcode::LESS => Op::LessInteger { r, s, v },
-        _ => Op::EqualInteger { r, s, v },
-    }
+fn set_fault(op: &mut Op, number: u8) {
+    op.code = OpCode::Fault;
+    op.operand = Operand(number.into());
 }

@@ -71,7 +71,7 @@ type Ended = Option<End>;
 
 impl Evaluator<'_> {
     fn end(&mut self) -> Ended {
-        let mut to = *self.scene.target(0);
+        let mut to = self.scene.target(0);
         loop {
             let cares = self.tasks[self.current].others & to.needs != 0;
             let stop = if cares {
@@ -181,7 +181,7 @@ impl Evaluator<'_> {
         let child = &mut self.tasks[self.current];
         child.span = self.work - child.span;
         child.beat = self.scene.beat(self.work, child.places);
-        *self.scene.target(label)
+        self.scene.target(label)
     }
 
     /// One task of the innermost fork's two ended sides: in the parent's place, to start the
@@ -198,7 +198,7 @@ impl Evaluator<'_> {
         task.beat = self.scene.beat(self.work, task.places);
         self.depth -= 1;
         self.current = parent;
-        *self.scene.target(continuation.label)
+        self.scene.target(continuation.label)
     }
 
     fn report(&self, end: Ended) -> Report {

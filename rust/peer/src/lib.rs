@@ -19,6 +19,7 @@ mod evaluate;
 mod job;
 mod needs;
 mod op;
+mod rows;
 mod run;
 mod task;
 

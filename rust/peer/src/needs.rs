@@ -4,7 +4,8 @@
 //! block sets none of them to anything else. Then neither its reads need ask, nor its results be
 //! marked as integers. A block that sets such a register otherwise is always gone through with care.
 
-use crate::op::Op;
+use crate::op::{Op, OpCode};
+use crate::rows::Row;
 
 /// No task has integers throughout when this is asked for: the bit beyond the registers'.
 pub const CARE: u32 = 1 << 16;
@@ -21,6 +22,14 @@ pub struct Needs {
 }
 
 impl Needs {
+    /// Without a branch: the opcodes of a program follow no pattern that could be foreseen.
+    #[inline(always)]
+    pub fn add(&mut self, row: &Row, op: &Op) {
+        self.integers |= op.r.bit() & row.r | op.s.bit() & row.s | op.v.bit() & row.v;
+        self.others |= op.r.bit() & row.other;
+        self.copies |= row.is_copy;
+    }
+
     /// The registers needed, with `CARE` where that is not enough. The block's copies are decoded as
     /// ones of anything so far; those of integers become so.
     pub fn settled(mut self, block: &mut [Op]) -> u32 {
@@ -36,13 +45,14 @@ impl Needs {
 
     fn settle_copies(&mut self, block: &mut [Op]) {
         for op in block {
-            if let Op::CopyAny { r, v } = *op {
+            if op.code == OpCode::CopyAny {
+                let both = op.r.bit() | op.v.bit();
                 // Of an integer most likely, if one of the two is used as one.
-                if self.integers & (r.bit() | v.bit()) != 0 {
-                    self.integers |= r.bit() | v.bit();
-                    *op = Op::Copy { r, v };
+                if self.integers & both != 0 {
+                    self.integers |= both;
+                    op.code = OpCode::Copy;
                 } else {
-                    self.others |= r.bit();
+                    self.others |= op.r.bit();
                 }
             }
         }

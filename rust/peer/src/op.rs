@@ -41,68 +41,103 @@ pub struct Target {
     pub label: u8,
 }
 
-/// A count is of the instructions since the block began, or since the fork before, this one included.
-/// The fields stand in the variants themselves: so an operation has 16 bytes.
+/// An operation. Its fields stand where an instruction's do, in 16 bytes, so that most of them are
+/// copied; one that the code has no use for holds anything.
 #[derive(Clone, Copy, Debug)]
-#[rustfmt::skip]
-pub enum Op {
-    /// An integer, or the word at an index that is inside the record.
-    Set { r: Register, v: i64 },
-    SetLabel { r: Register, label: u8 },
-    /// A copy between registers that the block needs integers in.
-    Copy { r: Register, v: Register },
-    CopyAny { r: Register, v: Register },
-    /// Differences with an integer are sums too.
-    AddInteger { r: Register, s: Register, v: i64 },
-    MultiplyInteger { r: Register, s: Register, v: i64 },
-    /// The divisor is not 0.
-    DivideInteger { r: Register, s: Register, v: i64 },
-    RemainderInteger { r: Register, s: Register, v: i64 },
-    LessInteger { r: Register, s: Register, v: i64 },
-    EqualInteger { r: Register, s: Register, v: i64 },
-    Add { r: Register, s: Register, v: Register },
-    Subtract { r: Register, s: Register, v: Register },
-    Multiply { r: Register, s: Register, v: Register },
-    Divide { r: Register, s: Register, v: Register },
-    Remainder { r: Register, s: Register, v: Register },
-    Less { r: Register, s: Register, v: Register },
-    Equal { r: Register, s: Register, v: Register },
-    /// A division by the integer 0.
-    ByZero { s: Register },
-    Word { r: Register, v: Register },
-    IfJump { s: Register, count: u16, to: Target },
-    IfJumpBy { s: Register, count: u16, v: Register },
-    /// An if-jump to what is no label.
-    IfFault { s: Register },
-    /// With the label of a join target.
-    Allocate { r: Register, label: u8 },
-    AllocateBy { r: Register, v: Register },
-    Fork { s: Register, count: u16, label: u8 },
-    ForkBy { s: Register, count: u16, v: Register },
-    /// A fork to what is no label.
-    ForkNowhere { s: Register },
-    Jump { count: u16, to: Target },
-    JumpBy { count: u16, v: Register },
-    Halt { count: u16 },
-    Join { count: u16, v: Register },
-    /// What can only fault.
-    Fault { number: u8 },
+pub struct Op {
+    pub code: OpCode,
+    pub r: Register,
+    pub s: Register,
+    /// An operand that is a register.
+    pub v: Register,
+    /// The instructions since the block began, or since the fork before, this one included.
+    pub count: u16,
+    /// An integer, a label, where a jump leads, or a fault's number.
+    pub operand: Operand,
 }
 
-impl Op {
+/// What an operation does: an opcode with the kind of its operand.
+#[derive(Clone, Copy, Debug, PartialEq, Eq)]
+pub enum OpCode {
+    /// To an integer, or to the word at an index that is inside the record.
+    Set,
+    SetLabel,
+    /// A copy between registers that the block needs integers in.
+    Copy,
+    CopyAny,
+    AddInteger,
+    SubtractInteger,
+    MultiplyInteger,
+    /// The divisor is not 0.
+    DivideInteger,
+    RemainderInteger,
+    LessInteger,
+    EqualInteger,
+    Add,
+    Subtract,
+    Multiply,
+    Divide,
+    Remainder,
+    Less,
+    Equal,
+    /// A division by the integer 0.
+    ByZero,
+    WordInteger,
+    Word,
+    IfJump,
+    IfJumpBy,
+    /// An if-jump to what is no label.
+    IfFault,
+    /// With the label of a join target.
+    Allocate,
+    AllocateBy,
+    Fork,
+    ForkBy,
+    /// A fork to what is no label.
+    ForkNowhere,
+    Jump,
+    JumpBy,
+    Halt,
+    Join,
+    /// What can only fault.
+    Fault,
+}
+
+impl OpCode {
     /// Whether the next operation's count begins anew.
-    pub fn ends_count(&self) -> bool {
-        use Op::*;
-        matches!(
-            self,
-            Fork { .. }
-                | ForkBy { .. }
-                | Jump { .. }
-                | JumpBy { .. }
-                | Halt { .. }
-                | Join { .. }
-                | Fault { .. }
-        )
+    pub fn ends_count(self) -> bool {
+        use OpCode::*;
+        matches!(self, Fork | ForkBy | Jump | JumpBy | Halt | Join | Fault)
+    }
+}
+
+/// Eight bytes, read as the code has it.
+#[derive(Clone, Copy, Debug)]
+pub struct Operand(pub u64);
+
+impl Operand {
+    #[inline(always)]
+    pub fn integer(self) -> i64 {
+        self.0 as i64
+    }
+
+    /// A label's or a fault's number.
+    #[inline(always)]
+    pub fn byte(self) -> u8 {
+        self.0 as u8
+    }
+
+    #[inline(always)]
+    pub fn target(self) -> Target {
+        Target {
+            needs: (self.0 >> 32) as u32,
+            first: (self.0 >> 8) as u16,
+            label: self.0 as u8,
+        }
+    }
+
+    pub fn of_target(to: Target) -> Self {
+        Operand(u64::from(to.needs) << 32 | u64::from(to.first) << 8 | u64::from(to.label))
     }
 }
 

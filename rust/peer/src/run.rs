@@ -1,7 +1,7 @@
 //! One task from block to block, until it asks something of those who hold it.
 
 use crate::job::word;
-use crate::op::{Code, Op, Target};
+use crate::op::{Code, Op, OpCode, Target};
 use crate::task::{continuation, depth, Task};
 use model::fault;
 
@@ -74,90 +74,102 @@ impl Scene<'_> {
                 Some(op) => op,
                 None => unreachable!("a block's last operation leads out of it"),
             };
-            let mut to = match op {
-                &Op::Set { r, v } => {
-                    task.set::<CARE>(r, v);
+            let Op { r, s, v, .. } = *op;
+            let mut to = match op.code {
+                OpCode::Set => {
+                    task.set::<CARE>(r, op.operand.integer());
                     continue;
                 }
-                &Op::SetLabel { r, label } => {
-                    task.set_label(r, label);
+                OpCode::SetLabel => {
+                    task.set_label(r, op.operand.byte());
                     continue;
                 }
-                &Op::Copy { r, v } => {
+                OpCode::Copy => {
                     task.copy_integer::<CARE>(r, v);
                     continue;
                 }
-                &Op::CopyAny { r, v } => {
+                OpCode::CopyAny => {
                     task.copy(r, &task.copied(v));
                     continue;
                 }
-                &Op::AddInteger { r, s, v } => {
-                    if task.combine_integer::<CARE>((r, s, v), i64::wrapping_add) {
+                OpCode::AddInteger => {
+                    if task.combine_integer::<CARE>((r, s, op.operand.integer()), i64::wrapping_add)
+                    {
                         continue;
                     }
                     break 'run fault::INTEGERS;
                 }
-                &Op::MultiplyInteger { r, s, v } => {
-                    if task.combine_integer::<CARE>((r, s, v), i64::wrapping_mul) {
+                OpCode::SubtractInteger => {
+                    if task.combine_integer::<CARE>((r, s, op.operand.integer()), i64::wrapping_sub)
+                    {
                         continue;
                     }
                     break 'run fault::INTEGERS;
                 }
-                &Op::DivideInteger { r, s, v } => {
-                    if task.combine_integer::<CARE>((r, s, v), i64::wrapping_div) {
+                OpCode::MultiplyInteger => {
+                    if task.combine_integer::<CARE>((r, s, op.operand.integer()), i64::wrapping_mul)
+                    {
                         continue;
                     }
                     break 'run fault::INTEGERS;
                 }
-                &Op::RemainderInteger { r, s, v } => {
-                    if task.combine_integer::<CARE>((r, s, v), i64::wrapping_rem) {
+                OpCode::DivideInteger => {
+                    if task.combine_integer::<CARE>((r, s, op.operand.integer()), i64::wrapping_div)
+                    {
                         continue;
                     }
                     break 'run fault::INTEGERS;
                 }
-                &Op::LessInteger { r, s, v } => {
-                    if task.combine_integer::<CARE>((r, s, v), less) {
+                OpCode::RemainderInteger => {
+                    if task.combine_integer::<CARE>((r, s, op.operand.integer()), i64::wrapping_rem)
+                    {
                         continue;
                     }
                     break 'run fault::INTEGERS;
                 }
-                &Op::EqualInteger { r, s, v } => {
-                    if task.combine_integer::<CARE>((r, s, v), equal) {
+                OpCode::LessInteger => {
+                    if task.combine_integer::<CARE>((r, s, op.operand.integer()), less) {
                         continue;
                     }
                     break 'run fault::INTEGERS;
                 }
-                &Op::Add { r, s, v } => {
+                OpCode::EqualInteger => {
+                    if task.combine_integer::<CARE>((r, s, op.operand.integer()), equal) {
+                        continue;
+                    }
+                    break 'run fault::INTEGERS;
+                }
+                OpCode::Add => {
                     if task.combine::<CARE>((r, s, v), i64::wrapping_add) {
                         continue;
                     }
                     break 'run fault::INTEGERS;
                 }
-                &Op::Subtract { r, s, v } => {
+                OpCode::Subtract => {
                     if task.combine::<CARE>((r, s, v), i64::wrapping_sub) {
                         continue;
                     }
                     break 'run fault::INTEGERS;
                 }
-                &Op::Multiply { r, s, v } => {
+                OpCode::Multiply => {
                     if task.combine::<CARE>((r, s, v), i64::wrapping_mul) {
                         continue;
                     }
                     break 'run fault::INTEGERS;
                 }
-                &Op::Less { r, s, v } => {
+                OpCode::Less => {
                     if task.combine::<CARE>((r, s, v), less) {
                         continue;
                     }
                     break 'run fault::INTEGERS;
                 }
-                &Op::Equal { r, s, v } => {
+                OpCode::Equal => {
                     if task.combine::<CARE>((r, s, v), equal) {
                         continue;
                     }
                     break 'run fault::INTEGERS;
                 }
-                &Op::Divide { r, s, v } => {
+                OpCode::Divide => {
                     if CARE && !(task.is_integer(s) && task.is_integer(v)) {
                         break 'run fault::INTEGERS;
                     }
@@ -167,7 +179,7 @@ impl Scene<'_> {
                     task.set::<CARE>(r, task.value(s).wrapping_div(task.value(v)));
                     continue;
                 }
-                &Op::Remainder { r, s, v } => {
+                OpCode::Remainder => {
                     if CARE && !(task.is_integer(s) && task.is_integer(v)) {
                         break 'run fault::INTEGERS;
                     }
@@ -177,9 +189,9 @@ impl Scene<'_> {
                     task.set::<CARE>(r, task.value(s).wrapping_rem(task.value(v)));
                     continue;
                 }
-                &Op::ByZero { s } if CARE && !task.is_integer(s) => break 'run fault::INTEGERS,
-                Op::ByZero { .. } => break 'run fault::DIVISOR,
-                &Op::Word { r, v } => {
+                OpCode::ByZero if CARE && !task.is_integer(s) => break 'run fault::INTEGERS,
+                OpCode::ByZero => break 'run fault::DIVISOR,
+                OpCode::Word => {
                     if CARE && !task.is_integer(v) {
                         break 'run fault::INTEGERS;
                     }
@@ -189,17 +201,17 @@ impl Scene<'_> {
                     }
                     continue;
                 }
-                &Op::IfJump { s, count, ref to } => {
+                OpCode::IfJump => {
                     if CARE && !task.is_integer(s) {
                         break 'run fault::INTEGERS;
                     }
                     if task.value(s) != 0 {
                         continue;
                     }
-                    done += u64::from(count);
-                    to
+                    done += u64::from(op.count);
+                    op.operand.target()
                 }
-                &Op::IfJumpBy { s, count, v } => {
+                OpCode::IfJumpBy => {
                     if CARE && !task.is_integer(s) {
                         break 'run fault::INTEGERS;
                     }
@@ -208,13 +220,13 @@ impl Scene<'_> {
                     }
                     match task.label(v) {
                         Some(label) => {
-                            done += u64::from(count);
+                            done += u64::from(op.count);
                             self.target(label)
                         }
                         None => break 'run fault::TARGET,
                     }
                 }
-                &Op::IfFault { s } => {
+                OpCode::IfFault => {
                     if CARE && !task.is_integer(s) {
                         break 'run fault::INTEGERS;
                     }
@@ -223,18 +235,18 @@ impl Scene<'_> {
                     }
                     break 'run fault::TARGET;
                 }
-                &Op::Allocate { r, label } => {
-                    task.set_record(r, label, innermost.depth);
+                OpCode::Allocate => {
+                    task.set_record(r, op.operand.byte(), innermost.depth);
                     continue;
                 }
-                &Op::AllocateBy { r, v } => match task.label(v) {
+                OpCode::AllocateBy => match task.label(v) {
                     Some(label) if self.code.blocks[usize::from(label)].is_join_target() => {
                         task.set_record(r, label, innermost.depth);
                         continue;
                     }
                     _ => break 'run fault::JOIN_TARGET,
                 },
-                &Op::Fork { s, count, label } => {
+                OpCode::Fork => {
                     let record = match task.record(s) {
                         Some(record) if innermost.fits(record) => record,
                         _ => break 'run fault::RECORD,
@@ -242,15 +254,16 @@ impl Scene<'_> {
                     if task.places < 2 {
                         break 'run fault::PLACES;
                     }
-                    *work = done + u64::from(count);
+                    *work = done + u64::from(op.count);
                     let next = ops.len() - rest.as_slice().len();
+                    let label = op.operand.byte();
                     return Stop::Fork {
                         record,
                         label,
                         next,
                     };
                 }
-                &Op::ForkBy { s, count, v } => {
+                OpCode::ForkBy => {
                     let record = match task.record(s) {
                         Some(record) if innermost.fits(record) => record,
                         _ => break 'run fault::RECORD,
@@ -262,7 +275,7 @@ impl Scene<'_> {
                     if task.places < 2 {
                         break 'run fault::PLACES;
                     }
-                    *work = done + u64::from(count);
+                    *work = done + u64::from(op.count);
                     let next = ops.len() - rest.as_slice().len();
                     return Stop::Fork {
                         record,
@@ -270,40 +283,41 @@ impl Scene<'_> {
                         next,
                     };
                 }
-                &Op::ForkNowhere { s } => match task.record(s) {
+                OpCode::ForkNowhere => match task.record(s) {
                     Some(record) if innermost.fits(record) => break 'run fault::TARGET,
                     _ => break 'run fault::RECORD,
                 },
-                &Op::Jump { count, ref to } => {
-                    done += u64::from(count);
-                    to
+                OpCode::Jump => {
+                    done += u64::from(op.count);
+                    op.operand.target()
                 }
-                &Op::JumpBy { count, v } => match task.label(v) {
+                OpCode::JumpBy => match task.label(v) {
                     Some(label) => {
-                        done += u64::from(count);
+                        done += u64::from(op.count);
                         self.target(label)
                     }
                     None => break 'run fault::TARGET,
                 },
-                &Op::Halt { count } => {
-                    *work = done + u64::from(count);
+                OpCode::Halt => {
+                    *work = done + u64::from(op.count);
                     if innermost.depth != 0 {
                         return Stop::Fault(fault::OPEN_FORK);
                     }
                     return Stop::Halt;
                 }
-                &Op::Join { count, v } => match task.record(v) {
+                OpCode::Join => match task.record(v) {
                     Some(record) if depth(record) == innermost.depth => {
-                        done += u64::from(count);
+                        done += u64::from(op.count);
                         self.target(continuation(record))
                     }
                     Some(record) if innermost.fits(record) => {
-                        *work = done + u64::from(count);
+                        *work = done + u64::from(op.count);
                         return Stop::Wait;
                     }
                     _ => break 'run fault::RECORD,
                 },
-                &Op::Fault { number } => break 'run number,
+                OpCode::Fault => break 'run op.operand.byte(),
+                OpCode::WordInteger => unreachable!("decoded to the word, or to a fault"),
             };
             if done >= task.beat {
                 if done > self.limit {
@@ -318,7 +332,7 @@ impl Scene<'_> {
             }
             if (task.others & to.needs != 0) != CARE {
                 *work = done;
-                return Stop::Care(*to);
+                return Stop::Care(to);
             }
             rest = ops[usize::from(to.first)..].iter();
         };
@@ -327,8 +341,8 @@ impl Scene<'_> {
     }
 
     #[inline]
-    pub fn target(&self, label: u8) -> &Target {
-        &self.code.blocks[usize::from(label)].to
+    pub fn target(&self, label: u8) -> Target {
+        self.code.blocks[usize::from(label)].to
     }
 }
 
@@ -337,7 +351,7 @@ impl Scene<'_> {
 #[inline(never)]
 fn counted(ops: &[Op], rest: &[Op]) -> u64 {
     let before = ops[..ops.len() - rest.len()].iter().rev().skip(1);
-    1 + before.take_while(|op| !op.ends_count()).count() as u64
+    1 + before.take_while(|op| !op.code.ends_count()).count() as u64
 }
 
 /// A comparison's value: 0 when true.
