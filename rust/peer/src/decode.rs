@@ -35,6 +35,22 @@ impl<'a> Record<'a> {
     fn operand(self) -> u64 {
         u64::from_le_bytes(self.0[4..].try_into().expect("eight bytes"))
     }
+
+    #[inline(always)]
+    fn op(self, row: &Row, count: u16) -> Op {
+        let operand = match row.fault {
+            0 => self.operand(),
+            number => number.into(),
+        };
+        Op {
+            code: row.code,
+            r: Register::of(self.r()),
+            s: Register::of(self.s()),
+            v: Register::of(operand as u8),
+            count,
+            operand: Operand(operand),
+        }
+    }
 }
 
 /// The program of an image that the reader accepts, for jobs with this call record.
@@ -44,31 +60,68 @@ pub fn code(image: &[u8], words: &[u8]) -> Code {
     let blocks = blocks.chunks_exact(BLOCK_BYTES).zip(0..);
     let mut blocks: Vec<Block> = blocks.map(|(record, label)| block(record, label)).collect();
     let mut ops = Vec::with_capacity(instructions.len() / INSTRUCTION_BYTES);
-    let mut records = Record::all(instructions);
+    let mut rest = instructions;
     for label in 0..blocks.len() {
-        let first = blocks[label].to.first;
-        let end = blocks.get(label + 1).map_or(u16::MAX, |next| next.to.first);
-        let mut decoder = Decoder {
-            blocks: &blocks,
-            words,
-            needs: Needs::default(),
-            count: 0,
+        let first = usize::from(blocks[label].to.first);
+        let length = match blocks.get(label + 1) {
+            Some(next) => INSTRUCTION_BYTES * (usize::from(next.to.first) - first),
+            None => rest.len(),
         };
-        let block = records.by_ref().take(usize::from(end - first));
-        block.for_each(|record| ops.push(decoder.op(record)));
-        blocks[label].to.needs = decoder.needs.settled(&mut ops[first.into()..]);
+        let (block, after) = rest.split_at(length);
+        rest = after;
+        blocks[label].to.needs = decode_block(block, &mut ops);
     }
-    set_targets(&mut ops, &blocks);
+    for op in &mut ops {
+        if op.code.is_to_complete() {
+            complete(op, &blocks, words);
+        }
+    }
     Code { ops, blocks }
 }
 
-/// Tells the jumps where they lead, once it is known what all blocks need.
-fn set_targets(ops: &mut [Op], blocks: &[Block]) {
-    for op in ops {
-        if matches!(op.code, OpCode::Jump | OpCode::IfJump) {
+/// Appends a block's operations as far as its own instructions settle them, and hands back what it
+/// needs.
+fn decode_block(block: &[u8], ops: &mut Vec<Op>) -> u32 {
+    let first = ops.len();
+    let mut needs = Needs::default();
+    let mut count = 0;
+    ops.extend(Record::all(block).map(|record| {
+        let row = row(record.opcode(), record.kind());
+        count += 1;
+        let op = record.op(row, count);
+        needs.add(row, &op);
+        count &= row.counts_on;
+        op
+    }));
+    needs.settled(&mut ops[first..])
+}
+
+/// What the blocks or the call record settle.
+fn complete(op: &mut Op, blocks: &[Block], words: &[u8]) {
+    match op.code {
+        OpCode::Jump | OpCode::IfJump => {
             op.operand = Operand::of_target(blocks[usize::from(op.operand.byte())].to);
         }
+        OpCode::DivideInteger | OpCode::RemainderInteger if op.operand.integer() == 0 => {
+            op.code = OpCode::ByZero;
+        }
+        OpCode::WordInteger => match word(words, op.operand.integer()) {
+            Some(word) => {
+                op.code = OpCode::Set;
+                op.operand = Operand(word as u64);
+            }
+            None => set_fault(op, fault::INDEX),
+        },
+        OpCode::Allocate if !blocks[usize::from(op.operand.byte())].is_join_target() => {
+            set_fault(op, fault::JOIN_TARGET);
+        }
+        _ => {}
     }
+}
+
+fn set_fault(op: &mut Op, number: u8) {
+    op.code = OpCode::Fault;
+    op.operand = Operand(number.into());
 }
 
 fn block(record: &[u8], label: u8) -> Block {
@@ -84,60 +137,4 @@ fn block(record: &[u8], label: u8) -> Block {
         pair_count: record[5],
         pairs,
     }
-}
-
-/// Decodes the instructions of one block.
-struct Decoder<'a> {
-    blocks: &'a [Block],
-    words: &'a [u8],
-    needs: Needs,
-    count: u16,
-}
-
-impl Decoder<'_> {
-    #[inline]
-    fn op(&mut self, record: Record) -> Op {
-        let row = row(record.opcode(), record.kind());
-        self.count += 1;
-        let mut op = Op {
-            code: row.code,
-            r: Register::of(record.r()),
-            s: Register::of(record.s()),
-            v: Register::of(record.operand() as u8),
-            count: self.count,
-            operand: Operand(record.operand()),
-        };
-        self.needs.add(row, &op);
-        if row.is_special {
-            self.complete(row, &mut op);
-        }
-        op
-    }
-
-    /// What the opcode and the operand's kind don't settle.
-    fn complete(&mut self, row: &Row, op: &mut Op) {
-        match op.code {
-            OpCode::Fork | OpCode::ForkBy => self.count = 0,
-            OpCode::Fault => op.operand = Operand(row.fault.into()),
-            OpCode::DivideInteger | OpCode::RemainderInteger if op.operand.0 == 0 => {
-                op.code = OpCode::ByZero;
-            }
-            OpCode::WordInteger => match word(self.words, op.operand.integer()) {
-                Some(word) => {
-                    op.code = OpCode::Set;
-                    op.operand = Operand(word as u64);
-                }
-                None => set_fault(op, fault::INDEX),
-            },
-            OpCode::Allocate if !self.blocks[usize::from(op.operand.byte())].is_join_target() => {
-                set_fault(op, fault::JOIN_TARGET);
-            }
-            _ => {}
-        }
-    }
-}
-
-fn set_fault(op: &mut Op, number: u8) {
-    op.code = OpCode::Fault;
-    op.operand = Operand(number.into());
 }

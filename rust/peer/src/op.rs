@@ -104,6 +104,13 @@ pub enum OpCode {
 }
 
 impl OpCode {
+    /// Whether the blocks or the call record settle something of it.
+    pub fn is_to_complete(self) -> bool {
+        use OpCode::*;
+        let divides = matches!(self, DivideInteger | RemainderInteger);
+        divides || matches!(self, WordInteger | IfJump | Allocate | Jump)
+    }
+
     /// Whether the next operation's count begins anew.
     pub fn ends_count(self) -> bool {
         use OpCode::*;

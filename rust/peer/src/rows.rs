@@ -14,8 +14,8 @@ pub struct Row {
     /// Whether r is set to anything else.
     pub other: u32,
     pub is_copy: bool,
-    /// Whether there is more to decode than the fields.
-    pub is_special: bool,
+    /// 0 if the count begins anew after it.
+    pub counts_on: u16,
     /// Of what can only fault.
     pub fault: u8,
 }
@@ -30,22 +30,22 @@ const fn plain(code: OpCode) -> Row {
         v: 0,
         other: 0,
         is_copy: false,
-        is_special: false,
+        counts_on: u16::MAX,
         fault: 0,
     }
 }
 
-const fn special(row: Row) -> Row {
+const fn fork(code: OpCode) -> Row {
     Row {
-        is_special: true,
-        ..row
+        counts_on: 0,
+        ..plain(code)
     }
 }
 
 const fn fault(number: u8) -> Row {
     Row {
         fault: number,
-        ..special(plain(OpCode::Fault))
+        ..plain(OpCode::Fault)
     }
 }
 
@@ -108,16 +108,6 @@ const fn operation(register: OpCode, integer: OpCode) -> [Row; 4] {
     [NONE, combined(register), label, with_integer(integer)]
 }
 
-const fn division(register: OpCode, integer: OpCode) -> [Row; 4] {
-    let label = fault(fault::INTEGERS);
-    [
-        NONE,
-        combined(register),
-        label,
-        special(with_integer(integer)),
-    ]
-}
-
 /// For each opcode: without an operand, with a register, with a label and with an integer.
 static ROWS: [[Row; 4]; 16] = {
     use OpCode::*;
@@ -127,29 +117,19 @@ static ROWS: [[Row; 4]; 16] = {
         operation(Add, AddInteger),
         operation(Subtract, SubtractInteger),
         operation(Multiply, MultiplyInteger),
-        division(Divide, DivideInteger),
-        division(Remainder, RemainderInteger),
+        operation(Divide, DivideInteger),
+        operation(Remainder, RemainderInteger),
         operation(Less, LessInteger),
         operation(Equal, EqualInteger),
-        [
-            NONE,
-            WORD,
-            fault(fault::INTEGERS),
-            special(set(WordInteger)),
-        ],
+        [NONE, WORD, fault(fault::INTEGERS), set(WordInteger)],
         [NONE, test(IfJumpBy), test(IfJump), test(IfFault)],
         [
             NONE,
             other(AllocateBy),
-            special(other(Allocate)),
+            other(Allocate),
             fault(fault::JOIN_TARGET),
         ],
-        [
-            NONE,
-            special(plain(ForkBy)),
-            special(plain(Fork)),
-            plain(ForkNowhere),
-        ],
+        [NONE, fork(ForkBy), fork(Fork), plain(ForkNowhere)],
         [NONE, plain(JumpBy), plain(Jump), fault(fault::TARGET)],
         [NONE; 4],
         [
