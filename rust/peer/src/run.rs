@@ -335,11 +335,7 @@ impl Scene<'_> {
                     *work = done;
                     return Stop::Spent;
                 }
-                let block = &self.code.blocks[usize::from(to.label)];
-                if block.is_ready() {
-                    task.beat = self.beat(done, task.places);
-                    to = self.target(block.label);
-                }
+                to = self.promoted(task, done, to);
             }
             if (task.others & to.needs != 0) != CARE {
                 *work = done;
@@ -349,6 +345,18 @@ impl Scene<'_> {
         };
         *work = done + counted(ops, rest.as_slice());
         Stop::Fault(fault)
+    }
+
+    /// The block to enter when the beat has come. Not inlined: its numbers would be made ready at
+    /// each start of the loop.
+    #[inline(never)]
+    fn promoted(&self, task: &mut Task, work: u64, to: Target) -> Target {
+        let block = &self.code.blocks[usize::from(to.label)];
+        if !block.is_ready() {
+            return to;
+        }
+        task.beat = self.beat(work, task.places);
+        self.target(block.label)
     }
 
     #[inline]
