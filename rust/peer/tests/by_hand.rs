@@ -1,13 +1,16 @@
 //! Peer and model on jobs made by hand, with every budget up to their end.
 
-use checks::assemble::{fork, halt, join, jralloc, Annotation, Assembly, JobInput, Operand};
+use checks::assemble::{
+    fork, halt, join, jralloc, jump, mov, op, Annotation, Assembly, JobInput, Operand,
+};
 use checks::hand::{
     by_zero, endless, f, f_with, figure_2, long, of_picks, outside, refused, two_for_ever,
 };
 use checks::layout::even_blocks;
 use model::job::Report;
-use model::{question, End};
-use Operand::{Lab, Reg};
+use model::opcode::ADD;
+use model::{question, End, Value};
+use Operand::{Int, Lab, Reg};
 
 fn compared(job: &[u8], budget: u64) -> Result<Report, u8> {
     let expected = model::job::run(job, budget);
@@ -77,6 +80,24 @@ fn the_last_pick_of_a_large_budget() {
         let report = compared(&of_picks(picks).bytes(), 1_000_000).expect("the job is accepted");
         assert_eq!(report.end.is_some(), picks <= 1_000_000);
     }
+}
+
+/// A register that is set to a label and then to an integer, by copies in one block.
+#[test]
+fn copies_over_a_label() {
+    let mut copies = Assembly::default();
+    copies.block(Annotation::None, &[mov(6, Lab(1)), jump(Lab(1))]);
+    let code = [
+        mov(5, Reg(6)),
+        mov(5, Reg(0)),
+        op(ADD, 0, 0, Int(1)),
+        halt(),
+    ];
+    copies.block(Annotation::None, &code);
+    let job = JobInput::new(copies.image(), 1, 0).with_register(0, 7);
+    let report = compared(&job.bytes(), 100).expect("the job is accepted");
+    assert_eq!(report.registers[5], Value::Int(7));
+    assert_eq!(report.registers[6], Value::Label(1));
 }
 
 #[test]
