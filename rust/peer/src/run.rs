@@ -54,6 +54,10 @@ impl Scene<'_> {
         if self.interval == 0 || places < 2 {
             return self.limit + 1;
         }
+        self.next_beat(work)
+    }
+
+    fn next_beat(&self, work: u64) -> u64 {
         (work + u64::from(self.interval)).min(self.limit + 1)
     }
 
@@ -335,7 +339,12 @@ impl Scene<'_> {
                     *work = done;
                     return Stop::Spent;
                 }
-                to = self.promoted(task, done, to);
+                let block = &self.code.blocks[usize::from(to.label)];
+                if block.is_ready() {
+                    // There is an interval, and there are places: else it would be spent by now.
+                    task.beat = self.next_beat(done);
+                    to = self.target(block.label);
+                }
             }
             if (task.others & to.needs != 0) != CARE {
                 *work = done;
@@ -345,18 +354,6 @@ impl Scene<'_> {
         };
         *work = done + counted(ops, rest.as_slice());
         Stop::Fault(fault)
-    }
-
-    /// The block to enter when the beat has come. Not inlined: its numbers would be made ready at
-    /// each start of the loop.
-    #[inline(never)]
-    fn promoted(&self, task: &mut Task, work: u64, to: Target) -> Target {
-        let block = &self.code.blocks[usize::from(to.label)];
-        if !block.is_ready() {
-            return to;
-        }
-        task.beat = self.beat(work, task.places);
-        self.target(block.label)
     }
 
     #[inline]
