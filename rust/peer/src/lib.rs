@@ -9,10 +9,14 @@
 //!   evaluated depth first, in the plain evaluation's order: a fork's parent side, its child's, and
 //!   their join. A run that is spent reports no more than its work, which is the budget.
 //! - Nothing is counted for each instruction. Work, span and counter advance together, by a block's
-//!   instructions where it is left, so one number stands for the three of them. Whether registers
-//!   hold integers is asked once for each block too.
+//!   instructions where it is left, so one number stands for the three of them. The budget is looked
+//!   at there too: a run may be some instructions ahead when it is spent, and nobody sees them.
+//! - Whether registers hold integers is asked once for each block, and for each instruction only
+//!   where that does not settle it.
 //!
-//! Request 4's stack of 32 values would be a part of [`task::Task`]; a child's starts empty.
+//! Request 4's stack of 32 values would be a part of a `Task`; a child's starts empty.
+
+#![forbid(unsafe_code)]
 
 mod decode;
 mod evaluate;

@@ -62,8 +62,8 @@ impl Scene<'_> {
     }
 
     /// Runs a task from this operation on. Work is advanced where a block is left: a task can't
-    /// look at it in between. Not inlined: the loop has the processor's registers to itself, and
-    /// takes a quarter fewer machine instructions.
+    /// look at it in between. One long match, and not inlined: so the loop has the processor's
+    /// registers to itself, and takes a quarter fewer machine instructions.
     #[inline(never)]
     pub fn run<const CARE: bool>(
         &self,

@@ -1,5 +1,6 @@
 //! Peer and model on seeded jobs, from bytes to report, each with several budgets: none spent, the
-//! last one that is, and every one of a short job.
+//! last one that is, and every one of a short job. So there each instruction that is evaluated is once
+//! the first beyond the budget: in the middle of a block, a fork, the join of either side, a jump.
 
 use checks::counts::Counts;
 use checks::jobs::{job, refused};
