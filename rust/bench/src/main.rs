@@ -1,23 +1,31 @@
-//! The engine's speed beside the model's.
+//! The engine's speed beside that of two implementations in Rust.
 //!
-//! Prints `ratio NAME VALUE`, the model's time divided by the engine's: above 1.0 the engine is
+//! Prints `ratio NAME VALUE`, the other's time divided by the engine's: above 1.0 the engine is
 //! faster. Both get the same bytes, do the same work on them and run in turns in the same process,
-//! the model built for release. What the two come to is compared.
+//! the other built for release. What the two come to is compared.
 //!
-//! What is timed:
+//! A whole job is beside the peer, `rust/peer`, which is made for nothing else: decoded, depth first,
+//! nothing counted for each instruction. It knows no picks, no states and no orders, and its answers
+//! are the model's. So calls on images and states, and those that go by picks or rounds, are beside
+//! the model, `rust/model`.
+//!
+//! What is timed beside the peer:
+//!
+//! - `run-serial`, `run-figure2`, `run-forks`, `run-waits`, `run-rest`: a whole run of a million picks,
+//!   from the job's bytes to the report's. Both put question 10, the reader's and start's own once.
+//! - `job`, `job-small`: a whole call, from the job's bytes to the text in a lent buffer, with the same
+//!   questions: 256 instructions, words and picks; and program F, nine picks.
+//!
+//! Beside the model:
 //!
 //! - `read`: the image check of the largest program, questions 1 to 9. Neither side makes a program.
 //! - `write`: the rewrite of the same image: check, program, and its image in a lent buffer.
 //! - `pick`: one pick with all its questions, from the bytes of program, call record and state to the
 //!   new state's.
-//! - `run-serial`, `run-figure2`, `run-forks`, `run-waits`, `run-rest`: a whole run of a million picks,
-//!   from the job's bytes to the report. Both put question 10, the reader's and start's own once.
 //! - `dispatch`: the job of `run-figure2` in rounds over four lanes, as many as end it, from its bytes
 //!   to the report with the rounds.
 //! - `replay`: an order of 65,536 bytes on a job of four running tasks, from the job's bytes and the
 //!   order to the state's bytes. The model plays it in place.
-//! - `job`, `job-small`: a whole call, from the job's bytes to the text in a lent buffer, with the same
-//!   questions: 256 instructions, words and picks; and program F, nine picks.
 //!
 //! No lent buffer is cleared between calls.
 //!
@@ -30,7 +38,7 @@ mod timing;
 use checks::assemble::JobInput;
 use checks::{report, state};
 use model::job::Report;
-use timing::{black_box, calls_in_turns, in_turns, print, timed, Times};
+use timing::{black_box, calls_in_turns, in_turns, print, timed, Beside, Times};
 
 /// Larger than any run here.
 const BUDGET: u64 = 1_000_000_000;
@@ -48,7 +56,8 @@ fn compare_images() {
         || assert!(black_box(model::check(black_box(&image))).is_ok()),
         || assert!(black_box(engine::image_check(black_box(&image))).is_ok()),
     );
-    print("read", "the image check, largest program", &check);
+    let what = "the image check, largest program";
+    print("read", what, Beside::Model, &check);
 
     // Allocated once, and not cleared between calls.
     let mut models = vec![0; image.len()];
@@ -59,11 +68,8 @@ fn compare_images() {
         || assert!(model::rewrite(black_box(&image), black_box(&mut models)).is_ok()),
         || assert!(engine::image_rewrite(black_box(&image), black_box(&mut engines)).is_ok()),
     );
-    print(
-        "write",
-        "the rewrite, which reads the image first",
-        &rewrite,
-    );
+    let what = "the rewrite, which reads the image first";
+    print("write", what, Beside::Model, &rewrite);
     assert!(models == image && engines == image);
 }
 
@@ -115,43 +121,42 @@ fn compare_picks() {
         || pick(model::steps::pick, &mut models),
         || pick(engine::pick, &mut engines),
     );
-    print(
-        "pick",
-        "from bytes to bytes, with all its questions, largest program",
-        &times,
-    );
+    let what = "from bytes to bytes, with all its questions, largest program";
+    print("pick", what, Beside::Model, &times);
     assert!(models == engines);
 }
 
-/// Times whole runs of a job that ends, from its bytes to its report.
+/// Times whole runs of a job that ends, from its bytes to its report's.
 fn time_runs(rounds: usize, job: &[u8]) -> (Times, Report) {
     let expected = model::job::run(job, BUDGET).expect("the job is accepted");
     assert!(expected.end.is_some(), "the job ends");
-    let mut engines = [0; engine::REPORT_BYTES];
+    let [mut peers, mut engines] = [[0; engine::REPORT_BYTES]; 2];
     let times = in_turns(
         rounds,
-        || timed(|| assert!(black_box(model::job::run(black_box(job), BUDGET)).is_ok())),
         || {
-            timed(|| {
-                assert!(engine::job_run(black_box(job), BUDGET, black_box(&mut engines)).is_ok())
-            })
+            let (job, report) = (black_box(job), black_box(&mut peers));
+            timed(|| assert!(peer::run_into(job, BUDGET, report).is_ok()))
+        },
+        || {
+            let (job, report) = (black_box(job), black_box(&mut engines));
+            timed(|| assert!(engine::job_run(job, BUDGET, report).is_ok()))
         },
     );
-    assert!(engines[..] == report::bytes(&expected)[..]);
+    assert!(peers == engines && engines[..] == report::bytes(&expected)[..]);
     (times, expected)
 }
 
 fn compare_runs(name: &str, what: &str, job: &[u8]) {
     const ROUNDS: usize = 21;
     let (times, report) = time_runs(ROUNDS, job);
-    let picks = report.picks as f64;
-    print(name, what, &times);
+    let nanoseconds = |time: f64| time / report.picks as f64 * 1e9;
+    print(name, what, Beside::Peer, &times);
     println!(
-        "{:12} {} instructions: model {:.1}, engine {:.1} million a second",
+        "{:12} {} instructions: peer {:.2} ns, engine {:.2} ns each",
         name,
         report.picks,
-        picks / times.model / 1e6,
-        picks / times.engine / 1e6
+        nanoseconds(times.other),
+        nanoseconds(times.engine)
     );
 }
 
@@ -175,13 +180,13 @@ fn compare_dispatches(name: &str, what: &str, job: &[u8], lanes: u64) {
     assert!(number(0) != report::SPENT, "the job ends");
     let picks = number(report::WORK);
     let nanoseconds = |time: f64| time / picks as f64 * 1e9;
-    print(name, what, &times);
+    print(name, what, Beside::Model, &times);
     println!(
         "{:12} {} picks in {} rounds: model {:.2} ns, engine {:.2} ns a pick",
         name,
         picks,
         number(report::ROUNDS),
-        nanoseconds(times.model),
+        nanoseconds(times.other),
         nanoseconds(times.engine)
     );
 }
@@ -215,37 +220,38 @@ fn compare_replays(name: &str, what: &str, job: &[u8], order: &[u8]) {
     assert!(models == engines);
     let picks = order.len() as u64;
     let nanoseconds = |time: f64| time / picks as f64 * 1e9;
-    print(name, what, &times);
+    print(name, what, Beside::Model, &times);
     println!(
         "{:12} {} picks, {} refused: model {:.2} ns, engine {:.2} ns a pick",
         name,
         picks,
         picks - checks::numbers::number_at(&engines, WORK),
-        nanoseconds(times.model),
+        nanoseconds(times.other),
         nanoseconds(times.engine)
     );
 }
 
-/// Times whole calls, from a job's bytes to its text in a lent buffer.
+/// Times whole calls, from a job's bytes to its text in a lent buffer. The peer's text is written by
+/// the model, from its report.
 fn compare_jobs(name: &str, what: &str, job: &[u8]) {
     const ROUNDS: usize = 201;
     const CALLS: u32 = 20;
-    let mut models = String::with_capacity(engine::TEXT_BYTES);
+    let mut peers = String::with_capacity(engine::TEXT_BYTES);
     let mut engines = [0; engine::TEXT_BYTES];
     let mut length = 0;
     let times = calls_in_turns(
         ROUNDS,
         CALLS,
         || {
-            models.clear();
-            let outcome = model::job::run(black_box(job), BUDGET);
-            model::text::write(&outcome, black_box(&mut models));
+            peers.clear();
+            let outcome = peer::run(black_box(job), BUDGET);
+            model::text::write(&outcome, black_box(&mut peers));
         },
         || length = engine::job_text(black_box(job), BUDGET, black_box(&mut engines)),
     );
-    print(name, what, &times);
-    assert!(models.starts_with("end halt"));
-    assert!(engines[..length as usize] == *models.as_bytes());
+    print(name, what, Beside::Peer, &times);
+    assert!(peers.starts_with("end halt"));
+    assert!(engines[..length as usize] == *peers.as_bytes());
 }
 
 /// The engine's run on a state's bytes beside its run of the same job from the job's bytes.
@@ -274,7 +280,7 @@ fn print_run_beside_job_run(what: &str, job: &[u8]) {
     println!(
         "{:12} job {:11.2} µs, state {:10.2} µs: {} picks of {}, {:.3} times as long",
         "run-state",
-        times.model * 1e6,
+        times.other * 1e6,
         times.engine * 1e6,
         PICKS,
         what,
@@ -287,10 +293,10 @@ fn print_growth(what: &str, rounds: usize, job: &[u8]) {
     let (times, report) = time_runs(rounds, job);
     let nanoseconds = |time: f64| time / report.picks as f64 * 1e9;
     println!(
-        "{:22} {:>9} picks: model {:6.2} ns, engine {:6.2} ns a pick",
+        "{:22} {:>9} picks: peer {:6.2} ns, engine {:6.2} ns a pick",
         what,
         report.picks,
-        nanoseconds(times.model),
+        nanoseconds(times.other),
         nanoseconds(times.engine)
     );
 }

@@ -51,33 +51,34 @@ fn median<T: PartialOrd + Copy>(mut values: Vec<T>) -> T {
 
 /// Medians of the times in seconds, and of the rounds' ratios.
 pub struct Times {
-    pub model: f64,
+    /// Of the peer or the model.
+    pub other: f64,
     pub engine: f64,
-    /// The model's time divided by the engine's in the same round.
+    /// The other's time divided by the engine's in the same round.
     pub ratio: f64,
 }
 
 /// Takes the times of the two in turns, the one and the other first.
 pub fn in_turns(
     rounds: usize,
-    mut model: impl FnMut() -> Duration,
+    mut other: impl FnMut() -> Duration,
     mut engine: impl FnMut() -> Duration,
 ) -> Times {
-    let mut model_times = Vec::new();
+    let mut other_times = Vec::new();
     let mut engine_times = Vec::new();
     for round in 0..rounds {
         if round % 2 == 0 {
-            model_times.push(model().as_secs_f64());
+            other_times.push(other().as_secs_f64());
             engine_times.push(engine().as_secs_f64());
         } else {
             engine_times.push(engine().as_secs_f64());
-            model_times.push(model().as_secs_f64());
+            other_times.push(other().as_secs_f64());
         }
     }
-    let ratios = model_times.iter().zip(&engine_times).map(|(m, e)| m / e);
+    let ratios = other_times.iter().zip(&engine_times).map(|(o, e)| o / e);
     Times {
         ratio: median(ratios.collect()),
-        model: median(model_times),
+        other: median(other_times),
         engine: median(engine_times),
     }
 }
@@ -86,7 +87,7 @@ pub fn in_turns(
 pub fn calls_in_turns(
     rounds: usize,
     calls: u32,
-    mut model: impl FnMut(),
+    mut other: impl FnMut(),
     mut engine: impl FnMut(),
 ) -> Times {
     fn time_of_one(calls: u32, call: &mut impl FnMut()) -> Duration {
@@ -94,17 +95,34 @@ pub fn calls_in_turns(
     }
     in_turns(
         rounds,
-        || time_of_one(calls, &mut model),
+        || time_of_one(calls, &mut other),
         || time_of_one(calls, &mut engine),
     )
 }
 
+/// Which of the two the engine is beside.
+#[derive(Clone, Copy)]
+pub enum Beside {
+    Peer,
+    Model,
+}
+
+impl Beside {
+    pub fn name(self) -> &'static str {
+        match self {
+            Beside::Peer => "peer",
+            Beside::Model => "model",
+        }
+    }
+}
+
 /// Prints a line's times and its ratio, with what was timed.
-pub fn print(name: &str, what: &str, times: &Times) {
+pub fn print(name: &str, what: &str, beside: Beside, times: &Times) {
     println!(
-        "{:12} model {:9.2} µs, engine {:9.2} µs: {}",
+        "{:12} {} {:9.2} µs, engine {:9.2} µs: {}",
         name,
-        times.model * 1e6,
+        beside.name(),
+        times.other * 1e6,
         times.engine * 1e6,
         what
     );

@@ -9,6 +9,11 @@
 //!
 //! Every buffer that is lent lies beside a closed page, or between margins that are looked at: a call
 //! that reads or writes beyond it ends the process, or is seen.
+//!
+//! Without the feature `engine`, which is on by default, this is the seeded cases and the model's
+//! part alone, and needs no archive: so the benchmark's peer is compared with the model.
+
+#![cfg_attr(not(feature = "engine"), allow(dead_code, unused_macros))]
 
 macro_rules! ensure {
     ($holds:expr, $($what:tt)+) => {
@@ -19,35 +24,49 @@ macro_rules! ensure {
 }
 
 pub mod assemble;
+#[cfg(feature = "engine")]
 pub mod budgets;
+#[cfg(feature = "engine")]
 pub mod budgets_coverage;
+#[cfg(feature = "engine")]
 pub mod compare;
 pub mod counts;
+#[cfg(feature = "engine")]
 pub mod coverage;
 pub mod damage;
+#[cfg(feature = "engine")]
 pub mod dispatch;
+#[cfg(feature = "engine")]
 pub mod dispatch_coverage;
 mod draft;
 pub mod generate;
+#[cfg(feature = "engine")]
 pub mod guarded;
 pub mod hand;
 pub mod job_coverage;
 pub mod jobs;
 pub mod layout;
+#[cfg(feature = "engine")]
 pub mod lent;
 mod names;
 pub mod numbers;
 pub mod orders;
 pub mod product;
 pub mod random;
+#[cfg(feature = "engine")]
 pub mod replay;
+#[cfg(feature = "engine")]
 pub mod replay_coverage;
 pub mod report;
 pub mod rounds;
+#[cfg(feature = "engine")]
 pub mod run;
+#[cfg(feature = "engine")]
 pub mod run_program;
 pub mod shares;
 pub mod soak;
 pub mod state;
+#[cfg(feature = "engine")]
 pub mod steps;
+#[cfg(feature = "engine")]
 pub mod steps_coverage;
