@@ -11,7 +11,7 @@
 # make test        the whole gate, as .ci/run
 # make rust-test   the model's tests, and the engine compared with the model
 # make c-test      the engine called from C, the installation, header and exports
-# make bench       the engine's speed beside the model's
+# make bench       the engine's speed beside the peer's and the model's
 # make soak        the long comparison of images: make soak IMAGES=.. SEED=..
 # make soak-jobs   the long comparison of jobs: make soak-jobs JOBS=.. SEED=..
 # make soak-steps  the long comparison of jobs pick by pick: make soak-steps JOBS=.. SEED=..
