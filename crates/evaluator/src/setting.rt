@@ -24,8 +24,8 @@ ghost use Prim.Native.Nat.{ℕ, _+_, _<_};
 ghost use lib.ListN.{length, getD};
 ghost use Rattle.evaluator.specs.Arms.{contextOf, CanSet, SetsBy};
 
-// The register that the instruction at pc sets. `set_register` alone calls it, with a place of the decoded code. Each of its arms asks for itself: a
-// read ahead of its match would part that match from `turn`'s, and the two are one jump.
+// The register that the instruction at pc sets. Each arm below reads it by itself: a read ahead of the match would keep it and `turn`'s from being
+// one jump. `set_register` alone calls it, with a place of the decoded code.
 fn register_at(code: &[u64], pc: usize) -> usize
     requires { ⌜ pc + 1 < length (now code) ⌝ }
     ensures { λ r. ⌜ r ≡ getD (now (code .entry)) (pc + 1) 0 ⌝ }
@@ -37,11 +37,11 @@ fn register_at(code: &[u64], pc: usize) -> usize
 // calls it, with the numbers of an accepted program's instruction.
 pub fn set_register(
     cells: &[u64],
+    code: &[u64],
     words: &[i64],
     nums: &mut [u64],
     kinds: &mut [u8],
     depth: u64,
-    code: &[u64],
     pc: usize,
     arm: u64,
     s: usize,

@@ -91,7 +91,7 @@ fn turn(
             beat,
         },
         _ => {
-            let what = set_register(cells, words, nums, kinds, depth, code, pc, arm, s, v);
+            let what = set_register(cells, code, words, nums, kinds, depth, pc, arm, s, v);
             Gone {
                 what,
                 pc: pc + 4,
