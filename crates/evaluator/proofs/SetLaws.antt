@@ -140,18 +140,22 @@ module _ (program : Program) (words : List ℤ) (c : Choices) (s : Value) (t : A
 
 -- ---- an arm by its number: N + 32 K is n + 32 k for no other n and k
 
-module _ (x : Context) (arm what r s v : ℕ) (nums kinds nums′ kinds′ : List ℕ) where
-  abbrev Does : ℕ → ℕ → Type 0
-  Does n k = SetsAs x (getD opcodes n unknown) what r nums kinds nums′ kinds′ (inRegister s) (operandBy k v)
+-- of the register that the arm reads in the code
+pub as-read : {read r : ℕ} → read ≡ r → r < 16 → read < 16
+as-read e l = omega (arith, e, l)
 
-  pub by-number : (N K : ℕ) → N < 13 → K ≤ 3 → arm ≡ N + 32 * K → Does N K → SetsBy x arm what r s v nums kinds nums′ kinds′
-  by-number N K few known e h = record {
+module _ (x : Context) (arm what r s v : ℕ) (nums kinds nums′ kinds′ : List ℕ) where
+  abbrev Does : ℕ → ℕ → ℕ → Type 0
+  Does i n k = SetsAs x (getD opcodes n unknown) what i nums kinds nums′ kinds′ (inRegister s) (operandBy k v)
+
+  pub by-number : (N K : ℕ) → N < 13 → K ≤ 3 → arm ≡ N + 32 * K → {read : ℕ} → read ≡ r → Does read N K → SetsBy x arm what r s v nums kinds nums′ kinds′
+  by-number N K few known e same h = record {
     still-sized = h .0;
     carried = λ q. (omega (arith, few, known, e), omega (arith, few, known, e));
     as-table = λ q n k low f.
         let p : N ≡ n = omega (arith, few, low, e, f) in
         let z : K ≡ k = omega (arith, few, low, e, f) in
-        subst (λ i. Does i k) p (subst (λ j. Does N j) z h);
+        subst (λ j. Does r j k) p (subst (λ j. Does r N j) z (subst (λ i. Does i N K) same h));
     untouched = λ q. absurd (not-one q);
     others = λ q. absurd (not-one q);
   }

@@ -5,7 +5,7 @@ use mathlib.Core.Bool.{true, not}
 use mathlib.Core.List.{List}
 use Prim.Native.Nat.{ℕ, _+_, _*_, _-_, _/_, _%_, _<_, _≤_}
 use lib.IntN.{ℤ, pos}
-use lib.ListN.{getD, set}
+use lib.ListN.{length, getD, set}
 use mir.Syntax.{w64}
 use mir.Val.{toZ}
 use Rattle.image.specs.Program.{Program}
@@ -71,11 +71,12 @@ SetsAs x op what r nums kinds nums′ kinds′ s v =
     Sized nums′ kinds′ × ((t : Active) (o : List Fork) → t .depth ≡ x .depth → Sets what r (registersOf nums kinds) (registersOf nums′ kinds′)
     (effectOf (x .program) (x .words) (x .choices) (s (registersOf nums kinds)) (v (registersOf nums kinds)) t o op))
 
--- what such an arm may rest on
-pub record CanSet (cells nums kinds : List ℕ) (depth arm r s v : ℕ) : Type 0 where
+-- what such an arm may rest on; the register r that it sets stands in the decoded code, after the arm
+pub record CanSet (cells code nums kinds : List ℕ) (depth pc arm s v : ℕ) : Type 0 where
   pub accepted-program : programNo cells ≡ 0
   pub sized : Sized nums kinds
-  pub r-small : r < 16
+  pub stored : pc + 1 < length code
+  pub r-small : getD code (pc + 1) 0 < 16
   pub s-small : s < 16
   pub register-operand : 32 ≤ arm → arm < 64 → v < 16
   pub label-operand : 64 ≤ arm → arm < 96 → v < blockCount cells

@@ -30,7 +30,6 @@ fn turn(
         (registersOf (now (nums .entry)) (now (kinds .entry))) z (registersOf (now (nums .exit)) (now (kinds .exit))) ⌝ }
 {
     let arm = code[pc];
-    let r = code[pc + 1] as usize;
     let s = code[pc + 2] as usize;
     let v = code[pc + 3];
     match arm {
@@ -92,7 +91,7 @@ fn turn(
             beat,
         },
         _ => {
-            let what = set_register(cells, words, nums, kinds, depth, arm, r, s, v);
+            let what = set_register(cells, code, words, nums, kinds, depth, pc, arm, s, v);
             Gone {
                 what,
                 pc: pc + 4,

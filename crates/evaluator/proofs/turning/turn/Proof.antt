@@ -17,15 +17,6 @@ mul-arm c = search needs
 shared-slice-read-arm : tie.Need-shared-slice-read-arm
 shared-slice-read-arm c = search needs
 
-add-r : tie.Need-add-r
-add-r c = search needs
-
-mul-r : tie.Need-mul-r
-mul-r c = search needs
-
-shared-slice-read-r : tie.Need-shared-slice-read-r
-shared-slice-read-r c = search needs
-
 add-s : tie.Need-add-s
 add-s c = search needs
 
@@ -46,7 +37,7 @@ shared-slice-read-v c = search needs
 
 branch-register-requires : tie.Need-branch-register-requires
 branch-register-requires c κs =
-    let a = c .before .before .before .before .before .before .before .before .before .before .before in
+    let a = c .before .before .before .before .before .before .before .before .before .before in
     let d = fetched (a .pre) in
     let n = named d 10 1 (omega arith) (omega arith) (c .before .before .match .keys1) in (
       a .pre .accepted-program,
@@ -61,14 +52,14 @@ branch-register-requires c κs =
 
 jump-register-requires : tie.Need-jump-register-requires
 jump-register-requires c κs =
-    let a = c .before .before .before .before .before .before .before .before .before .before .before in
+    let a = c .before .before .before .before .before .before .before .before .before .before in
     let d = fetched (a .pre) in
     let n = named d 13 1 (omega arith) (omega arith) (c .before .before .match .keys2) in
     (a .pre .accepted-program, omega (arith, a .pre .counter-least), a .pre .sized, register-small d 13 n, a .pre .on-place, a .pre .values-fit _)
 
 branch-to-requires : tie.Need-branch-to-requires
 branch-to-requires c κs =
-    let a = c .before .before .before .before .before .before .before .before .before .before .before in
+    let a = c .before .before .before .before .before .before .before .before .before .before in
     let d = fetched (a .pre) in
     let n = named d 10 2 (omega arith) (omega arith) (c .before .before .match .keys3) in (
       a .pre .accepted-program,
@@ -82,31 +73,32 @@ branch-to-requires c κs =
 
 enter-requires : tie.Need-enter-requires
 enter-requires c κs =
-    let a = c .before .before .before .before .before .before .before .before .before in
+    let a = c .before .before .before .before .before .before .before .before in
     let d = fetched (a .pre) in
     let n = named d 13 2 (omega arith) (omega arith) (c .match .keys4) in
     (a .pre .accepted-program, label-below d 13 n, omega (arith, a .pre .counter-least))
 
 branch-to-requires-2 : tie.Need-branch-to-requires-2
 branch-to-requires-2 c κs =
-    let a = c .before .before .before .before .before .before .before .before .before .before .before in
+    let a = c .before .before .before .before .before .before .before .before .before .before in
     let d = fetched (a .pre) in
     let n = named d 10 3 (omega arith) (omega arith) (c .before .before .match .keys5) in
     (a .pre .accepted-program, refl, omega (arith, a .pre .counter-least), a .pre .sized, d .s-small, a .pre .on-place, next-below d 10 (omega arith) (n .its-opcode))
 
 branch-plain-requires : tie.Need-branch-plain-requires
 branch-plain-requires c κs =
-    let a = c .before .before .before .before .before .before .before .before .before .before .before in
+    let a = c .before .before .before .before .before .before .before .before .before .before in
     let d = fetched (a .pre) in
     (a .pre .sized, d .s-small, omega (arith, d .few, a .pre .on-place, a .pre .inside-program))
 
 set-register-requires : tie.Need-set-register-requires
 set-register-requires c κs =
-    let a = c .before .before .before .before .before .before .before .before .before .before .before in
+    let a = c .before .before .before .before .before .before .before .before .before .before in
     let d = fetched (a .pre) in
     record {
       accepted-program = a .pre .accepted-program;
       sized = a .pre .sized;
+      stored = omega (arith, a .pre .decodes .stored, a .pre .on-place, a .pre .inside-program);
       r-small = d .r-small;
       s-small = d .s-small;
       register-operand = register-operand d;
@@ -115,8 +107,8 @@ set-register-requires c κs =
       depth-most = a .pre .depth-most;
     }
 
-add-t54 : tie.Need-add-t54
-add-t54 c = search needs
+add-t52 : tie.Need-add-t52
+add-t52 c = search needs
 
 same-length : tie.Need-same-length
 same-length c = search needs
@@ -126,7 +118,7 @@ same-length-2 c = search needs
 
 returns : tie.Need-returns
 returns c =
-    let a = c .before .before .before .before .before .before .before .before .before .before .before .before in
+    let a = c .before .before .before .before .before .before .before .before .before .before .before in
     let d = fetched (a .pre) in
     let n = named d 10 1 (omega arith) (omega arith) (c .before .before .before .match .keys1) in (
       a .pre .sized,
@@ -143,7 +135,7 @@ same-length-4 c = search needs
 
 returns-2 : tie.Need-returns-2
 returns-2 c =
-    let a = c .before .before .before .before .before .before .before .before .before .before .before .before in
+    let a = c .before .before .before .before .before .before .before .before .before .before .before in
     let d = fetched (a .pre) in
     let n = named d 13 1 (omega arith) (omega arith) (c .before .before .before .match .keys2) in (
       a .pre .sized,
@@ -161,7 +153,7 @@ same-length-6 c = search needs
 
 returns-3 : tie.Need-returns-3
 returns-3 c =
-    let a = c .before .before .before .before .before .before .before .before .before .before .before .before in
+    let a = c .before .before .before .before .before .before .before .before .before .before .before in
     let d = fetched (a .pre) in
     let n = named d 10 2 (omega arith) (omega arith) (c .before .before .before .match .keys3) in (
       a .pre .sized,
@@ -172,7 +164,7 @@ returns-3 c =
 
 returns-4 : tie.Need-returns-4
 returns-4 c =
-    let a = c .before .before .before .before .before .before .before .before .before .before in
+    let a = c .before .before .before .before .before .before .before .before .before in
     let d = fetched (a .pre) in
     let n = named d 13 2 (omega arith) (omega arith) (c .before .match .keys4) in (
       a .pre .sized,
@@ -189,7 +181,7 @@ same-length-8 c = search needs
 
 returns-5 : tie.Need-returns-5
 returns-5 c =
-    let a = c .before .before .before .before .before .before .before .before .before .before .before .before in
+    let a = c .before .before .before .before .before .before .before .before .before .before .before in
     let d = fetched (a .pre) in
     let n = named d 10 3 (omega arith) (omega arith) (c .before .before .before .match .keys5) in (
       a .pre .sized,
@@ -200,7 +192,7 @@ returns-5 c =
 
 returns-6 : tie.Need-returns-6
 returns-6 c =
-    let a = c .before .before .before .before .before .before .before .before .before in
+    let a = c .before .before .before .before .before .before .before .before in
     let d = fetched (a .pre) in
     let n = named d 13 3 (omega arith) (omega arith) (c .match .keys6) in (
       a .pre .sized,
@@ -217,7 +209,7 @@ same-length-10 c = search needs
 
 returns-7 : tie.Need-returns-7
 returns-7 c =
-    let a = c .before .before .before .before .before .before .before .before .before .before .before .before in
+    let a = c .before .before .before .before .before .before .before .before .before .before .before in
     let d = fetched (a .pre) in
     let j = plain-jump d 10 (omega arith) (c .before .before .before .match .keys7) in (
       a .pre .sized,
@@ -229,7 +221,7 @@ returns-7 c =
 
 returns-8 : tie.Need-returns-8
 returns-8 c =
-    let a = c .before .before .before .before .before .before .before .before .before in
+    let a = c .before .before .before .before .before .before .before .before in
     let d = fetched (a .pre) in
     let j = plain-jump d 13 (omega arith) (c .match .keys8) in (
       a .pre .sized,
@@ -247,7 +239,7 @@ same-length-12 c = search needs
 
 returns-9 : tie.Need-returns-9
 returns-9 c =
-    let a = c .before .before .before .before .before .before .before .before .before .before .before .before .before .before .before .before in
+    let a = c .before .before .before .before .before .before .before .before .before .before .before .before .before .before .before in
     let d = fetched (a .pre) in
     let set = c .before .before .before .before .set-register .ensures (a .args .interval) in (
       set .still-sized,
@@ -262,9 +254,6 @@ turn-spec =
     (tie.spec
     mul-arm
     shared-slice-read-arm
-    add-r
-    mul-r
-    shared-slice-read-r
     add-s
     mul-s
     shared-slice-read-s
@@ -278,7 +267,7 @@ turn-spec =
     branch-to-requires-2
     branch-plain-requires
     set-register-requires
-    add-t54
+    add-t52
     same-length
     same-length-2
     returns
