@@ -23,12 +23,12 @@ use Rattle.task.specs.Formed.{formed, within}
 use Rattle.task.specs.Step.{step}
 use Rattle.task.proofs.Executing.{madeBy, step-executed}
 use Rattle.task.proofs.Formation.{Formed, formed-is}
-use Rattle.evaluator.specs.declared.Stopped.{Stopped}
+use Rattle.arms.specs.declared.Stopped.{Stopped}
 use Rattle.evaluator.specs.declared.Hand.{Hand}
-use Rattle.evaluator.specs.Registers.{registersOf, Sized}
+use Rattle.arms.specs.Registers.{registersOf, Sized}
 use Rattle.evaluator.specs.Banks.{forksOf}
-use Rattle.evaluator.specs.Code.{Decodes}
-use Rattle.evaluator.specs.Turns.{frameAt, rules, executedOf, Starts, RunsUntil}
+use Rattle.arms.specs.Code.{Decodes}
+use Rattle.arms.specs.Turns.{frameAt, rules, executedOf, Starts, RunsUntil}
 use Rattle.evaluator.specs.Sides.{frameOf, Good, CanStep, madeOf}
 use Rattle.evaluator.specs.Hands.{frameFrom, Rows, rowsOf, keptOf, handFrame, keptFrame, pendingFrom, Point, LeadsTo, handSide, steppedIn, Applied}
 use Rattle.evaluator.proofs.GoodLaws.{good-more, good-depth}

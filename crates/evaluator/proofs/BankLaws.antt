@@ -11,9 +11,9 @@ use Rattle.task.specs.Stretches.{reads}
 use Rattle.task.specs.Step.{copied}
 use Rattle.task.proofs.Copying.{copies-first, copies-none}
 use Rattle.task.proofs.StretchLaws.{length-reads, reads-same, reads-all, reads-snoc}
-use Rattle.evaluator.specs.Registers.{valueOf, registersOf, Sized}
+use Rattle.arms.specs.Registers.{valueOf, registersOf, Sized}
 use Rattle.evaluator.specs.Banks.{bankFrom}
-use Rattle.evaluator.proofs.RegisterLaws.{written, value-at}
+use Rattle.arms.proofs.RegisterLaws.{written, value-at}
 
 module _ {A : Type 0} where
   sets-snoc : (xs l : List A) (b : ℕ) (x : A) → sets l b (xs ++ (x ∷ [])) ≡ set (sets l b xs) (b + length xs) x

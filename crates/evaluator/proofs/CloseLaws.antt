@@ -30,9 +30,9 @@ use Rattle.task.proofs.Counts.{within-is}
 use Rattle.task.proofs.StretchLaws.{length-reads}
 use Rattle.evaluator.specs.declared.Hand.{Hand}
 use Rattle.evaluator.specs.declared.Kept.{Kept}
-use Rattle.evaluator.specs.Registers.{registersOf}
+use Rattle.arms.specs.Registers.{registersOf}
 use Rattle.evaluator.specs.Banks.{bankFrom, Exchanged, forkOf, forksOf}
-use Rattle.evaluator.specs.Turns.{rules}
+use Rattle.arms.specs.Turns.{rules}
 use Rattle.evaluator.specs.Sides.{Good}
 use Rattle.evaluator.specs.Hands.{statusFrom, registersFrom, frameFrom, Rows, rowsOf, keptOf, Keeps, handFrame}
 use Rattle.evaluator.specs.Hands.{keptFrame, pendingFrom, Full, Point, LeadsTo, sideOf, otherOf, joinedOf, FirstFault}

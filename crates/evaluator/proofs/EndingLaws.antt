@@ -33,10 +33,10 @@ use Rattle.task.proofs.Formation.{Formed, formed-is}
 use Rattle.task.proofs.StepKeeps.{operand-fits}
 use Rattle.task.proofs.Counts.{Within, within-is}
 use Rattle.evaluator.specs.declared.Side.{Side}
-use Rattle.evaluator.specs.Registers.{valueOf, registersOf, Sized, operandBy}
-use Rattle.evaluator.specs.Turns.{executedOf}
+use Rattle.arms.specs.Registers.{valueOf, registersOf, Sized, operandBy}
+use Rattle.arms.specs.Turns.{executedOf}
 use Rattle.evaluator.specs.Sides.{frameOf, CanStep}
-use Rattle.evaluator.proofs.RegisterLaws.{value-at}
+use Rattle.arms.proofs.RegisterLaws.{value-at}
 
 -- ---- the operand by its kind, as two numbers
 

@@ -19,7 +19,7 @@ use Rattle.task.proofs.Formation.{formed-is, is-formed}
 use Rattle.task.proofs.StepKeeps.{step-one, step-two}
 use Rattle.task.proofs.JoinKeeps.{join-formed}
 use Rattle.task.proofs.Counts.{within-is, is-within, within-more, step-one-within, step-two-within, join-within}
-use Rattle.evaluator.specs.Turns.{rules}
+use Rattle.arms.specs.Turns.{rules}
 use Rattle.evaluator.specs.Sides.{openBy, openOf, Good}
 use Rattle.evaluator.specs.Hands.{pendingFrom}
 

@@ -26,12 +26,12 @@ use Rattle.task.proofs.StretchLaws.{reads-same, reads-sets}
 use Rattle.facts.proofs.Tests.{by-order}
 use Rattle.evaluator.specs.declared.Hand.{Hand}
 use Rattle.evaluator.specs.declared.Kept.{Kept}
-use Rattle.evaluator.specs.Registers.{valueOf, registersOf, Sized}
+use Rattle.arms.specs.Registers.{valueOf, registersOf, Sized}
 use Rattle.evaluator.specs.Banks.{bankFrom, forkOf, forksOf}
 use Rattle.evaluator.specs.Sides.{frameOf, madeOf}
 use Rattle.evaluator.specs.Hands.{statusFrom, registersFrom, frameFrom, Rows, rowsOf, keptOf, Keeps, handFrame}
 use Rattle.evaluator.specs.Hands.{keptFrame, Full, handSide, goneOn, endedWith, parentOf, childOf, steppedIn, Applied}
-use Rattle.evaluator.proofs.RegisterLaws.{written, still-sized}
+use Rattle.arms.proofs.RegisterLaws.{written, still-sized}
 use Rattle.evaluator.proofs.BankLaws.{length-sets}
 use Rattle.evaluator.proofs.ForkLaws.{forks-opened, forks-below}
 

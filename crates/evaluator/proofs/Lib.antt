@@ -1,12 +1,5 @@
--- The laws, in their order: registers and values, arms, the loop of a task by itself, live tasks; then by rows: banks, records, kept sides, the
--- task in hand, the loop over frames, its rounds, an ending instruction.
-pub mod RegisterLaws
-pub mod ValueLaws
-pub mod SetLaws
-pub mod LeadLaws
-pub mod CodeLaws
-pub mod TurnLaws
-pub mod RunLaws
+-- The laws, in their order: live tasks; then by rows: banks, records, kept sides, the task in hand, the loop over frames, its rounds, an ending
+-- instruction.
 pub mod GoodLaws
 pub mod BankLaws
 pub mod ForkLaws

@@ -22,9 +22,9 @@ use Rattle.task.proofs.EveryLaws.{every-at}
 use Rattle.task.proofs.Formation.{Formed, formed-is, is-formed}
 use Rattle.task.proofs.Counts.{within-is, is-within, start-within}
 use Rattle.evaluator.specs.declared.Hand.{Hand}
-use Rattle.evaluator.specs.Registers.{registersOf, inRegister}
+use Rattle.arms.specs.Registers.{registersOf, inRegister}
 use Rattle.evaluator.specs.Banks.{forksOf}
-use Rattle.evaluator.specs.Turns.{rules}
+use Rattle.arms.specs.Turns.{rules}
 use Rattle.evaluator.specs.Sides.{Good}
 use Rattle.evaluator.specs.Hands.{statusFrom, registersFrom, frameFrom, Rows, rowsOf, handFrame, keptFrame, pendingFrom, Full, Point}
 use Rattle.evaluator.specs.Hands.{found, LeadsTo, overBy, endedBy, weight, lastFrame, outcomeFrom, CanEvaluate, Closes}

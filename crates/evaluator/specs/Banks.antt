@@ -7,7 +7,7 @@ use Rattle.task.specs.declared.Register.{Register}
 use Rattle.task.specs.declared.Fork.{Fork}
 use Rattle.task.specs.Frames.{zeroFork}
 use Rattle.task.specs.Stretches.{reads}
-use Rattle.evaluator.specs.Registers.{registersOf}
+use Rattle.arms.specs.Registers.{registersOf}
 
 -- the bank that begins at a place of the longer rows
 abbrev pub bankFrom : List ℕ → List ℕ → ℕ → List Register

@@ -28,9 +28,9 @@ use Rattle.evaluator.specs.declared.Hand.{Hand}
 use Rattle.evaluator.specs.declared.Kept.{Kept}
 use Rattle.evaluator.specs.declared.Ran.{Ran}
 use Rattle.evaluator.specs.declared.Finished.{Finished}
-use Rattle.evaluator.specs.Registers.{registersOf, Sized, inRegister}
+use Rattle.arms.specs.Registers.{registersOf, Sized, inRegister}
 use Rattle.evaluator.specs.Banks.{bankFrom, forksOf}
-use Rattle.evaluator.specs.Turns.{rules, Ends}
+use Rattle.arms.specs.Turns.{rules, Ends}
 use Rattle.evaluator.specs.Sides.{frameOf, openOf, Base, Good, madeOf}
 
 -- ---- Frames

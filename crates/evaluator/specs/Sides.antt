@@ -19,8 +19,8 @@ use Rattle.task.specs.Values.{recordOf}
 use Rattle.task.specs.Formed.{formed, within}
 use Rattle.task.specs.Step.{counted, movedTo, ended, side, withTask}
 use Rattle.evaluator.specs.declared.Side.{Side}
-use Rattle.evaluator.specs.Registers.{registersOf}
-use Rattle.evaluator.specs.Code.{Decodes}
+use Rattle.arms.specs.Registers.{registersOf}
+use Rattle.arms.specs.Code.{Decodes}
 
 abbrev pub frameOf : Side → Frame
 frameOf s = record { task = s .task; registers = registersOf (s .nums) (s .kinds) }

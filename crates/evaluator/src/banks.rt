@@ -1,12 +1,12 @@
 // Banks of 16 registers: the task's own in two rows, those of the sides that are kept one after the other in two longer rows.
-use crate::rows::put;
+use arms::rows::put;
 ghost use mathlib.Core.Path.{_≡_};
 ghost use Prim.Native.Nat.{_+_, _≤_};
 ghost use lib.ListN.{length};
 ghost use lib.Seq.{sets};
 ghost use Rattle.task.specs.Stretches.{reads};
 ghost use Rattle.task.specs.Step.{copied};
-ghost use Rattle.evaluator.specs.Registers.{Sized, registersOf};
+ghost use Rattle.arms.specs.Registers.{Sized, registersOf};
 ghost use Rattle.evaluator.specs.Banks.{bankFrom, Exchanged};
 
 // One loop copies one row: the compiler then moves 16 bytes at a time. This crate alone calls these functions, with banks that the rows have.

@@ -11,7 +11,7 @@ ghost use mathlib.Core.List.{List};
 ghost use Prim.Native.Nat.{ℕ, _*_, _-_, _<_, _≤_, max};
 ghost use lib.IntN.{ℤ};
 ghost use lib.ListN.{length};
-ghost use Rattle.evaluator.specs.Registers.{Sized};
+ghost use Rattle.arms.specs.Registers.{Sized};
 ghost use Rattle.evaluator.specs.Banks.{Exchanged};
 ghost use Rattle.evaluator.specs.Hands.{keptOf, Keeps, rowsOf, Point, LeadsTo, sideOf, otherOf, joinedOf, FirstFault};
 

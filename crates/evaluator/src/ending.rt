@@ -1,6 +1,6 @@
 // The instruction that the task in hand does not carry out by itself: a fault that its arm has found, or fork, join or halt.
 use crate::Hand;
-use crate::Pair;
+use arms::Pair;
 use crate::fitting::does_fit;
 use image::Instruction;
 use image::layout;
@@ -24,9 +24,9 @@ ghost use Rattle.task.specs.Choices.{Choices, chosen};
 ghost use Rattle.task.specs.Effect.{fork, halt, meet};
 ghost use Rattle.task.specs.Formed.{valueFits};
 ghost use Rattle.task.specs.Execute.{answered};
-ghost use Rattle.evaluator.specs.Registers.{Sized, registersOf, valueOf, operandBy};
+ghost use Rattle.arms.specs.Registers.{Sized, registersOf, valueOf, operandBy};
 ghost use Rattle.evaluator.specs.Banks.{forksOf};
-ghost use Rattle.evaluator.specs.Turns.{executedOf, Ends};
+ghost use Rattle.arms.specs.Turns.{executedOf, Ends};
 ghost use Rattle.evaluator.specs.Sides.{frameOf, CanStep};
 ghost use Rattle.evaluator.specs.Hands.{handSide};
 

@@ -13,9 +13,9 @@ ghost use Prim.Native.Nat.{_<_};
 ghost use Rattle.agreement.specs.Plain.{eval};
 ghost use Rattle.serial.specs.Serial.{withinBudget};
 ghost use Rattle.task.specs.Frames.{startFrame, workLimit};
-ghost use Rattle.evaluator.specs.Registers.{registersOf};
-ghost use Rattle.evaluator.specs.Code.{Decodes};
-ghost use Rattle.evaluator.specs.Turns.{rules};
+ghost use Rattle.arms.specs.Registers.{registersOf};
+ghost use Rattle.arms.specs.Code.{Decodes};
+ghost use Rattle.arms.specs.Turns.{rules};
 ghost use Rattle.evaluator.specs.Hands.{rowsOf, Point, LeadsTo, overBy, weight, CanEvaluate, finishedOf, Closes};
 
 fn is_over(hand: Hand) -> bool

@@ -5,9 +5,9 @@ use crate::Ran;
 use crate::banks::save;
 use crate::ending::ending;
 use crate::keeping::keep;
-use crate::rows::pair_of;
-use crate::rows::put;
-use crate::turning::run_on;
+use arms::rows::pair_of;
+use arms::rows::put;
+use arms::turning::run_on;
 use image::layout;
 use task::Executed;
 use task::Kind;
@@ -19,9 +19,9 @@ ghost use lib.ListN.{set};
 ghost use lib.Seq.{sets};
 ghost use Rattle.task.specs.Values.{recordOf};
 ghost use Rattle.task.specs.declared.Kind.the-variants.{Faults, Forks};
-ghost use Rattle.evaluator.specs.Registers.{registersOf};
+ghost use Rattle.arms.specs.Registers.{registersOf};
 ghost use Rattle.evaluator.specs.Banks.{forkOf};
-ghost use Rattle.evaluator.specs.Turns.{Starts, Ends};
+ghost use Rattle.arms.specs.Turns.{Starts, Ends};
 ghost use Rattle.evaluator.specs.Hands.{rowsOf, Keeps, Full, Point, LeadsTo, Rests, goneOn, endedWith, parentOf, childOf, Applied};
 
 // The instructions by itself. `evaluate` alone calls it, with a running task.

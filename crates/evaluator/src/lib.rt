@@ -2,50 +2,13 @@
 // is and proves that it finds what the plain evaluation finds.
 use task::Task;
 
-mod arithmetic;
 mod banks;
 mod closing;
-pub mod decoding;
 mod ending;
 mod fitting;
 pub mod flat;
 mod hands;
-mod jumps;
 mod keeping;
-mod moves;
-pub mod rows;
-mod setting;
-mod turning;
-
-// A value's kind and its 64 bits.
-pub struct Pair {
-    pub kind: u8,
-    pub num: u64,
-}
-
-// A decoded instruction's arm, and its operand.
-pub struct Arm {
-    pub number: u64,
-    pub operand: u64,
-}
-
-// What the task does: 0 it goes on by itself, 1 its instruction is not one that it carries out by itself; any other number is that instruction's
-// fault's. And where it goes: the place of the next instruction, and the number that its counter is the difference of and what is left of the
-// budget.
-pub struct Gone {
-    pub what: u8,
-    pub pc: usize,
-    pub beat: u64,
-}
-
-// Where a task stands before an instruction that it does not carry out by itself, and what that is, as in `Gone`; or, where it would go on, once
-// the budget is used up.
-pub struct Stopped {
-    pub what: u8,
-    pub pc: usize,
-    pub beat: u64,
-    pub left: u64,
-}
 
 // A task with its registers.
 pub struct Side {

@@ -27,11 +27,11 @@ use Rattle.task.specs.Frames.{zeroRegister, zeros, integers, startFrame, workLi
 use Rattle.task.specs.Choices.{chosen}
 use Rattle.task.specs.Formed.{valueFits}
 use Rattle.evaluator.specs.declared.Finished.{Finished}
-use Rattle.evaluator.specs.Registers.{valueOf, registersOf, Sized, inRegister}
-use Rattle.evaluator.specs.Code.{Decodes}
-use Rattle.evaluator.specs.Turns.{rules}
+use Rattle.arms.specs.Registers.{valueOf, registersOf, Sized, inRegister}
+use Rattle.arms.specs.Code.{Decodes}
+use Rattle.arms.specs.Turns.{rules}
 use Rattle.evaluator.specs.Hands.{outcomeFrom, finishedOf, CanEvaluate, Closes}
-use Rattle.evaluator.proofs.RegisterLaws.{label-at}
+use Rattle.arms.proofs.RegisterLaws.{label-at}
 use Rattle.drive.specs.declared.End.the-variants.{NotEnded, Halt, Fault}
 use Rattle.drive.specs.Settings.{rank}
 use Rattle.drive.proofs.RankLaws.{rank-small, rank-power}

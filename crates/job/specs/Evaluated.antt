@@ -11,7 +11,7 @@ use Rattle.image.specs.Layout.{instructionCount}
 use Rattle.image.specs.Questions.{programNo}
 use Rattle.task.specs.Frames.{workLimit}
 use Rattle.evaluator.specs.declared.Finished.{Finished}
-use Rattle.evaluator.specs.Registers.{Sized}
+use Rattle.arms.specs.Registers.{Sized}
 use Rattle.drive.specs.Settings.{placesAllowed}
 
 -- each of the numbers is the 64 bits of the integer in its place

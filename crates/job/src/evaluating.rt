@@ -12,7 +12,7 @@ ghost use Rattle.image.specs.Layout.{programOf};
 ghost use Rattle.serial.specs.Serial.{withinBudget};
 ghost use Rattle.task.specs.Frames.{workLimit};
 ghost use Rattle.task.specs.Choices.{chosen};
-ghost use Rattle.evaluator.specs.Registers.{registersOf, Sized};
+ghost use Rattle.arms.specs.Registers.{registersOf, Sized};
 ghost use Rattle.evaluator.specs.Hands.{finishedOf};
 ghost use Rattle.orders.specs.Demand.{evaluationOf};
 ghost use Rattle.outcomes.specs.Outcomes.{allowance, reportFrom};
@@ -53,7 +53,7 @@ fn registers_of(nums: &[u64], kinds: &[u8]) -> [Register; 16]
     }; 16];
     let mut i = 0usize;
     while i < 16 {
-        let value = evaluator::rows::value_of(kinds[i], nums[i]);
+        let value = arms::rows::value_of(kinds[i], nums[i]);
         out[i] = Register { value };
         i += 1;
     }
@@ -113,7 +113,7 @@ pub fn evaluate_job(
     requires { ⌜ CanRun (now cells) (length (now code)) places n (now registers) ⌝ }
     ensures { λ r. ⌜ r ≡ reportFrom n (withinBudget n (evaluationOf (programOf (now (cells .entry))) (chosen interval) places (now (registers .entry)) (now (words .entry)) workLimit)) ⌝ }
 {
-    evaluator::decoding::decode(cells, code);
+    arms::decoding::decode(cells, code);
     let mut nums = [0u64; 16];
     let mut kinds = [0u8; 16];
     bits_of(registers, &mut nums);

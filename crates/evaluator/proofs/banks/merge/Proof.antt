@@ -4,8 +4,8 @@ use Prim.Native.Nat.{_-_}
 use native.Mathlib.Omega.{arith}
 use borrow.Author.Needs.{needs}
 use Rattle.task.specs.Step.{copied}
-use Rattle.evaluator.specs.Registers.{registersOf, Sized}
-use Rattle.evaluator.proofs.RegisterLaws.{still-sized}
+use Rattle.arms.specs.Registers.{registersOf, Sized}
+use Rattle.arms.proofs.RegisterLaws.{still-sized}
 use Rattle.evaluator.proofs.BankLaws.{merges-one, merges-none}
 use Rattle.evaluator.proofs.banks.merge.Statement.{statement}
 use Rattle.evaluator.proofs.banks.merge.Tie as tie

@@ -9,7 +9,7 @@ use Rattle.image.proofs.Accepted.{accepted}
 use Rattle.task.specs.Step.{copied}
 use Rattle.evaluator.specs.declared.Hand.{Hand}
 use Rattle.evaluator.specs.declared.Kept.{Kept}
-use Rattle.evaluator.specs.Registers.{registersOf}
+use Rattle.arms.specs.Registers.{registersOf}
 use Rattle.evaluator.specs.Banks.{bankFrom}
 use Rattle.evaluator.specs.Hands.{rowsOf, keptOf, joinedOf, FirstFault}
 use Rattle.evaluator.proofs.CloseLaws.{d-inside, span-small, spun-small, places-small, other-places-small, continuation-inside, joint-faulted}

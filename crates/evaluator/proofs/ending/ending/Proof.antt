@@ -9,7 +9,7 @@ use Rattle.task.specs.declared.Active.{Active}
 use Rattle.task.specs.Choices.{chosen}
 use Rattle.task.specs.Effect.{fork, halt, meet, unknown, opcodes}
 use Rattle.task.specs.Execute.{answered}
-use Rattle.evaluator.specs.Registers.{valueOf}
+use Rattle.arms.specs.Registers.{valueOf}
 use Rattle.evaluator.specs.Banks.{forksOf}
 use Rattle.evaluator.specs.Hands.{handSide}
 use Rattle.evaluator.proofs.EndingLaws.{here, place-below, counter-below, depth-most, s-below, operand-below, s-is, v-is, v-fits, executes}

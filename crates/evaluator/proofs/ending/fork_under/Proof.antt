@@ -5,9 +5,9 @@ use borrow.Author.Tests.{not-true, not-false}
 use Rattle.image.specs.Layout.{programOf}
 use Rattle.image.proofs.Accepted.{accepted}
 use Rattle.task.proofs.Belonging.{fork-unfit, fork-no-places, opens}
-use Rattle.evaluator.specs.Registers.{valueOf}
+use Rattle.arms.specs.Registers.{valueOf}
 use Rattle.evaluator.specs.Banks.{forksOf}
-use Rattle.evaluator.proofs.LeadLaws.{label-inside}
+use Rattle.arms.proofs.LeadLaws.{label-inside}
 use Rattle.evaluator.proofs.EndingLaws.{record-is, label-is, fork-no-record, fork-no-label}
 use borrow.Author.Needs.{needs}
 use Rattle.evaluator.proofs.ending.fork_under.Statement.{statement}

@@ -9,7 +9,7 @@ use Rattle.task.specs.Choices.{chosen}
 use Rattle.task.specs.Execute.{going}
 use Rattle.task.proofs.Belonging.{meet-unfit, waits-on, meets-there}
 use Rattle.task.proofs.Formation.{target-below}
-use Rattle.evaluator.specs.Registers.{valueOf}
+use Rattle.arms.specs.Registers.{valueOf}
 use Rattle.evaluator.specs.Banks.{forksOf}
 use Rattle.evaluator.proofs.EndingLaws.{record-is, target-is, meet-no-record, target-enters}
 use borrow.Author.Needs.{needs}

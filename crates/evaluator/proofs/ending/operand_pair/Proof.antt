@@ -1,6 +1,6 @@
 -- `operand_pair` meets its contract.
 use native.Mathlib.Omega.{arith}
-use Rattle.evaluator.specs.Registers.{registersOf}
+use Rattle.arms.specs.Registers.{registersOf}
 use Rattle.evaluator.proofs.EndingLaws.{pair-register, pair-label, pair-number}
 use Rattle.evaluator.proofs.ending.operand_pair.Statement.{statement}
 use Rattle.evaluator.proofs.ending.operand_pair.Tie as tie

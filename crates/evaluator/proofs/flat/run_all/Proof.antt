@@ -1,7 +1,7 @@
 -- `run_all` meets its contract.
 use mathlib.Core.Path.{sym, _∙_}
 use borrow.Author.Tests.{not-true, not-false}
-use Rattle.evaluator.specs.Code.{Decodes}
+use Rattle.arms.specs.Code.{Decodes}
 use Rattle.evaluator.specs.Hands.{rowsOf, LeadsTo, weight}
 use Rattle.evaluator.proofs.RoundLaws.{leads-on, leads-none}
 use borrow.Author.Needs.{needs}

@@ -1,0 +1,5 @@
+-- What the contracts of `arms` cite.
+pub mod Registers
+pub mod Code
+pub mod Arms
+pub mod Turns

@@ -1,0 +1,159 @@
+// The loop of a task by itself: one turn is one instruction that neither forks nor ends the task.
+use crate::Gone;
+use crate::Stopped;
+use crate::jumps::branch_plain;
+use crate::jumps::branch_register;
+use crate::jumps::branch_to;
+use crate::jumps::enter;
+use crate::jumps::jump_register;
+use crate::setting::set_register;
+ghost use Rattle.arms.specs.Registers.{Sized, registersOf};
+ghost use Rattle.arms.specs.Turns.{At, Turned, Starts, RunsUntil};
+
+// One instruction; `left` is what is left of the budget after it. The loop below ensures `At`.
+fn turn(
+    cells: &[u64],
+    code: &[u64],
+    words: &[i64],
+    nums: &mut [u64],
+    kinds: &mut [u8],
+    interval: u64,
+    places: u64,
+    depth: u64,
+    left: u64,
+    beat: u64,
+    pc: usize,
+) -> Gone
+    requires { ⌜ At (now cells) (now code) (now nums) (now kinds) depth left beat pc ⌝ }
+    ensures { λ z. ⌜ Sized (now (nums .exit)) (now (kinds .exit)) ⌝ }
+    ensures { λ z. ⌜ Turned (now (cells .entry)) (now (words .entry)) interval places depth pc beat left
+        (registersOf (now (nums .entry)) (now (kinds .entry))) z (registersOf (now (nums .exit)) (now (kinds .exit))) ⌝ }
+{
+    let arm = code[pc];
+    let s = code[pc + 2] as usize;
+    let v = code[pc + 3];
+    match arm {
+        42 => branch_register(
+            cells,
+            nums,
+            kinds,
+            interval,
+            places,
+            left,
+            beat,
+            s,
+            pc,
+            v as usize,
+        ),
+        45 => jump_register(
+            cells,
+            nums,
+            kinds,
+            interval,
+            places,
+            left,
+            beat,
+            pc,
+            v as usize,
+        ),
+        74 => branch_to(
+            cells,
+            nums,
+            kinds,
+            interval,
+            places,
+            left,
+            beat,
+            s,
+            pc,
+            1,
+            v,
+        ),
+        77 => enter(cells, interval, places, left, beat, v as usize),
+        106 => branch_to(
+            cells,
+            nums,
+            kinds,
+            interval,
+            places,
+            left,
+            beat,
+            s,
+            pc,
+            0,
+            v,
+        ),
+        109 => Gone { what: 34, pc, beat },
+        202 => branch_plain(nums, kinds, beat, s, pc, v as usize),
+        205 => Gone {
+            what: 0,
+            pc: v as usize,
+            beat,
+        },
+        _ => {
+            let what = set_register(cells, code, words, nums, kinds, depth, pc, arm, s, v);
+            Gone {
+                what,
+                pc: pc + 4,
+                beat,
+            }
+        }
+    }
+}
+
+// Instructions until one that the task does not carry out by itself, which is not carried out, or the budget is used up. `run_hand`
+// alone calls it, with a well-formed task.
+pub fn run_on(
+    cells: &[u64],
+    code: &[u64],
+    words: &[i64],
+    nums: &mut [u64],
+    kinds: &mut [u8],
+    interval: u64,
+    places: u64,
+    depth: u64,
+    budget: u64,
+    begun: u64,
+    start: usize,
+) -> Stopped
+    requires { ⌜ Starts (now cells) (now code) (now nums) (now kinds) places depth budget begun start ⌝ }
+    ensures { λ z. ⌜ Sized (now (nums .exit)) (now (kinds .exit)) ⌝ }
+    ensures { λ z. ⌜ RunsUntil (now (cells .entry)) (now (words .entry)) interval places depth start begun budget
+        (registersOf (now (nums .entry)) (now (kinds .entry))) z (registersOf (now (nums .exit)) (now (kinds .exit))) ⌝ }
+{
+    let mut left = budget;
+    let mut pc = start;
+    let mut beat = begun;
+    while 0 < left {
+        let g = turn(
+            cells,
+            code,
+            words,
+            nums,
+            kinds,
+            interval,
+            places,
+            depth,
+            left - 1,
+            beat,
+            pc,
+        );
+        if g.what != 0 {
+            return Stopped {
+                what: g.what,
+                pc,
+                beat,
+                left,
+            };
+        }
+        pc = g.pc;
+        beat = g.beat;
+        left = left - 1;
+    }
+    Stopped {
+        what: 0,
+        pc,
+        beat,
+        left,
+    }
+}
