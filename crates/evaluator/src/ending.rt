@@ -1,7 +1,7 @@
 // The instruction that the task in hand does not carry out by itself: a fault that its arm has found, or fork, join or halt.
 use crate::Hand;
-use arms::Pair;
 use crate::fitting::does_fit;
+use arms::Pair;
 use image::Instruction;
 use image::layout;
 use task::Active;
