@@ -154,7 +154,6 @@ module _ {cells : List ℕ} {pc arm r s v : ℕ} (d : Fetched cells pc arm r s v
     pub label : ℕ
     pub jump-named : Named x n 2 label
     pub unready-there : Unready cells label v
-    pub place-small : v < 4096
 
   pub plain-jump : (n : ℕ) → n ≤ 15 → arm ≡ 128 + (n + 64) → Jumps n
   plain-jump n l e =
@@ -165,7 +164,6 @@ module _ {cells : List ℕ} {pc arm r s v : ℕ} (d : Fetched cells pc arm r s v
         label = x .operand;
         jump-named = record { its-opcode = omega (arith, p .plain-arm, p .to-label, e); its-kind = p .to-label; its-operand = refl; known = omega arith };
         unready-there = u;
-        place-small = omega (arith, u .its-first, u .first-inside, d .few);
       }
 
 -- ---- arms

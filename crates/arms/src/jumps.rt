@@ -1,5 +1,5 @@
-// Arms for opcodes 10 and 13, if-jump and jump, and entering a block; each answers as `Gone` says. `turn` ensures what they require: an accepted program, the place of one of
-// its instructions, and registers of a well-formed task.
+// Arms for opcodes 10 and 13, if-jump and jump, and entering a block; each answers as `Gone` says. `turn` ensures what they require: an accepted
+// program, the place of one of its instructions, and registers of a well-formed task.
 use crate::Gone;
 use image::layout;
 ghost use mathlib.Core.Path.{_≡_};

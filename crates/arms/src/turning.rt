@@ -10,7 +10,8 @@ use crate::setting::set_register;
 ghost use Rattle.arms.specs.Registers.{Sized, registersOf};
 ghost use Rattle.arms.specs.Turns.{At, Turned, Starts, RunsUntil};
 
-// One instruction; `left` is what is left of the budget after it. The loop below ensures `At`.
+// One instruction; `left` is what is left of the budget after it. The arms here are those of if-jump and jump, 10 + 32 k and 13 + 32 k, of which a
+// number is no target, and 128 more where the block is not promotion-ready. The loop below ensures `At`.
 fn turn(
     cells: &[u64],
     code: &[u64],

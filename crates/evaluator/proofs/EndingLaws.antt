@@ -127,9 +127,6 @@ module _ (cells : List ℕ) (own : Side) (can : CanStep cells own) where
   pub counter-below : own .task .counter < workLimit
   counter-below = omega (arith, counts .counter-most, can .below-limit)
 
-  pub span-under : own .task .span < workLimit
-  span-under = omega (arith, counts .span-most, can .below-limit)
-
   pub depth-most : own .task .depth ≤ 6
   depth-most = omega (arith, its .has-depth, can .room)
 
@@ -154,9 +151,6 @@ module _ (cells : List ℕ) (own : Side) (can : CanStep cells own) where
     v-is e = e ∙ sym (operand-as g x (x .kind) (omega (arith, ap (λ (y : Instruction). y .kind) ex, here .kind-known)) refl)
 
     module _ {s v : Value} (es : s ≡ register g (x .s)) (ev : v ≡ operand g x) where
-      pub s-fits : valueFits (programOf cells) s ≡ true
-      s-fits = ap (valueFits (programOf cells)) es ∙ its .values-fit (x .s)
-
       pub v-fits : valueFits (programOf cells) v ≡ true
       v-fits = ap (valueFits (programOf cells)) ev ∙ operand-fits (programOf cells) g x (its .values-fit) label-below
 

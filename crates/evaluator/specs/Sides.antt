@@ -62,7 +62,7 @@ pub record CanStep (cells : List ℕ) (own : Side) : Type 0 where
   pub good : Good cells rank height before (frameOf own)
   pub runs : running (frameOf own) ≡ true
 
--- by the kind of what `execute` hands back: the value goes to r; the registers stay; a fault's are 16 integers 0; the child has the parent's
+-- by the kind of what an instruction hands back: the value goes to r; the registers stay; a fault's are 16 integers 0; the child has the parent's
 -- registers and span, and counter 0
 abbrev pub madeOf : Kind → Frame → ℕ → Executed → Stepped Frame
 madeOf Stores f r e =

@@ -114,7 +114,8 @@ fn halt_at(t: Active) -> Executed
     results::end(Kind::Halts, 0)
 }
 
-// `act` alone calls it, and ensures `CanStep`; `run_hand` ensures `Ends`.
+// `act` alone calls it, and ensures `CanStep`; `run_hand` ensures `Ends`. The call record and the interval are the contract's: none of these
+// instructions looks at them.
 pub fn ending(
     cells: &[u64],
     words: &[i64],

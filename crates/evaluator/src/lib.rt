@@ -29,7 +29,7 @@ pub struct Hand {
     pub spun: u64,
 }
 
-// The task in hand after its instructions by itself, and what is the matter with the next one, as in `Stopped`.
+// The task in hand after its instructions by itself, and what its next one is, as in `Stopped`.
 pub struct Ran {
     pub what: u8,
     pub hand: Hand,
