@@ -24,8 +24,8 @@ ghost use Prim.Native.Nat.{ℕ, _+_, _<_};
 ghost use lib.ListN.{length, getD};
 ghost use Rattle.evaluator.specs.Arms.{contextOf, CanSet, SetsBy};
 
-// The register that the instruction at pc sets. Each arm below reads it by itself: a read ahead of the match would keep it and `turn`'s from being
-// one jump. `set_register` alone calls it, with a place of the decoded code.
+// The register that the instruction at pc sets. Each arm below reads it by itself: a read ahead of a match would keep that one and `turn`'s from
+// being one jump. The two functions below alone call it, with a place of the decoded code.
 fn register_at(code: &[u64], pc: usize) -> usize
     requires { ⌜ pc + 1 < length (now code) ⌝ }
     ensures { λ r. ⌜ r ≡ getD (now (code .entry)) (pc + 1) 0 ⌝ }
@@ -33,8 +33,8 @@ fn register_at(code: &[u64], pc: usize) -> usize
     code[pc + 1] as usize
 }
 
-// The arm of opcode n and operand kind k is n + 32 k. Those whose operand is a label or a number: a label is no operand of an operation or of word, a
-// number none of jralloc. `set_register` alone calls it, as it is called.
+// The arm of opcode n and operand kind k is n + 32 k. These are those whose operand is a label or a number; a label is no operand of an operation or
+// of word, a number none of jralloc. `set_register` alone calls it, with what it is called with.
 fn set_immediate(
     cells: &[u64],
     code: &[u64],
@@ -69,7 +69,7 @@ fn set_immediate(
     }
 }
 
-// And those whose operand is a register. `turn` alone calls it, with the numbers of an accepted program's instruction.
+// Those whose operand is a register, and all others. `turn` alone calls it, with the numbers of an accepted program's instruction.
 pub fn set_register(
     cells: &[u64],
     code: &[u64],
