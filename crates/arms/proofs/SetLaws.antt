@@ -11,7 +11,7 @@ use mir.Syntax.{w64}
 use mir.Val.{SFits, toZ, ofZ, sel}
 use mir.ValLaws.{toZ-ofZ}
 use borrow.Author.Tests.{eqb-false, leb-true, not-true, lt-ltb, le-ltb, ne-eqb}
-use Rattle.facts.proofs.Tests.{clash, both-true, never}
+use Rattle.facts.proofs.Tests.{clash, both-true, never, by-below}
 use Rattle.image.specs.Program.{Program}
 use Rattle.task.specs.declared.Value.{Value}
 use Rattle.task.specs.declared.Value.the-variants.{Int, Label, Record}
@@ -144,11 +144,11 @@ module _ (program : Program) (words : List ℤ) (c : Choices) (s : Value) (t : A
 pub as-read : {read r : ℕ} → read ≡ r → r < 16 → read < 16
 as-read e l = omega (arith, e, l)
 
-module _ (x : Context) (arm what r s v : ℕ) (nums kinds nums′ kinds′ : List ℕ) where
+module _ (x : Context) (least arm what r s v : ℕ) (nums kinds nums′ kinds′ : List ℕ) where
   abbrev Does : ℕ → ℕ → ℕ → Type 0
   Does i n k = SetsAs x (getD opcodes n unknown) what i nums kinds nums′ kinds′ (inRegister s) (operandBy k v)
 
-  pub by-number : (N K : ℕ) → N < 13 → K ≤ 3 → arm ≡ N + 32 * K → {read : ℕ} → read ≡ r → Does read N K → SetsBy x arm what r s v nums kinds nums′ kinds′
+  pub by-number : (N K : ℕ) → N < 13 → K ≤ 3 → arm ≡ N + 32 * K → {read : ℕ} → read ≡ r → Does read N K → SetsBy x least arm what r s v nums kinds nums′ kinds′
   by-number N K few known e same h = record {
     still-sized = h .0;
     carried = λ q. (omega (arith, few, known, e), omega (arith, few, known, e));
@@ -165,7 +165,7 @@ module _ (x : Context) (arm what r s v : ℕ) (nums kinds nums′ kinds′ : Lis
 
 -- ---- and those that set none
 
-module _ (x : Context) (arm r s v : ℕ) (nums kinds : List ℕ) (sized : Sized nums kinds) where
+module _ (x : Context) (least arm r s v : ℕ) (nums kinds : List ℕ) (sized : Sized nums kinds) where
   abbrev Refused : ℕ → ℕ → Active → List Fork → ℕ → Type 0
   Refused n k t o what =
       effectOf (x .program) (x .words) (x .choices) (inRegister s (registersOf nums kinds)) (operandBy k v (registersOf nums kinds)) t o (getD opcodes n unknown)
@@ -173,7 +173,7 @@ module _ (x : Context) (arm r s v : ℕ) (nums kinds : List ℕ) (sized : Sized 
 
   -- a fault, whatever the registers hold
   pub refused : (what : ℕ) → 2 ≤ what → arm < 128 → arm % 32 < 13
-      → ((n k : ℕ) → n ≤ 15 → arm ≡ n + 32 * k → (t : Active) (o : List Fork) → Refused n k t o what) → SetsBy x arm what r s v nums kinds nums kinds
+      → ((n k : ℕ) → n ≤ 15 → arm ≡ n + 32 * k → (t : Active) (o : List Fork) → Refused n k t o what) → SetsBy x least arm what r s v nums kinds nums kinds
   refused what l small few e = record {
     still-sized = sized;
     carried = λ q. (small, few);
@@ -182,13 +182,13 @@ module _ (x : Context) (arm r s v : ℕ) (nums kinds : List ℕ) (sized : Sized 
     others = λ q. absurd (omega (arith, l, q));
   }
 
-  pub refused-number : arm ≡ 107 → SetsBy x arm 35 r s v nums kinds nums kinds
+  pub refused-number : arm ≡ 107 → SetsBy x least arm 35 r s v nums kinds nums kinds
   refused-number e = refused 35 (omega arith) (omega (arith, e)) (omega (arith, e)) λ n k low f t o.
       let p : 11 ≡ n = omega (arith, low, e, f) in
       let z : 3 ≡ k = omega (arith, low, e, f) in
       subst (λ i. Refused i k t o 35) p (subst (λ j. Refused 11 j t o 35) z refl)
 
-  pub refused-label : 66 ≤ arm → arm ≤ 73 → SetsBy x arm 31 r s v nums kinds nums kinds
+  pub refused-label : 66 ≤ arm → arm ≤ 73 → SetsBy x least arm 31 r s v nums kinds nums kinds
   refused-label p q = refused 31 (omega arith) (omega (arith, q)) (omega (arith, p, q)) λ n k low f t o.
       let z : 2 ≡ k = omega (arith, low, f, p, q) in
       subst (λ j. Refused n j t o 31) z
@@ -207,51 +207,70 @@ none-of : (a : ℕ) (ks : List ℕ) → NoneOf a ks → oneOf a ks ≡ false
 none-of a [] h = refl
 none-of a (k ∷ ks) h = rw (ne-eqb a k (h .1)) (none-of a ks (h .0))
 
--- the arms of `set_register`, the last first
-abbrev pub setting : List ℕ
-setting =
-    107 ∷ 105 ∷ 104 ∷ 103 ∷ 102 ∷ 101 ∷ 100 ∷ 99 ∷ 98 ∷ 97 ∷ 75 ∷ 65 ∷ 43 ∷ 41 ∷ 40 ∷ 39 ∷ 38 ∷ 37 ∷ 36 ∷ 35 ∷ 34 ∷ 33 ∷ []
+-- the arms of `set_register` and of `set_immediate`, the last first
+abbrev pub ofRegister : List ℕ
+ofRegister = 43 ∷ 41 ∷ 40 ∷ 39 ∷ 38 ∷ 37 ∷ 36 ∷ 35 ∷ 34 ∷ 33 ∷ []
 
--- an opcode that sets none, or no arm of an instruction with an operand
-abbrev otherwise : ℕ → Bool
-otherwise a = ltb a 32 || (ltb (a % 32) 1 || (ltb 15 (a % 32) || (leb 10 (a % 32) && not (eqb (a % 32) 11))))
+abbrev pub immediate : List ℕ
+immediate = 107 ∷ 105 ∷ 104 ∷ 103 ∷ 102 ∷ 101 ∷ 100 ∷ 99 ∷ 98 ∷ 97 ∷ 75 ∷ 65 ∷ []
 
-abbrev sorted : ℕ → Bool
-sorted a = oneOf a setting || ((leb 66 a && leb a 73) || otherwise a)
+-- that of kind k and opcode n is among these or those of the labels that are refused, or n is an opcode that sets no register, or 0
+abbrev sorted : List ℕ → ℕ → ℕ → Bool
+sorted arms k n =
+    oneOf (n + 32 * k) arms || ((leb 66 (n + 32 * k) && leb (n + 32 * k) 73) || (ltb n 1 || (leb 10 n && not (eqb n 11))))
 
-all-sorted : every sorted 128 0 ≡ true
+registers-sorted : every (sorted ofRegister 1) 16 0 ≡ true
 unfolding every
-all-sorted = refl
+registers-sorted = refl
 
-module _ (arm : ℕ) (rest : NoneOf arm setting) (outside : 66 ≤ arm → arm ≤ 73 → ⊥) where
-  otherwise-is : arm < 128 → otherwise arm ≡ true
-  otherwise-is l =
-      let t = every-at sorted 128 0 all-sorted arm (omega arith) (omega (arith, l)) in
-      second (leb 66 arm && leb arm 73) (otherwise arm) between (second (oneOf arm setting) _ (none-of arm setting rest) t)
-    where
-      second : (a b : Bool) → a ≡ false → a || b ≡ true → b ≡ true
-      second true b e h = clash refl e
-      second false b e h = h
+labels-sorted : every (sorted immediate 2) 16 0 ≡ true
+unfolding every
+labels-sorted = refl
 
-      between : leb 66 arm && leb arm 73 ≡ false
-      between = never _ (λ e.
-          let b = both-true (leb 66 arm) (leb arm 73) e in
-          outside (leb-true 66 arm (b .0)) (leb-true arm 73 (b .1)))
+numbers-sorted : every (sorted immediate 3) 16 0 ≡ true
+unfolding every
+numbers-sorted = refl
 
-  -- an arm that is not among them is of opcode 10 or 12 to 15
-  other-opcode : (n k : ℕ) → 1 ≤ n → n ≤ 15 → 1 ≤ k → k ≤ 3 → arm ≡ n + 32 * k → (10 ≤ n) × (n ≡ 11 → ⊥)
-  other-opcode n k least most low high e =
-      let z : arm % 32 ≡ n = omega (arith, e, most) in
-      let t : otherwise arm ≡ true = otherwise-is (omega (arith, e, most, high)) in
-      let b = both-true (leb 10 (arm % 32)) (not (eqb (arm % 32) 11))
-      (rw (le-ltb arm 32 (omega (arith, e, low)), le-ltb (arm % 32) 1 (omega (arith, z, least)), le-ltb 15 (arm % 32) (omega (arith, z, most))) at t) in
-      (omega (arith, leb-true 10 (arm % 32) (b .0), z), λ q. eqb-false (arm % 32) 11 (not-true (eqb (arm % 32) 11) (b .1)) (z ∙ q))
+second : (a b : Bool) → a ≡ false → a || b ≡ true → b ≡ true
+second true b e h = clash refl e
+second false b e h = h
 
-  pub left-over : (x : Context) (r s v : ℕ) (nums kinds : List ℕ) → Sized nums kinds → SetsBy x arm 1 r s v nums kinds nums kinds
-  left-over x r s v nums kinds sized = record {
+-- an arm that is not among them is of opcode 10 or 12 to 15
+other-opcode : (arms : List ℕ) (k : ℕ) → every (sorted arms k) 16 0 ≡ true → (arm : ℕ) → NoneOf arm arms → (66 ≤ arm → arm ≤ 73 → ⊥)
+    → (n : ℕ) → 1 ≤ n → n ≤ 15 → arm ≡ n + 32 * k → (10 ≤ n) × (n ≡ 11 → ⊥)
+other-opcode arms k all arm rest outside n least most e =
+    let t = every-at (sorted arms k) 16 0 all n (omega arith) (omega (arith, most)) in
+    let u = second (oneOf (n + 32 * k) arms) _ (subst (λ a. oneOf a arms ≡ false) e (none-of arm arms rest)) t in
+    let w = second (leb 66 (n + 32 * k) && leb (n + 32 * k) 73) _ (subst (λ a. leb 66 a && leb a 73 ≡ false) e between) u in
+    let b = both-true (leb 10 n) (not (eqb n 11)) (second (ltb n 1) _ (le-ltb n 1 least) w) in
+    (leb-true 10 n (b .0), eqb-false n 11 (not-true (eqb n 11) (b .1)))
+  where
+    between : leb 66 arm && leb arm 73 ≡ false
+    between = never _ (λ h.
+        let b = both-true (leb 66 arm) (leb arm 73) h in
+        outside (leb-true 66 arm (b .0)) (leb-true arm 73 (b .1)))
+
+module _ (x : Context) (arm r s v : ℕ) (nums kinds : List ℕ) where
+  pub left-over : NoneOf arm immediate → (66 ≤ arm → arm ≤ 73 → ⊥) → Sized nums kinds → SetsBy x 2 arm 1 r s v nums kinds nums kinds
+  left-over rest outside sized = record {
     still-sized = sized;
     carried = λ q. absurd (q refl);
     as-table = λ q. absurd (q refl);
     untouched = λ q. refl;
-    others = λ q. other-opcode;
+    others = λ q n k least most low high e. by-below k 3
+        (λ l. other-opcode immediate 2 labels-sorted arm rest outside n least most (omega (arith, e, low, l)))
+        (λ l. other-opcode immediate 3 numbers-sorted arm rest outside n least most (omega (arith, e, high, l)));
+  }
+
+  -- nor is it one whose operand is a register
+  pub no-register : NoneOf arm ofRegister → {what : ℕ} {nums′ kinds′ : List ℕ} → SetsBy x 2 arm what r s v nums kinds nums′ kinds′
+      → SetsBy x 1 arm what r s v nums kinds nums′ kinds′
+  no-register rest h = record {
+    still-sized = h .still-sized;
+    carried = h .carried;
+    as-table = h .as-table;
+    untouched = h .untouched;
+    others = λ q n k least most low high e. by-below k 2
+        (λ l. other-opcode ofRegister 1 registers-sorted arm rest (λ p z. omega (arith, p, most, e, l)) n least most (omega (arith, e, low, l)))
+        (λ l. h .others q n k least most l high e);
   }

@@ -265,7 +265,7 @@ module _ (cells : List ℕ) (words : List ℤ) (interval places depth pc beat le
 -- all the arms that set a register, and what has no arm
 pub turned-set : (cells : List ℕ) (words : List ℤ) (interval places depth : ℕ) {pc : ℕ} (beat left : ℕ) (nums kinds nums′ kinds′ : List ℕ)
     {arm r s v : ℕ} → programNo cells ≡ 0 → pc ≡ 4 * (pc / 4) → pc / 4 < instructionCount cells → left < beat → Fetched cells pc arm r s v → NoneOf arm jumping
-    → (what : ℕ) → SetsBy (contextOf cells words interval depth) arm what r s v nums kinds nums′ kinds′
+    → (what : ℕ) → SetsBy (contextOf cells words interval depth) 1 arm what r s v nums kinds nums′ kinds′
     → Turned cells words interval places depth pc beat left (registersOf nums kinds) (record { what = what; pc = pc + 4; beat = beat }) (registersOf nums′ kinds′)
 turned-set cells words interval places depth {pc} beat left nums kinds nums′ kinds′ {s = s} {v = v} accept place inside counts d rest what h = by-test (eqb what 1)
     (λ t.

@@ -83,15 +83,16 @@ pub record CanSet (cells code nums kinds : List ℕ) (depth pc arm s v : ℕ) : 
   pub values-fit : (i : ℕ) → valueFits (programOf cells) (inRegister i (registersOf nums kinds)) ≡ true
   pub depth-most : depth ≤ 6
 
--- the arm of opcode n and operand kind k is n + 32 k: as the table says of that opcode; or it sets no register (1), and is left as it was
-pub record SetsBy (x : Context) (arm what r s v : ℕ) (nums kinds nums′ kinds′ : List ℕ) : Type 0 where
+-- the arm of opcode n and operand kind k is n + 32 k: as the table says of that opcode; or it sets no register (1), and is left as it was.
+-- Of the kinds from `least` on, all that set one do
+pub record SetsBy (x : Context) (least arm what r s v : ℕ) (nums kinds nums′ kinds′ : List ℕ) : Type 0 where
   pub still-sized : Sized nums′ kinds′
   pub carried : (what ≡ 1 → ⊥) → (arm < 128) × (arm % 32 < 13)
   pub as-table : (what ≡ 1 → ⊥) → (n k : ℕ) → n ≤ 15 → arm ≡ n + 32 * k
       → SetsAs x (getD opcodes n unknown) what r nums kinds nums′ kinds′ (inRegister s) (operandBy k v)
   pub untouched : what ≡ 1 → registersOf nums′ kinds′ ≡ registersOf nums kinds
   -- the opcodes 10 and 12 to 15
-  pub others : what ≡ 1 → (n k : ℕ) → 1 ≤ n → n ≤ 15 → 1 ≤ k → k ≤ 3 → arm ≡ n + 32 * k → (10 ≤ n) × (n ≡ 11 → ⊥)
+  pub others : what ≡ 1 → (n k : ℕ) → 1 ≤ n → n ≤ 15 → least ≤ k → k ≤ 3 → arm ≡ n + 32 * k → (10 ≤ n) × (n ≡ 11 → ⊥)
 
 -- ---- It goes elsewhere
 

@@ -1,5 +1,5 @@
 // Arms for opcodes 2 to 8: r := s op v, of two registers or of a register and a number. Each answers 0 where it did, else the fault's number.
-// `set_register` alone calls them, with registers of an accepted program.
+// `set_register` and `set_immediate` alone call them, with registers of an accepted program.
 use crate::rows::put;
 ghost use mathlib.Core.Path.{_≡_};
 ghost use mathlib.Core.List.{List};

@@ -1,5 +1,5 @@
 // Arms for opcodes 1, 9 and 11: r := v, r := word v of the call record, and r := jralloc v. Each answers 0 where it did, else the fault's number.
-// `set_register` alone calls them, with registers and labels of an accepted program.
+// `set_register` and `set_immediate` alone call them, with registers and labels of an accepted program.
 use crate::rows::put;
 use image::layout;
 ghost use mathlib.Core.Path.{_≡_};

@@ -4,7 +4,7 @@ use Rattle.image.specs.Layout.{programOf}
 use Rattle.task.specs.Choices.{chosen}
 use Rattle.arms.specs.Registers.{inRegister}
 use Rattle.arms.specs.Arms.{contextOf}
-use Rattle.arms.proofs.SetLaws.{as-read, by-number, refused-number, refused-label, left-over}
+use Rattle.arms.proofs.SetLaws.{as-read, by-number, no-register}
 use borrow.Author.Needs.{needs}
 use Rattle.arms.proofs.setting.set_register.Statement.{statement}
 use Rattle.arms.proofs.setting.set_register.Tie as tie
@@ -109,75 +109,8 @@ allocate-register-requires c κs =
     let e = c .before .before .before .match .keys10 in
     (a .pre .accepted-program, a .pre .depth-most, a .pre .sized, small, a .pre .register-operand (omega (arith, e)) (omega (arith, e)), a .pre .values-fit (a .args .v))
 
-register-at-requires-11 : tie.Need-register-at-requires-11
-register-at-requires-11 c κs = let a = c .before .before .before .before .before .before .before in a .pre .stored
-
-move-value-requires : tie.Need-move-value-requires
-move-value-requires c κs = let a = c .before .before .before .before .before .before .before .before in (a .pre .sized, as-read (c .register-at11 .ensures) (a .pre .r-small))
-
-register-at-requires-12 : tie.Need-register-at-requires-12
-register-at-requires-12 c κs = let a = c .before .before .before .before .before .before .before in a .pre .stored
-
-allocate-label-requires : tie.Need-allocate-label-requires
-allocate-label-requires c κs =
-    let a = c .before .before .before .before .before .before .before .before in
-    let small = as-read (c .register-at12 .ensures) (a .pre .r-small) in
-    let e = c .before .before .before .match .keys12 in
-    (a .pre .accepted-program, a .pre .label-operand (omega (arith, e)) (omega (arith, e)), a .pre .depth-most, a .pre .sized, small)
-
-register-at-requires-13 : tie.Need-register-at-requires-13
-register-at-requires-13 c κs = let a = c .before .before .before .before .before .before .before in a .pre .stored
-
-move-value-requires-2 : tie.Need-move-value-requires-2
-move-value-requires-2 c κs = let a = c .before .before .before .before .before .before .before .before in (a .pre .sized, as-read (c .register-at13 .ensures) (a .pre .r-small))
-
-register-at-requires-14 : tie.Need-register-at-requires-14
-register-at-requires-14 c κs = let a = c .before .before .before .before .before .before .before in a .pre .stored
-
-add-number-requires : tie.Need-add-number-requires
-add-number-requires c κs = let a = c .before .before .before .before .before .before .before .before in (a .pre .sized, as-read (c .register-at14 .ensures) (a .pre .r-small), a .pre .s-small)
-
-register-at-requires-15 : tie.Need-register-at-requires-15
-register-at-requires-15 c κs = let a = c .before .before .before .before .before .before .before in a .pre .stored
-
-subtract-number-requires : tie.Need-subtract-number-requires
-subtract-number-requires c κs = let a = c .before .before .before .before .before .before .before .before in (a .pre .sized, as-read (c .register-at15 .ensures) (a .pre .r-small), a .pre .s-small)
-
-register-at-requires-16 : tie.Need-register-at-requires-16
-register-at-requires-16 c κs = let a = c .before .before .before .before .before .before .before in a .pre .stored
-
-multiply-number-requires : tie.Need-multiply-number-requires
-multiply-number-requires c κs = let a = c .before .before .before .before .before .before .before .before in (a .pre .sized, as-read (c .register-at16 .ensures) (a .pre .r-small), a .pre .s-small)
-
-register-at-requires-17 : tie.Need-register-at-requires-17
-register-at-requires-17 c κs = let a = c .before .before .before .before .before .before .before in a .pre .stored
-
-divide-number-requires : tie.Need-divide-number-requires
-divide-number-requires c κs = let a = c .before .before .before .before .before .before .before .before in (a .pre .sized, as-read (c .register-at17 .ensures) (a .pre .r-small), a .pre .s-small)
-
-register-at-requires-18 : tie.Need-register-at-requires-18
-register-at-requires-18 c κs = let a = c .before .before .before .before .before .before .before in a .pre .stored
-
-modulo-number-requires : tie.Need-modulo-number-requires
-modulo-number-requires c κs = let a = c .before .before .before .before .before .before .before .before in (a .pre .sized, as-read (c .register-at18 .ensures) (a .pre .r-small), a .pre .s-small)
-
-register-at-requires-19 : tie.Need-register-at-requires-19
-register-at-requires-19 c κs = let a = c .before .before .before .before .before .before .before in a .pre .stored
-
-less-number-requires : tie.Need-less-number-requires
-less-number-requires c κs = let a = c .before .before .before .before .before .before .before .before in (a .pre .sized, as-read (c .register-at19 .ensures) (a .pre .r-small), a .pre .s-small)
-
-register-at-requires-20 : tie.Need-register-at-requires-20
-register-at-requires-20 c κs = let a = c .before .before .before .before .before .before .before in a .pre .stored
-
-equal-number-requires : tie.Need-equal-number-requires
-equal-number-requires c κs = let a = c .before .before .before .before .before .before .before .before in (a .pre .sized, as-read (c .register-at20 .ensures) (a .pre .r-small), a .pre .s-small)
-
-register-at-requires-21 : tie.Need-register-at-requires-21
-register-at-requires-21 c κs = let a = c .before .before .before .before .before .before .before in a .pre .stored
-
-fetch-number-requires : tie.Need-fetch-number-requires
-fetch-number-requires c κs = let a = c .before .before .before .before .before .before .before .before in (a .pre .sized, as-read (c .register-at21 .ensures) (a .pre .r-small))
+set-immediate-requires : tie.Need-set-immediate-requires
+set-immediate-requires c κs = let a = c .before .before .before .before .before .before .before in a .pre
 
 same-length : tie.Need-same-length
 same-length c = search needs
@@ -191,7 +124,7 @@ returns c =
     let e = c .before .before .before .before .before .before .before .before .match .keys1 in
     let cells = a .args .cells .now in
     let words = a .args .words .now in
-    λ interval. by-number _ _ _ _ _ (a .args .v) (a .args .nums .now) (a .args .kinds .now) _ _ 1 1 (omega arith) (omega arith) e (c .before .before .before .before .before .register-at .ensures)
+    λ interval. by-number _ _ _ _ _ _ (a .args .v) (a .args .nums .now) (a .args .kinds .now) _ _ 1 1 (omega arith) (omega arith) e (c .before .before .before .before .before .register-at .ensures)
     (c .before .before .before .before .move-register .ensures (contextOf cells words interval (a .args .depth)) (inRegister (a .args .s)))
 
 same-length-3 : tie.Need-same-length-3
@@ -206,7 +139,7 @@ returns-2 c =
     let e = c .before .before .before .before .before .before .before .before .match .keys2 in
     let cells = a .args .cells .now in
     let words = a .args .words .now in
-    λ interval. by-number _ _ _ _ _ (a .args .v) (a .args .nums .now) (a .args .kinds .now) _ _ 2 1 (omega arith) (omega arith) e (c .before .before .before .before .before .register-at2 .ensures)
+    λ interval. by-number _ _ _ _ _ _ (a .args .v) (a .args .nums .now) (a .args .kinds .now) _ _ 2 1 (omega arith) (omega arith) e (c .before .before .before .before .before .register-at2 .ensures)
     (c .before .before .before .before .add-registers .ensures (contextOf cells words interval (a .args .depth)))
 
 same-length-5 : tie.Need-same-length-5
@@ -221,7 +154,7 @@ returns-3 c =
     let e = c .before .before .before .before .before .before .before .before .match .keys3 in
     let cells = a .args .cells .now in
     let words = a .args .words .now in
-    λ interval. by-number _ _ _ _ _ (a .args .v) (a .args .nums .now) (a .args .kinds .now) _ _ 3 1 (omega arith) (omega arith) e (c .before .before .before .before .before .register-at3 .ensures)
+    λ interval. by-number _ _ _ _ _ _ (a .args .v) (a .args .nums .now) (a .args .kinds .now) _ _ 3 1 (omega arith) (omega arith) e (c .before .before .before .before .before .register-at3 .ensures)
     (c .before .before .before .before .subtract-registers .ensures (contextOf cells words interval (a .args .depth)))
 
 same-length-7 : tie.Need-same-length-7
@@ -236,7 +169,7 @@ returns-4 c =
     let e = c .before .before .before .before .before .before .before .before .match .keys4 in
     let cells = a .args .cells .now in
     let words = a .args .words .now in
-    λ interval. by-number _ _ _ _ _ (a .args .v) (a .args .nums .now) (a .args .kinds .now) _ _ 4 1 (omega arith) (omega arith) e (c .before .before .before .before .before .register-at4 .ensures)
+    λ interval. by-number _ _ _ _ _ _ (a .args .v) (a .args .nums .now) (a .args .kinds .now) _ _ 4 1 (omega arith) (omega arith) e (c .before .before .before .before .before .register-at4 .ensures)
     (c .before .before .before .before .multiply-registers .ensures (contextOf cells words interval (a .args .depth)))
 
 same-length-9 : tie.Need-same-length-9
@@ -251,7 +184,7 @@ returns-5 c =
     let e = c .before .before .before .before .before .before .before .before .match .keys5 in
     let cells = a .args .cells .now in
     let words = a .args .words .now in
-    λ interval. by-number _ _ _ _ _ (a .args .v) (a .args .nums .now) (a .args .kinds .now) _ _ 5 1 (omega arith) (omega arith) e (c .before .before .before .before .before .register-at5 .ensures)
+    λ interval. by-number _ _ _ _ _ _ (a .args .v) (a .args .nums .now) (a .args .kinds .now) _ _ 5 1 (omega arith) (omega arith) e (c .before .before .before .before .before .register-at5 .ensures)
     (c .before .before .before .before .divide-registers .ensures (programOf cells) words interval (a .args .depth))
 
 same-length-11 : tie.Need-same-length-11
@@ -266,7 +199,7 @@ returns-6 c =
     let e = c .before .before .before .before .before .before .before .before .match .keys6 in
     let cells = a .args .cells .now in
     let words = a .args .words .now in
-    λ interval. by-number _ _ _ _ _ (a .args .v) (a .args .nums .now) (a .args .kinds .now) _ _ 6 1 (omega arith) (omega arith) e (c .before .before .before .before .before .register-at6 .ensures)
+    λ interval. by-number _ _ _ _ _ _ (a .args .v) (a .args .nums .now) (a .args .kinds .now) _ _ 6 1 (omega arith) (omega arith) e (c .before .before .before .before .before .register-at6 .ensures)
     (c .before .before .before .before .modulo-registers .ensures (programOf cells) words interval (a .args .depth))
 
 same-length-13 : tie.Need-same-length-13
@@ -281,7 +214,7 @@ returns-7 c =
     let e = c .before .before .before .before .before .before .before .before .match .keys7 in
     let cells = a .args .cells .now in
     let words = a .args .words .now in
-    λ interval. by-number _ _ _ _ _ (a .args .v) (a .args .nums .now) (a .args .kinds .now) _ _ 7 1 (omega arith) (omega arith) e (c .before .before .before .before .before .register-at7 .ensures)
+    λ interval. by-number _ _ _ _ _ _ (a .args .v) (a .args .nums .now) (a .args .kinds .now) _ _ 7 1 (omega arith) (omega arith) e (c .before .before .before .before .before .register-at7 .ensures)
     (c .before .before .before .before .less-registers .ensures (contextOf cells words interval (a .args .depth)))
 
 same-length-15 : tie.Need-same-length-15
@@ -296,7 +229,7 @@ returns-8 c =
     let e = c .before .before .before .before .before .before .before .before .match .keys8 in
     let cells = a .args .cells .now in
     let words = a .args .words .now in
-    λ interval. by-number _ _ _ _ _ (a .args .v) (a .args .nums .now) (a .args .kinds .now) _ _ 8 1 (omega arith) (omega arith) e (c .before .before .before .before .before .register-at8 .ensures)
+    λ interval. by-number _ _ _ _ _ _ (a .args .v) (a .args .nums .now) (a .args .kinds .now) _ _ 8 1 (omega arith) (omega arith) e (c .before .before .before .before .before .register-at8 .ensures)
     (c .before .before .before .before .equal-registers .ensures (contextOf cells words interval (a .args .depth)))
 
 same-length-17 : tie.Need-same-length-17
@@ -311,7 +244,7 @@ returns-9 c =
     let e = c .before .before .before .before .before .before .before .before .match .keys9 in
     let cells = a .args .cells .now in
     let words = a .args .words .now in
-    λ interval. by-number _ _ _ _ _ (a .args .v) (a .args .nums .now) (a .args .kinds .now) _ _ 9 1 (omega arith) (omega arith) e (c .before .before .before .before .before .register-at9 .ensures)
+    λ interval. by-number _ _ _ _ _ _ (a .args .v) (a .args .nums .now) (a .args .kinds .now) _ _ 9 1 (omega arith) (omega arith) e (c .before .before .before .before .before .register-at9 .ensures)
     (c .before .before .before .before .fetch-register .ensures (programOf cells) (chosen interval) (a .args .depth) (inRegister (a .args .s)))
 
 same-length-19 : tie.Need-same-length-19
@@ -326,7 +259,7 @@ returns-10 c =
     let e = c .before .before .before .before .before .before .before .before .match .keys10 in
     let cells = a .args .cells .now in
     let words = a .args .words .now in
-    λ interval. by-number _ _ _ _ _ (a .args .v) (a .args .nums .now) (a .args .kinds .now) _ _ 11 1 (omega arith) (omega arith) e (c .before .before .before .before .before .register-at10 .ensures)
+    λ interval. by-number _ _ _ _ _ _ (a .args .v) (a .args .nums .now) (a .args .kinds .now) _ _ 11 1 (omega arith) (omega arith) e (c .before .before .before .before .before .register-at10 .ensures)
     (c .before .before .before .before .allocate-register .ensures words (chosen interval) (inRegister (a .args .s)))
 
 same-length-21 : tie.Need-same-length-21
@@ -336,185 +269,7 @@ same-length-22 : tie.Need-same-length-22
 same-length-22 c = search needs
 
 returns-11 : tie.Need-returns-11
-returns-11 c =
-    let a = c .before .before .before .before .before .before .before .before .before .before .before .before .before in
-    let e = c .before .before .before .before .before .before .before .before .match .keys11 in
-    let cells = a .args .cells .now in
-    let words = a .args .words .now in
-    λ interval. by-number _ _ _ _ _ (a .args .v) (a .args .nums .now) (a .args .kinds .now) _ _ 1 2 (omega arith) (omega arith) e (c .before .before .before .before .before .register-at11 .ensures)
-    (c .before .before .before .before .move-value .ensures (contextOf cells words interval (a .args .depth)) (inRegister (a .args .s)))
-
-same-length-23 : tie.Need-same-length-23
-same-length-23 c = search needs
-
-same-length-24 : tie.Need-same-length-24
-same-length-24 c = search needs
-
-returns-12 : tie.Need-returns-12
-returns-12 c =
-    let a = c .before .before .before .before .before .before .before .before .before .before .before .before .before in
-    let e = c .before .before .before .before .before .before .before .before .match .keys12 in
-    let cells = a .args .cells .now in
-    let words = a .args .words .now in
-    λ interval. by-number _ _ _ _ _ (a .args .v) (a .args .nums .now) (a .args .kinds .now) _ _ 11 2 (omega arith) (omega arith) e (c .before .before .before .before .before .register-at12 .ensures)
-    (c .before .before .before .before .allocate-label .ensures words (chosen interval) (inRegister (a .args .s)))
-
-same-length-25 : tie.Need-same-length-25
-same-length-25 c = search needs
-
-same-length-26 : tie.Need-same-length-26
-same-length-26 c = search needs
-
-returns-13 : tie.Need-returns-13
-returns-13 c =
-    let a = c .before .before .before .before .before .before .before .before .before .before .before .before .before in
-    let e = c .before .before .before .before .before .before .before .before .match .keys13 in
-    let cells = a .args .cells .now in
-    let words = a .args .words .now in
-    λ interval. by-number _ _ _ _ _ (a .args .v) (a .args .nums .now) (a .args .kinds .now) _ _ 1 3 (omega arith) (omega arith) e (c .before .before .before .before .before .register-at13 .ensures)
-    (c .before .before .before .before .move-value2 .ensures (contextOf cells words interval (a .args .depth)) (inRegister (a .args .s)))
-
-same-length-27 : tie.Need-same-length-27
-same-length-27 c = search needs
-
-same-length-28 : tie.Need-same-length-28
-same-length-28 c = search needs
-
-returns-14 : tie.Need-returns-14
-returns-14 c =
-    let a = c .before .before .before .before .before .before .before .before .before .before .before .before .before in
-    let e = c .before .before .before .before .before .before .before .before .match .keys14 in
-    let cells = a .args .cells .now in
-    let words = a .args .words .now in
-    λ interval. by-number _ _ _ _ _ (a .args .v) (a .args .nums .now) (a .args .kinds .now) _ _ 2 3 (omega arith) (omega arith) e (c .before .before .before .before .before .register-at14 .ensures)
-    (c .before .before .before .before .add-number .ensures (contextOf cells words interval (a .args .depth)))
-
-same-length-29 : tie.Need-same-length-29
-same-length-29 c = search needs
-
-same-length-30 : tie.Need-same-length-30
-same-length-30 c = search needs
-
-returns-15 : tie.Need-returns-15
-returns-15 c =
-    let a = c .before .before .before .before .before .before .before .before .before .before .before .before .before in
-    let e = c .before .before .before .before .before .before .before .before .match .keys15 in
-    let cells = a .args .cells .now in
-    let words = a .args .words .now in
-    λ interval. by-number _ _ _ _ _ (a .args .v) (a .args .nums .now) (a .args .kinds .now) _ _ 3 3 (omega arith) (omega arith) e (c .before .before .before .before .before .register-at15 .ensures)
-    (c .before .before .before .before .subtract-number .ensures (contextOf cells words interval (a .args .depth)))
-
-same-length-31 : tie.Need-same-length-31
-same-length-31 c = search needs
-
-same-length-32 : tie.Need-same-length-32
-same-length-32 c = search needs
-
-returns-16 : tie.Need-returns-16
-returns-16 c =
-    let a = c .before .before .before .before .before .before .before .before .before .before .before .before .before in
-    let e = c .before .before .before .before .before .before .before .before .match .keys16 in
-    let cells = a .args .cells .now in
-    let words = a .args .words .now in
-    λ interval. by-number _ _ _ _ _ (a .args .v) (a .args .nums .now) (a .args .kinds .now) _ _ 4 3 (omega arith) (omega arith) e (c .before .before .before .before .before .register-at16 .ensures)
-    (c .before .before .before .before .multiply-number .ensures (contextOf cells words interval (a .args .depth)))
-
-same-length-33 : tie.Need-same-length-33
-same-length-33 c = search needs
-
-same-length-34 : tie.Need-same-length-34
-same-length-34 c = search needs
-
-returns-17 : tie.Need-returns-17
-returns-17 c =
-    let a = c .before .before .before .before .before .before .before .before .before .before .before .before .before in
-    let e = c .before .before .before .before .before .before .before .before .match .keys17 in
-    let cells = a .args .cells .now in
-    let words = a .args .words .now in
-    λ interval. by-number _ _ _ _ _ (a .args .v) (a .args .nums .now) (a .args .kinds .now) _ _ 5 3 (omega arith) (omega arith) e (c .before .before .before .before .before .register-at17 .ensures)
-    (c .before .before .before .before .divide-number .ensures (programOf cells) words interval (a .args .depth))
-
-same-length-35 : tie.Need-same-length-35
-same-length-35 c = search needs
-
-same-length-36 : tie.Need-same-length-36
-same-length-36 c = search needs
-
-returns-18 : tie.Need-returns-18
-returns-18 c =
-    let a = c .before .before .before .before .before .before .before .before .before .before .before .before .before in
-    let e = c .before .before .before .before .before .before .before .before .match .keys18 in
-    let cells = a .args .cells .now in
-    let words = a .args .words .now in
-    λ interval. by-number _ _ _ _ _ (a .args .v) (a .args .nums .now) (a .args .kinds .now) _ _ 6 3 (omega arith) (omega arith) e (c .before .before .before .before .before .register-at18 .ensures)
-    (c .before .before .before .before .modulo-number .ensures (programOf cells) words interval (a .args .depth))
-
-same-length-37 : tie.Need-same-length-37
-same-length-37 c = search needs
-
-same-length-38 : tie.Need-same-length-38
-same-length-38 c = search needs
-
-returns-19 : tie.Need-returns-19
-returns-19 c =
-    let a = c .before .before .before .before .before .before .before .before .before .before .before .before .before in
-    let e = c .before .before .before .before .before .before .before .before .match .keys19 in
-    let cells = a .args .cells .now in
-    let words = a .args .words .now in
-    λ interval. by-number _ _ _ _ _ (a .args .v) (a .args .nums .now) (a .args .kinds .now) _ _ 7 3 (omega arith) (omega arith) e (c .before .before .before .before .before .register-at19 .ensures)
-    (c .before .before .before .before .less-number .ensures (contextOf cells words interval (a .args .depth)))
-
-same-length-39 : tie.Need-same-length-39
-same-length-39 c = search needs
-
-same-length-40 : tie.Need-same-length-40
-same-length-40 c = search needs
-
-returns-20 : tie.Need-returns-20
-returns-20 c =
-    let a = c .before .before .before .before .before .before .before .before .before .before .before .before .before in
-    let e = c .before .before .before .before .before .before .before .before .match .keys20 in
-    let cells = a .args .cells .now in
-    let words = a .args .words .now in
-    λ interval. by-number _ _ _ _ _ (a .args .v) (a .args .nums .now) (a .args .kinds .now) _ _ 8 3 (omega arith) (omega arith) e (c .before .before .before .before .before .register-at20 .ensures)
-    (c .before .before .before .before .equal-number .ensures (contextOf cells words interval (a .args .depth)))
-
-same-length-41 : tie.Need-same-length-41
-same-length-41 c = search needs
-
-same-length-42 : tie.Need-same-length-42
-same-length-42 c = search needs
-
-returns-21 : tie.Need-returns-21
-returns-21 c =
-    let a = c .before .before .before .before .before .before .before .before .before .before .before .before .before in
-    let e = c .before .before .before .before .before .before .before .before .match .keys21 in
-    let cells = a .args .cells .now in
-    let words = a .args .words .now in
-    λ interval. by-number _ _ _ _ _ (a .args .v) (a .args .nums .now) (a .args .kinds .now) _ _ 9 3 (omega arith) (omega arith) e (c .before .before .before .before .before .register-at21 .ensures)
-    (c .before .before .before .before .fetch-number .ensures (programOf cells) (chosen interval) (a .args .depth) (inRegister (a .args .s)))
-
-returns-22 : tie.Need-returns-22
-returns-22 c =
-    let a = c .before .before .before .before .before in
-    λ interval. refused-number _ _ _ (a .args .s) (a .args .v) (a .args .nums .now) (a .args .kinds .now) (a .pre .sized) (c .match .keys22)
-
-returns-23 : tie.Need-returns-23
-returns-23 c =
-    let a = c .before .before .before .before .before .before .before in
-    let n = c .before .before .match .rest .0 .0 .0 .0 .0 .0 .0 .0 .0 .0 .0 .1 in
-    λ interval. refused-label _ _ _ (a .args .s) (a .args .v) (a .args .nums .now) (a .args .kinds .now) (a .pre .sized)
-    (omega (arith, n, c .before .if1 .left)) (omega (arith, c .if2 .taken))
-
-returns-24 : tie.Need-returns-24
-returns-24 c =
-    let a = c .before .before .before .before .before .before in
-    λ interval. left-over (a .args .arm) (c .before .match .rest) (λ p q. omega (arith, p, c .if1 .taken)) _ _ (a .args .s) (a .args .v) (a .args .nums .now) (a .args .kinds .now) (a .pre .sized)
-
-returns-25 : tie.Need-returns-25
-returns-25 c =
-    let a = c .before .before .before .before .before .before .before in
-    λ interval. left-over (a .args .arm) (c .before .before .match .rest) (λ p q. omega (arith, q, c .if2 .left)) _ _ (a .args .s) (a .args .v) (a .args .nums .now) (a .args .kinds .now) (a .pre .sized)
+returns-11 c = λ interval. no-register _ _ _ _ _ _ _ (c .before .before .before .before .before .before .before .match .rest) (c .before .before .before .before .set-immediate .ensures interval)
 
 pub set-register-spec : {M : Type 1} → statement M
 set-register-spec =
@@ -540,28 +295,7 @@ set-register-spec =
     fetch-register-requires
     register-at-requires-10
     allocate-register-requires
-    register-at-requires-11
-    move-value-requires
-    register-at-requires-12
-    allocate-label-requires
-    register-at-requires-13
-    move-value-requires-2
-    register-at-requires-14
-    add-number-requires
-    register-at-requires-15
-    subtract-number-requires
-    register-at-requires-16
-    multiply-number-requires
-    register-at-requires-17
-    divide-number-requires
-    register-at-requires-18
-    modulo-number-requires
-    register-at-requires-19
-    less-number-requires
-    register-at-requires-20
-    equal-number-requires
-    register-at-requires-21
-    fetch-number-requires
+    set-immediate-requires
     same-length
     same-length-2
     returns
@@ -594,38 +328,4 @@ set-register-spec =
     returns-10
     same-length-21
     same-length-22
-    returns-11
-    same-length-23
-    same-length-24
-    returns-12
-    same-length-25
-    same-length-26
-    returns-13
-    same-length-27
-    same-length-28
-    returns-14
-    same-length-29
-    same-length-30
-    returns-15
-    same-length-31
-    same-length-32
-    returns-16
-    same-length-33
-    same-length-34
-    returns-17
-    same-length-35
-    same-length-36
-    returns-18
-    same-length-37
-    same-length-38
-    returns-19
-    same-length-39
-    same-length-40
-    returns-20
-    same-length-41
-    same-length-42
-    returns-21
-    returns-22
-    returns-23
-    returns-24
-    returns-25)
+    returns-11)
