@@ -6,7 +6,7 @@ ghost use Prim.Native.Nat.{_<_};
 ghost use lib.ListN.{set};
 ghost use Rattle.arms.specs.Registers.{Sized, valueOf};
 
-// r := a value. This crate alone calls it, with a register of an accepted program.
+// r := a value. Our crates alone call it, with a register of an accepted program.
 pub fn put(nums: &mut [u64], kinds: &mut [u8], r: usize, num: u64, kind: u8)
     requires { ⌜ Sized (now nums) (now kinds) × (r < 16) ⌝ }
     ensures { λ z. ⌜ now (nums .exit) ≡ set (now (nums .entry)) r num ⌝ }
