@@ -37,7 +37,8 @@ slice-aggregate-evaluate-job-2 c = search needs
 evaluate-job-requires : tie.Need-evaluate-job-requires
 evaluate-job-requires c κs =
     let a = c .before .before .before .before .before .before .before .before .before .before .before .before .before .before .before .before in
-    can-run (a .args .job .now) (a .pre .0) (a .pre .1) (c .before .before .before .before .before .before .before .places-of .ensures) (c .before .before .before .before .before .before .before .before .before .before .before .before .read-registers .ensures) (a .args .budget) (c .before .before .before .before .before .allowance-of .ensures) _
+    can-run (a .args .job .now) (a .pre .0) (a .pre .1) (c .before .before .before .before .before .before .before .places-of .ensures)
+    (c .before .before .before .before .before .before .before .before .before .before .before .before .read-registers .ensures) (a .args .budget) (c .before .before .before .before .before .allowance-of .ensures) _
     (room-in 512 (omega (arith, c .before .before .before .before .instruction-count .ensures, c .before .before .before .if1 .taken)))
 
 same-length : tie.Need-same-length
@@ -46,8 +47,11 @@ same-length c = search needs
 returns : tie.Need-returns
 returns c =
     let a = c .before .before .before .before .before .before .before .before .before .before .before .before .before .before .before .before .before .before in
-    job-reported (a .args .job .now) (a .pre .0) (a .pre .1) (c .before .before .before .before .before .before .before .before .before .places-of .ensures) (c .before .before .before .before .before .before .before .before .before .before .before .before .before .before .read-registers .ensures) (a .args .budget) (c .before .before .before .before .before .before .before .allowance-of .ensures)
-    (c .before .before .before .before .before .before .before .before .interval-of .ensures) (c .before .before .before .before .before .before .before .before .before .before .before .read-words .ensures) (c .before .evaluate-job .ensures)
+    job-reported (a .args .job .now) (a .pre .0) (a .pre .1) (c .before .before .before .before .before .before .before .before .before .places-of .ensures)
+    (c .before .before .before .before .before .before .before .before .before .before .before .before .before .before .read-registers .ensures) (a .args .budget)
+    (c .before .before .before .before .before .before .before .allowance-of .ensures)
+    (c .before .before .before .before .before .before .before .before .interval-of .ensures) (c .before .before .before .before .before .before .before .before .before .before .before .read-words .ensures)
+    (c .before .evaluate-job .ensures)
 
 slice-aggregate-evaluate-job-3 : tie.Need-slice-aggregate-evaluate-job-3
 slice-aggregate-evaluate-job-3 c = search needs
@@ -58,7 +62,8 @@ slice-aggregate-evaluate-job-4 c = search needs
 evaluate-job-requires-2 : tie.Need-evaluate-job-requires-2
 evaluate-job-requires-2 c κs =
     let a = c .before .before .before .before .before .before .before .before .before .before .before .before .before .before .before .before in
-    can-run (a .args .job .now) (a .pre .0) (a .pre .1) (c .before .before .before .before .before .before .before .places-of .ensures) (c .before .before .before .before .before .before .before .before .before .before .before .before .read-registers .ensures) (a .args .budget) (c .before .before .before .before .before .allowance-of .ensures) _
+    can-run (a .args .job .now) (a .pre .0) (a .pre .1) (c .before .before .before .before .before .before .before .places-of .ensures)
+    (c .before .before .before .before .before .before .before .before .before .before .before .before .read-registers .ensures) (a .args .budget) (c .before .before .before .before .before .allowance-of .ensures) _
     (room-in 4096 (omega (arith, few-instructions (a .args .job .now) (a .pre .0) (a .pre .1))))
 
 same-length-2 : tie.Need-same-length-2
@@ -67,8 +72,11 @@ same-length-2 c = search needs
 returns-2 : tie.Need-returns-2
 returns-2 c =
     let a = c .before .before .before .before .before .before .before .before .before .before .before .before .before .before .before .before .before .before in
-    job-reported (a .args .job .now) (a .pre .0) (a .pre .1) (c .before .before .before .before .before .before .before .before .before .places-of .ensures) (c .before .before .before .before .before .before .before .before .before .before .before .before .before .before .read-registers .ensures) (a .args .budget) (c .before .before .before .before .before .before .before .allowance-of .ensures)
-    (c .before .before .before .before .before .before .before .before .interval-of .ensures) (c .before .before .before .before .before .before .before .before .before .before .before .read-words .ensures) (c .before .evaluate-job2 .ensures)
+    job-reported (a .args .job .now) (a .pre .0) (a .pre .1) (c .before .before .before .before .before .before .before .before .before .places-of .ensures)
+    (c .before .before .before .before .before .before .before .before .before .before .before .before .before .before .read-registers .ensures) (a .args .budget)
+    (c .before .before .before .before .before .before .before .allowance-of .ensures)
+    (c .before .before .before .before .before .before .before .before .interval-of .ensures) (c .before .before .before .before .before .before .before .before .before .before .before .read-words .ensures)
+    (c .before .evaluate-job2 .ensures)
 
 pub run-job-spec : {M : Type 1} → statement M
 run-job-spec =

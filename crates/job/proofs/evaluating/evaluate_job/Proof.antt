@@ -43,7 +43,8 @@ report-from-requires : tie.Need-report-from-requires
 report-from-requires c κs =
     let a = c .before .before .before .before .before .before .before .before .before .before .before .before .before .before .before .before .before in
     let z = c .before .before .before .before .evaluate in
-    let found = found-is (a .args .cells .now) (a .args .code .now) (length (a .args .code .now)) (a .args .places) (a .args .n) (a .args .registers .now) (a .pre) _ (c .before .before .before .before .before .before .before .before .before .bits-of .ensures)
+    let found = found-is (a .args .cells .now) (a .args .code .now) (length (a .args .code .now)) (a .args .places) (a .args .n) (a .args .registers .now) (a .pre) _
+    (c .before .before .before .before .before .before .before .before .before .bits-of .ensures)
     (a .args .words .now) (a .args .interval) (z .ensures .0) in
     can-report (a .args .cells .now) (a .args .n) (z .result) _ _
     (evaluationOf (programOf (a .args .cells .now)) (chosen (a .args .interval)) (a .args .places) (a .args .registers .now) (a .args .words .now) workLimit)
@@ -58,7 +59,8 @@ returns c =
     let z = c .before .before .before .before .before .evaluate in
     c .report-from .ensures
     ∙ ap (reportFrom (a .args .n))
-    (found-is (a .args .cells .now) (a .args .code .now) (length (a .args .code .now)) (a .args .places) (a .args .n) (a .args .registers .now) (a .pre) _ (c .before .before .before .before .before .before .before .before .before .before .bits-of .ensures)
+    (found-is (a .args .cells .now) (a .args .code .now) (length (a .args .code .now)) (a .args .places) (a .args .n) (a .args .registers .now) (a .pre) _
+    (c .before .before .before .before .before .before .before .before .before .before .bits-of .ensures)
     (a .args .words .now) (a .args .interval) (z .ensures .0))
 
 pub evaluate-job-spec : {M : Type 1} → statement M
