@@ -1,5 +1,5 @@
 /* Calls the engine from C: the header's helpers, images, program buffers, replays, runs, rounds on
- * lanes and jobs in steps, mostly of program F. The last line is the total, 'N passed, M failed'. */
+ * lanes, jobs in steps and stacks, mostly of program F. The last line is the total, 'N passed, M failed'. */
 
 #include "testing.h"
 
@@ -27,6 +27,7 @@ int main(void)
     try_replays();
     try_runs();
     try_steps();
+    try_stacks();
     printf("%d passed, %d failed\n", passed, failed);
     return failed == 0 ? 0 : 1;
 }

@@ -50,6 +50,7 @@ void make_program(uint8_t *program)
     size_t cell;
 
     memset(program, 0, TPAL_PROGRAM_BYTES);
+    tpal_put_number(program, TPAL_PROGRAM_VERSION, TPAL_IMAGE_VERSION_1);
     tpal_put_number(program, TPAL_PROGRAM_BLOCK_COUNT, F_BLOCKS);
     tpal_put_number(program, TPAL_PROGRAM_INSTRUCTION_COUNT, F_INSTRUCTIONS);
     for (i = 0; i < F_BLOCKS; i++)
@@ -71,16 +72,23 @@ enum {
 #define INSTRUCTION(i, name) (TPAL_PROGRAM_INSTRUCTION(i) + TPAL_INSTRUCTION_##name)
 
 const struct bad_program bad_programs[] = {
-    {"no program bytes", 0, NO_CELL, 0, TPAL_REFUSED_COUNTS},
+    {"no program bytes", 0, NO_CELL, 0, TPAL_REFUSED_VERSION},
+    {"a cell less a byte", 7, NO_CELL, 0, TPAL_REFUSED_VERSION},
+    {"version 0", WHOLE, TPAL_PROGRAM_VERSION, 0, TPAL_REFUSED_VERSION},
+    {"version 3", WHOLE, TPAL_PROGRAM_VERSION, 3, TPAL_REFUSED_VERSION},
+    {"version 2^16 + 1", WHOLE, TPAL_PROGRAM_VERSION, 65536 + 1, TPAL_REFUSED_VERSION},
+    {"version 2^32 + 2", WHOLE, TPAL_PROGRAM_VERSION, (UINT64_C(1) << 32) + 2,
+     TPAL_REFUSED_VERSION},
+    {"version 3 alone", 8, TPAL_PROGRAM_VERSION, 3, TPAL_REFUSED_VERSION},
     {"one cell", 8, NO_CELL, 0, TPAL_REFUSED_COUNTS},
-    {"two cells less a byte", 15, NO_CELL, 0, TPAL_REFUSED_COUNTS},
+    {"three cells less a byte", 23, NO_CELL, 0, TPAL_REFUSED_COUNTS},
     {"0 blocks", WHOLE, TPAL_PROGRAM_BLOCK_COUNT, 0, TPAL_REFUSED_COUNTS},
     {"129 blocks", WHOLE, TPAL_PROGRAM_BLOCK_COUNT, 129, TPAL_REFUSED_COUNTS},
     {"2^32 + 4 blocks", WHOLE, TPAL_PROGRAM_BLOCK_COUNT, (UINT64_C(1) << 32) + F_BLOCKS,
      TPAL_REFUSED_COUNTS},
     {"0 instructions", WHOLE, TPAL_PROGRAM_INSTRUCTION_COUNT, 0, TPAL_REFUSED_COUNTS},
     {"1,025 instructions", WHOLE, TPAL_PROGRAM_INSTRUCTION_COUNT, 1025, TPAL_REFUSED_COUNTS},
-    {"two cells", 16, NO_CELL, 0, TPAL_REFUSED_BLOCK_START},
+    {"three cells", 24, NO_CELL, 0, TPAL_REFUSED_BLOCK_START},
     {"no cell of its last block", 8 * TPAL_PROGRAM_BLOCK(F_BLOCKS - 1), NO_CELL, 0,
      TPAL_REFUSED_BLOCK_START},
     {"its blocks less a byte", 8 * BLOCKS_END - 1, NO_CELL, 0, TPAL_REFUSED_BLOCK_START},
@@ -96,6 +104,7 @@ const struct bad_program bad_programs[] = {
     {"its blocks alone", 8 * BLOCKS_END, NO_CELL, 0, TPAL_REFUSED_FIELDS},
     {"its used cells less a byte", 8 * USED_END - 1, NO_CELL, 0, TPAL_REFUSED_FIELDS},
     {"opcode 0", WHOLE, INSTRUCTION(0, OPCODE), 0, TPAL_REFUSED_FIELDS},
+    {"opcode 16", WHOLE, INSTRUCTION(0, OPCODE), 16, TPAL_REFUSED_FIELDS},
     {"opcode 2^8 + 11", WHOLE, INSTRUCTION(0, OPCODE), 256 + 11, TPAL_REFUSED_FIELDS},
     {"r16", WHOLE, INSTRUCTION(0, R), 16, TPAL_REFUSED_FIELDS},
     {"label 4", WHOLE, INSTRUCTION(0, OPERAND), 4, TPAL_REFUSED_FIELDS},

@@ -15,15 +15,19 @@ _Static_assert(TPAL_PROGRAM_INSTRUCTION(TPAL_MAX_INSTRUCTIONS) == TPAL_PROGRAM_C
 _Static_assert(8 * TPAL_STATE_NUMBERS == TPAL_STATE_BYTES, "state");
 _Static_assert(TPAL_STATE_SLOT(TPAL_SLOT_COUNT) == TPAL_STATE_NUMBERS, "slots");
 _Static_assert(TPAL_SLOT_FORK(TPAL_MAX_FORKS) == TPAL_SLOT_REGISTER(0), "forks");
-_Static_assert(TPAL_SLOT_REGISTER(TPAL_REGISTER_COUNT) == TPAL_SLOT_NUMBERS, "slot");
+_Static_assert(TPAL_SLOT_REGISTER(TPAL_REGISTER_COUNT) == TPAL_SLOT_HEIGHT, "slot's registers");
+_Static_assert(TPAL_SLOT_HEIGHT + 1 == TPAL_SLOT_STACK(0), "height");
+_Static_assert(TPAL_SLOT_STACK(TPAL_STACK_COUNT) == TPAL_SLOT_NUMBERS, "slot");
 _Static_assert(8 * TPAL_REPORT_NUMBERS == TPAL_REPORT_BYTES, "report");
 _Static_assert(TPAL_REPORT_REGISTER(TPAL_REGISTER_COUNT) == TPAL_REPORT_NUMBERS, "registers");
 _Static_assert(8 * TPAL_ROUNDS_REPORT_NUMBERS == TPAL_ROUNDS_REPORT_BYTES, "report with rounds");
 _Static_assert(TPAL_REPORT_ROUNDS == TPAL_REPORT_NUMBERS, "rounds after a report's numbers");
 _Static_assert(TPAL_REPORT_ROUNDS + 1 == TPAL_ROUNDS_REPORT_NUMBERS, "rounds last");
 _Static_assert(8 * TPAL_REGISTER_COUNT == TPAL_REGISTERS_BYTES, "registers' bytes");
-_Static_assert(TPAL_IMAGE_BYTES(TPAL_MAX_BLOCKS, TPAL_MAX_INSTRUCTIONS) == TPAL_MAX_IMAGE_BYTES,
+_Static_assert(TPAL_IMAGE_BYTES(TPAL_IMAGE_VERSION_2, TPAL_MAX_BLOCKS, TPAL_MAX_INSTRUCTIONS)
+                   == TPAL_MAX_IMAGE_BYTES,
                "image");
+_Static_assert(TPAL_BLOCK_BYTES(TPAL_IMAGE_VERSION_2) == 6 + TPAL_MAX_PAIRS, "block record");
 _Static_assert(TPAL_JOB_BYTES(TPAL_MAX_IMAGE_BYTES, TPAL_MAX_WORDS) == TPAL_MAX_JOB_BYTES, "job");
 _Static_assert(TPAL_JOB_BYTES(65535, 65535) == TPAL_MAX_INPUT_BYTES, "input");
 _Static_assert(TPAL_JOB_REGISTERS_AT(0) + TPAL_REGISTERS_BYTES == TPAL_JOB_WORD_COUNT_AT(0),
@@ -212,7 +216,10 @@ void try_helpers(void)
         {TPAL_REFUSED_SHAPE, TPAL_REFUSED_WORK},
         {TPAL_REFUSED_LANES, TPAL_REFUSED_LANES}
     };
-    static const struct numbers faults[] = {{TPAL_FAULT_INTEGERS, TPAL_FAULT_OPEN_FORK}};
+    static const struct numbers faults[] = {
+        {TPAL_FAULT_INTEGERS, TPAL_FAULT_OPEN_FORK},
+        {TPAL_FAULT_STACK_FULL, TPAL_FAULT_STACK_EMPTY}
+    };
 
     try_version();
     try_numbers();

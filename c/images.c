@@ -66,7 +66,9 @@ void try_images(void)
     try_image("F and a byte", f, F_LEN + 1, F_LEN + 1, TPAL_REFUSED_LENGTH);
 
     try_damaged("F with mark TPC", f, 2, 'C', TPAL_REFUSED_MARK);
-    try_damaged("F with version 2", f, 3, 2, TPAL_REFUSED_VERSION);
+    try_damaged("F with version 0", f, 3, 0, TPAL_REFUSED_VERSION);
+    try_damaged("F with version 3", f, 3, 3, TPAL_REFUSED_VERSION);
+    try_damaged("F with version 2, too short", f, 3, 2, TPAL_REFUSED_LENGTH);
     try_damaged("F with version 257", f, 4, 1, TPAL_REFUSED_VERSION);
     try_damaged("F with 0 blocks", f, 5, 0, TPAL_REFUSED_COUNTS);
     try_damaged("F with 129 blocks", f, 5, 129, TPAL_REFUSED_COUNTS);
@@ -76,6 +78,7 @@ void try_images(void)
     try_damaged("F with annotation 3", f, 30, 3, TPAL_REFUSED_ANNOTATION);
     try_damaged("F with combining block 4", f, 32, 4, TPAL_REFUSED_ANNOTATION);
     try_damaged("F with opcode 0", f, 48, 0, TPAL_REFUSED_FIELDS);
+    try_damaged("F with opcode 16", f, 48, 16, TPAL_REFUSED_FIELDS);
     try_damaged("F with r16", f, 49, 16, TPAL_REFUSED_FIELDS);
     try_damaged("F with its last byte 1", f, F_LEN - 1, 1, TPAL_REFUSED_FIELDS);
     try_damaged("F with block 1 at 3", f, 18, 3, TPAL_REFUSED_LAST_IN_BLOCK);

@@ -85,7 +85,9 @@ static void try_reads(void)
     try_read("F less a byte", f, F_LEN - 1, TPAL_PROGRAM_BYTES, TPAL_REFUSED_LENGTH);
     try_read("F and a byte", f, F_LEN + 1, TPAL_PROGRAM_BYTES, TPAL_REFUSED_LENGTH);
     try_damaged("F with mark TPC", 2, 'C', TPAL_REFUSED_MARK);
-    try_damaged("F with version 2", 3, 2, TPAL_REFUSED_VERSION);
+    try_damaged("F with version 0", 3, 0, TPAL_REFUSED_VERSION);
+    try_damaged("F with version 3", 3, 3, TPAL_REFUSED_VERSION);
+    try_damaged("F with version 2, too short", 3, 2, TPAL_REFUSED_LENGTH);
     try_damaged("F with 0 blocks", 5, 0, TPAL_REFUSED_COUNTS);
     try_damaged("F with 129 blocks", 5, 129, TPAL_REFUSED_COUNTS);
     try_damaged("F with 3 blocks", 5, 3, TPAL_REFUSED_LENGTH);

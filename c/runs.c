@@ -222,7 +222,8 @@ static void try_refusals(void)
     try_refused("a job with an image of 7 bytes", short_image, sizeof short_image,
                 TPAL_REFUSED_HEADER);
     try_damaged("F with mark TPC", IMAGE_AT + 2, 'C', TPAL_REFUSED_MARK);
-    try_damaged("F with version 2", IMAGE_AT + 3, 2, TPAL_REFUSED_VERSION);
+    try_damaged("F with version 0", IMAGE_AT + 3, 0, TPAL_REFUSED_VERSION);
+    try_damaged("F with version 3", IMAGE_AT + 3, 3, TPAL_REFUSED_VERSION);
     try_damaged("F with 0 blocks", IMAGE_AT + 5, 0, TPAL_REFUSED_COUNTS);
     try_damaged("F with 3 blocks", IMAGE_AT + 5, 3, TPAL_REFUSED_LENGTH);
     try_damaged("F with block 0 at 1", IMAGE_AT + 8, 1, TPAL_REFUSED_BLOCK_START);

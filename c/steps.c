@@ -274,8 +274,10 @@ static void try_starts(struct steps *steps)
     try_call(&start, "and interval 7", steps, TPAL_REFUSED_INTERVAL);
     steps->places = 3;
     try_call(&start, "and P 3", steps, TPAL_REFUSED_PLACES);
-    tpal_put_number(steps->program, 0, 0);
+    tpal_put_number(steps->program, TPAL_PROGRAM_BLOCK_COUNT, 0);
     try_call(&start, "and 0 blocks", steps, TPAL_REFUSED_COUNTS);
+    tpal_put_number(steps->program, TPAL_PROGRAM_VERSION, 3);
+    try_call(&start, "and version 3", steps, TPAL_REFUSED_VERSION);
 }
 
 /* F's picks one by one, and what they leave of slots 0 and 1. */
@@ -489,9 +491,12 @@ static void try_precedence(struct steps *steps)
     steps->words_len = 8 * (TPAL_MAX_WORDS + 1);
     try_call(&pick, "and 4,097 words", steps, TPAL_REFUSED_WORDS);
     try_call(&run, "and 4,097 words", steps, TPAL_REFUSED_WORDS);
-    tpal_put_number(steps->program, 0, 0);
+    tpal_put_number(steps->program, TPAL_PROGRAM_BLOCK_COUNT, 0);
     try_call(&pick, "and 0 blocks", steps, TPAL_REFUSED_COUNTS);
     try_call(&run, "and 0 blocks", steps, TPAL_REFUSED_COUNTS);
+    tpal_put_number(steps->program, TPAL_PROGRAM_VERSION, 3);
+    try_call(&pick, "and version 3", steps, TPAL_REFUSED_VERSION);
+    try_call(&run, "and version 3", steps, TPAL_REFUSED_VERSION);
 
     make_forked(steps);
     memset(steps->state, FILL, TPAL_STATE_BYTES);

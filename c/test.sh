@@ -40,7 +40,8 @@ counted() {
 
 # run NAME FLAGS..
 run() {
-    build "$@" c/caller.c c/f.c c/helpers.c c/images.c c/programs.c c/replays.c c/runs.c c/steps.c
+    build "$@" c/caller.c c/f.c c/helpers.c c/images.c c/programs.c c/replays.c c/runs.c c/stacks.c \
+        c/steps.c
     counted "$1" "$program"
 }
 
@@ -92,7 +93,9 @@ try_refused() {
     { printf '\007'; zeros 141; } >target/c/short.job
     says 'an image of 7 bytes' target/c/short.job 'refused 1\n' 1
     damaged 'mark TPC' 4 103 2
-    damaged 'version 2' 5 002 3
+    damaged 'version 0' 5 000 3
+    damaged 'version 3' 5 003 3
+    damaged "version 2, which it is too short for" 5 002 5
     damaged '0 blocks' 7 000 4
     damaged '3 blocks' 7 003 5
     damaged 'block 0 at 1' 10 001 6

@@ -4,7 +4,11 @@
 
 #include "tpal.h"
 
-enum { F_BLOCKS = 4, F_INSTRUCTIONS = 9, F_LEN = TPAL_IMAGE_BYTES(F_BLOCKS, F_INSTRUCTIONS) };
+enum {
+    F_BLOCKS = 4,
+    F_INSTRUCTIONS = 9,
+    F_LEN = TPAL_IMAGE_BYTES(TPAL_IMAGE_VERSION_1, F_BLOCKS, F_INSTRUCTIONS)
+};
 enum { FILL = 0xa5, MARGIN = 8 };
 
 /* F's job; it has no words. */
@@ -51,6 +55,7 @@ void try_images(void);
 void try_programs(void);
 void try_replays(void);
 void try_runs(void);
+void try_stacks(void);
 void try_steps(void);
 
 #endif

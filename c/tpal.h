@@ -31,22 +31,22 @@ extern "C" {
 #endif
 
 /* A major version changes names or meanings, a minor one adds to them. */
-#define TPAL_VERSION_MAJOR 1
-#define TPAL_VERSION_MINOR 1
+#define TPAL_VERSION_MAJOR 2
+#define TPAL_VERSION_MINOR 0
 #define TPAL_VERSION_PATCH 0
-#define TPAL_VERSION_STRING "1.1.0"
+#define TPAL_VERSION_STRING "2.0.0"
 
 /* ---- Refusals and faults */
 
 #define TPAL_ACCEPTED 0
 /* Questions about an image of B blocks and I instructions, in the order in which they are put.
- * 6 and 7 are put block by block, then 8 and 9 instruction by instruction. A program buffer gets 4
- * and 6 to 9. */
+ * 6 and 7 are put block by block, then 8 and 9 instruction by instruction. A program buffer gets 3, 4
+ * and 6 to 9. What 5, 7 and 8 ask for is the version's. */
 #define TPAL_REFUSED_HEADER 1        /* 8 bytes or more? */
 #define TPAL_REFUSED_MARK 2          /* mark TPB? */
-#define TPAL_REFUSED_VERSION 3       /* version 1? */
+#define TPAL_REFUSED_VERSION 3       /* version 1 or 2? */
 #define TPAL_REFUSED_COUNTS 4        /* B in 1 to 128 and I in 1 to 1,024? */
-#define TPAL_REFUSED_LENGTH 5        /* length 8 + 10 B + 12 I? */
+#define TPAL_REFUSED_LENGTH 5        /* length 8 + 10 B + 12 I, in version 2 8 + 14 B + 12 I? */
 #define TPAL_REFUSED_BLOCK_START 6   /* block 0 at 0, a later one after its predecessor, all below I? */
 #define TPAL_REFUSED_ANNOTATION 7    /* annotation as laid out, label below B? */
 #define TPAL_REFUSED_FIELDS 8        /* opcode, registers, labels and zeros as laid out? */
@@ -77,22 +77,26 @@ extern "C" {
 #define TPAL_FAULT_JOIN_TARGET 35 /* jralloc operand a label of a join target? */
 #define TPAL_FAULT_PLACES 37      /* two places to fork? */
 #define TPAL_FAULT_OPEN_FORK 38   /* no open fork at halt? */
+#define TPAL_FAULT_STACK_FULL 42  /* fewer than 32 values on the stack, for a push? */
+#define TPAL_FAULT_STACK_EMPTY 43 /* a value on the stack, for a pop? */
 
 /* ---- Limits */
 
 #define TPAL_REGISTER_COUNT 16 /* of each task */
+#define TPAL_STACK_COUNT 32    /* values that a task's stack has room for */
 #define TPAL_SLOT_COUNT 64     /* in a state; a job has the first P of them */
 
 #define TPAL_MAX_BLOCKS 128
 #define TPAL_MAX_INSTRUCTIONS 1024
-#define TPAL_MAX_IMAGE_BYTES 13576 /* 128 blocks and 1,024 instructions */
+#define TPAL_MAX_PAIRS 8           /* of a block; 4 in version 1 */
+#define TPAL_MAX_IMAGE_BYTES 14088 /* version 2, 128 blocks and 1,024 instructions */
 #define TPAL_MAX_PLACES 64
 #define TPAL_MAX_FORKS 6           /* open at once, of one task */
 #define TPAL_MAX_INTERVAL 65535
 #define TPAL_MAX_WORDS 4096
 #define TPAL_MAX_LANES 8           /* of a dispatcher */
 #define TPAL_MAX_WORK 4294967295u  /* a job that stands there is spent */
-#define TPAL_MAX_JOB_BYTES 46479   /* of a job that is accepted: the largest image, 4,096 words */
+#define TPAL_MAX_JOB_BYTES 46991   /* of a job that is accepted: the largest image, 4,096 words */
 /* Of a job that passes question 10, with an image of 65,535 bytes and 65,535 words; no such job is
  * accepted. A caller that reads a job from elsewhere and has more bytes need not read on: the answer
  * is 10. */
@@ -100,8 +104,15 @@ extern "C" {
 
 /* ---- Images and programs */
 
-/* Length of an image. */
-#define TPAL_IMAGE_BYTES(blocks, instructions) (8 + 10 * (blocks) + 12 * (instructions))
+/* The versions of an image. Version 2 has opcodes 16 and 17 besides, push and pop, and block records
+ * with room for eight pairs in place of four. */
+#define TPAL_IMAGE_VERSION_1 1
+#define TPAL_IMAGE_VERSION_2 2
+
+/* Length of a block record, and of an image. */
+#define TPAL_BLOCK_BYTES(version) ((version) == TPAL_IMAGE_VERSION_2 ? 14 : 10)
+#define TPAL_IMAGE_BYTES(version, blocks, instructions) \
+    (8 + TPAL_BLOCK_BYTES(version) * (blocks) + 12 * (instructions))
 
 /* Tests an image of any length. Answers 0, or 1 to 9. */
 uint8_t tpal_image_check(const uint8_t *image, size_t image_len);
@@ -110,14 +121,15 @@ uint8_t tpal_image_check(const uint8_t *image, size_t image_len);
  * holds the image's bytes again. Answers 0; or 1 to 9; or 15 when out_len is not image_len. */
 uint8_t tpal_image_rewrite(const uint8_t *image, size_t image_len, uint8_t *out, size_t out_len);
 
-/* A program buffer: 5,890 cells of 64 bits, little-endian. Cells of blocks from B on and of
- * instructions from I on are unused: no question looks at them. */
-#define TPAL_PROGRAM_BYTES 47120
-#define TPAL_PROGRAM_CELLS 5890
-#define TPAL_PROGRAM_BLOCK_COUNT 0       /* B */
-#define TPAL_PROGRAM_INSTRUCTION_COUNT 1 /* I */
-#define TPAL_PROGRAM_BLOCK(b) (2 + TPAL_BLOCK_CELLS * (b))               /* block b, 0 to 127 */
-#define TPAL_PROGRAM_INSTRUCTION(i) (770 + TPAL_INSTRUCTION_CELLS * (i)) /* i, 0 to 1,023 */
+/* A program buffer: 5,891 cells of 64 bits, little-endian, the same for both versions. Cells of blocks
+ * from B on and of instructions from I on are unused: no question looks at them. */
+#define TPAL_PROGRAM_BYTES 47128
+#define TPAL_PROGRAM_CELLS 5891
+#define TPAL_PROGRAM_VERSION 0           /* of the image, 1 or 2 */
+#define TPAL_PROGRAM_BLOCK_COUNT 1       /* B */
+#define TPAL_PROGRAM_INSTRUCTION_COUNT 2 /* I */
+#define TPAL_PROGRAM_BLOCK(b) (3 + TPAL_BLOCK_CELLS * (b))               /* block b, 0 to 127 */
+#define TPAL_PROGRAM_INSTRUCTION(i) (771 + TPAL_INSTRUCTION_CELLS * (i)) /* i, 0 to 1,023 */
 /* The cells of a block, counted from its first. */
 #define TPAL_BLOCK_CELLS 6
 #define TPAL_BLOCK_FIRST 0      /* first instruction */
@@ -125,7 +137,7 @@ uint8_t tpal_image_rewrite(const uint8_t *image, size_t image_len, uint8_t *out,
 #define TPAL_BLOCK_POLICY 2
 #define TPAL_BLOCK_LABEL 3      /* handler block or combining block */
 #define TPAL_BLOCK_PAIR_COUNT 4
-#define TPAL_BLOCK_PAIRS 5      /* four pair bytes as one number, the first in its low eight bits */
+#define TPAL_BLOCK_PAIRS 5      /* the pair bytes as one number, the first in its low eight bits */
 #define TPAL_ANNOTATION_NONE 0
 #define TPAL_ANNOTATION_PROMOTION_READY 1
 #define TPAL_ANNOTATION_JOIN_TARGET 2
@@ -148,9 +160,10 @@ uint8_t tpal_image_rewrite(const uint8_t *image, size_t image_len, uint8_t *out,
 uint8_t tpal_program_read(const uint8_t *image, size_t image_len, uint8_t *program,
                           size_t program_len);
 
-/* Writes a program's image. A program buffer of another length has the cells that are whole; a block
- * or instruction that it lacks is a no to 6 or 8. Answers 0; or 4 or 6 to 9; or 15 when program_len
- * is not TPAL_PROGRAM_BYTES, or image_len not 8 + 10 B + 12 I. */
+/* Writes a program's image, of which there is one: the version is the program's. A program buffer of
+ * another length has the cells that are whole; a version that it lacks is a no to 3, a count to 4, a
+ * block or instruction to 6 or 8. Answers 0; or 3, 4 or 6 to 9; or 15 when program_len is not
+ * TPAL_PROGRAM_BYTES, or image_len not TPAL_IMAGE_BYTES of its version, B and I. */
 uint8_t tpal_program_write(const uint8_t *program, size_t program_len, uint8_t *image,
                            size_t image_len);
 
@@ -167,7 +180,8 @@ uint8_t tpal_program_write(const uint8_t *program, size_t program_len, uint8_t *
 #define TPAL_JOB_WORDS_AT(image_len) (135 + (image_len))
 #define TPAL_JOB_BYTES(image_len, word_count) (135 + (image_len) + 8 * (word_count))
 
-/* The three numbers of a register, in a state and in a report, counted from its first. */
+/* The three numbers of a register, in a state and in a report, and of a value on a stack, in a state,
+ * counted from its first. */
 #define TPAL_REGISTER_NUMBERS 3
 #define TPAL_REGISTER_KIND 0
 #define TPAL_REGISTER_VALUE 1 /* the integer, the label, or the record's continuation */
@@ -176,15 +190,15 @@ uint8_t tpal_program_write(const uint8_t *program, size_t program_len, uint8_t *
 #define TPAL_KIND_LABEL 1
 #define TPAL_KIND_RECORD 2
 
-/* A state: 4,291 numbers of 64 bits, little-endian. */
-#define TPAL_STATE_BYTES 34328
-#define TPAL_STATE_NUMBERS 4291
+/* A state: 10,499 numbers of 64 bits, little-endian. */
+#define TPAL_STATE_BYTES 83992
+#define TPAL_STATE_NUMBERS 10499
 #define TPAL_STATE_PLACES 0 /* P */
 #define TPAL_STATE_INTERVAL 1
 #define TPAL_STATE_WORK 2
 #define TPAL_STATE_SLOT(k) (3 + TPAL_SLOT_NUMBERS * (k)) /* slot k, 0 to 63 */
 /* The numbers of a slot, counted from its first. */
-#define TPAL_SLOT_NUMBERS 67
+#define TPAL_SLOT_NUMBERS 164
 #define TPAL_SLOT_STATUS 0
 #define TPAL_SLOT_FAULT 1               /* fault number, 0 where not faulted */
 #define TPAL_SLOT_PLACES 2
@@ -194,11 +208,14 @@ uint8_t tpal_program_write(const uint8_t *program, size_t program_len, uint8_t *
 #define TPAL_SLOT_DEPTH 6               /* number of open forks */
 #define TPAL_SLOT_FORK(i) (7 + 2 * (i)) /* open fork i, 0 to 5, the outermost first; unused ones 0 */
 #define TPAL_SLOT_REGISTER(i) (19 + TPAL_REGISTER_NUMBERS * (i)) /* register i, 0 to 15 */
+#define TPAL_SLOT_HEIGHT 67             /* of the stack: how many values it holds, 0 to 32 */
+#define TPAL_SLOT_STACK(i) (68 + TPAL_REGISTER_NUMBERS * (i)) /* value i, 0 to 31, the lowest first;
+                                                                  from the height on integers 0 */
 /* The two numbers of an open fork. */
 #define TPAL_FORK_CONTINUATION 0
 #define TPAL_FORK_DEPTH 1
-/* A vacant slot is all 0, and so are a faulted task's registers. The job has ended when slot 0 is
- * halted, or faulted at depth 0. */
+/* A vacant slot is all 0, and so are a faulted task's registers and its stack. The job has ended when
+ * slot 0 is halted, or faulted at depth 0. */
 #define TPAL_STATUS_VACANT 0
 #define TPAL_STATUS_RUNNING 1
 #define TPAL_STATUS_WAITING 2
@@ -206,7 +223,7 @@ uint8_t tpal_program_write(const uint8_t *program, size_t program_len, uint8_t *
 #define TPAL_STATUS_FAULTED 4
 /* Bytes stand for a state when each number fits its field; no number is cut to size.
  *   any number  P, places, an integer
- *   32 bits     work, counter, span, depth, an open fork's two numbers, a label, a record's two
+ *   32 bits     work, counter, span, depth, height, an open fork's two numbers, a label, a record's two
  *   16 bits     interval, program counter
  *   8 bits      fault number, of a faulted task; of any other it is 0
  *   0 to 4      status
@@ -225,7 +242,7 @@ uint8_t tpal_replay(const uint8_t *job, size_t job_len, const uint8_t *order, si
 #define TPAL_REGISTERS_BYTES 128
 
 /* Starts a job: writes the state in which slot 0 has a task with these registers and all P places,
- * and nothing is carried out. `places` is P. Answers 0; or 4 or 6 to 9; or 11 or 12; or 13 when
+ * and nothing is carried out. `places` is P. Answers 0; or 3, 4 or 6 to 9; or 11 or 12; or 13 when
  * `registers` has not sixteen; or 14; or 15 when a length is not TPAL_PROGRAM_BYTES,
  * TPAL_REGISTERS_BYTES, a multiple of 8 for the words, or TPAL_STATE_BYTES. */
 uint8_t tpal_start(const uint8_t *program, size_t program_len, uint64_t places, uint64_t interval,
@@ -233,7 +250,7 @@ uint8_t tpal_start(const uint8_t *program, size_t program_len, uint64_t places, 
                    size_t words_len, uint8_t *state, size_t state_len);
 
 /* Issues one instruction of the task in this slot: `state` goes in, and the new state is written over
- * the whole of it. Answers 0; or 4 or 6 to 9; or 14; or 15 when a length is not TPAL_PROGRAM_BYTES, a
+ * the whole of it. Answers 0; or 3, 4 or 6 to 9; or 14; or 15 when a length is not TPAL_PROGRAM_BYTES, a
  * multiple of 8 for the words, or TPAL_STATE_BYTES; or 20 when the bytes stand for no state, or for
  * one that does not meet the shape test (docs/machine.md) for this program; or 21 to 24. The state of
  * an accepted call passes 20 with that call's program. */
@@ -282,8 +299,8 @@ uint8_t tpal_job_dispatch(const uint8_t *job, size_t job_len, uint64_t lanes, ui
 
 /* Runs a job on from a state, as tpal_job_run does from a fresh start: the passes begin at slot 0.
  * The new state is written over `state`, and the report to `report`: its picks are this call's, its
- * work is the state's. A job that had ended before is reported with 0 picks. Answers 0; or 4 or 6 to
- * 9; or 14; or 15, for tpal_pick's reasons or when report_len is not TPAL_REPORT_BYTES; or 20. */
+ * work is the state's. A job that had ended before is reported with 0 picks. Answers 0; or 3, 4 or 6
+ * to 9; or 14; or 15, for tpal_pick's reasons or when report_len is not TPAL_REPORT_BYTES; or 20. */
 uint8_t tpal_run(const uint8_t *program, size_t program_len, const uint8_t *words,
                  size_t words_len, uint64_t budget, uint8_t *state, size_t state_len,
                  uint8_t *report, size_t report_len);
@@ -404,7 +421,7 @@ static inline const char *tpal_refusal_message(unsigned number)
     case TPAL_REFUSED_MARK:
         return "the image does not begin with the letters TPB";
     case TPAL_REFUSED_VERSION:
-        return "the image's version is not 1";
+        return "the version is neither 1 nor 2";
     case TPAL_REFUSED_COUNTS:
         return "there are not 1 to 128 blocks and 1 to 1024 instructions";
     case TPAL_REFUSED_LENGTH:
@@ -413,9 +430,10 @@ static inline const char *tpal_refusal_message(unsigned number)
         return "block 0 does not start at instruction 0, or a later block not after the one before "
                "it, or one starts beyond the last instruction";
     case TPAL_REFUSED_ANNOTATION:
-        return "a block's annotation is not as laid out";
+        return "a block's annotation is not as its version lays it out";
     case TPAL_REFUSED_FIELDS:
-        return "an instruction's opcode, registers, label or zeros are not as laid out";
+        return "an instruction's opcode, registers, label or zeros are not as its version lays them "
+               "out";
     case TPAL_REFUSED_LAST_IN_BLOCK:
         return "a jump, halt or join is not the last of its block, or a block ends with none";
     case TPAL_REFUSED_INPUT:
@@ -467,6 +485,10 @@ static inline const char *tpal_fault_message(unsigned number)
         return "the task has not two places to fork";
     case TPAL_FAULT_OPEN_FORK:
         return "a fork is open at halt";
+    case TPAL_FAULT_STACK_FULL:
+        return "the task's stack has no room for the value of a push";
+    case TPAL_FAULT_STACK_EMPTY:
+        return "there is no value on the task's stack, for a pop";
     default:
         return "no fault has this number";
     }

@@ -9,9 +9,11 @@ use lib.Dec.{eqb, leb}
 use borrow.Author.Tests.{eqb-true, ne-eqb}
 use lib.Seq.{getD-set-same, getD-set-other}
 use Rattle.image.specs.declared.Instruction.{Instruction}
-use Rattle.image.specs.Layout.{blockCount, instructionCount, instructionOf, blockOf}
-use Rattle.image.specs.Questions.{firstNo, countsNo, blockNo, hasR, hasS, hasV, has, register, operandFits, laidOut, instructionNo, recordsNo, programNo}
+use Rattle.image.specs.Layout.{instructionCell, versionOf, blockCount, instructionCount, instructionOf, blockOf}
+use Rattle.image.specs.Questions.{firstNo, blockNo, lastOpcode, hasR, hasS, hasV, has, register, operandFits, laidOut, instructionNo, recordsNo, programNo}
 use Rattle.image.proofs.Asked.{ask-yes, or-else-both, first-no-all}
+use Rattle.image.proofs.Versions.{opcodes-most}
+use Rattle.image.proofs.Counts.{program-parts}
 use Rattle.image.proofs.Accepted.{accepted, InstructionAccepted}
 use Rattle.facts.proofs.Tests.{clash, both-true, by-order}
 use Rattle.task.specs.Formed.{every}
@@ -20,18 +22,22 @@ use Rattle.arms.specs.Code.{Armed, Decoded, DecodedAt, DecodesOne}
 
 -- ---- the arm
 
--- an instruction that is no halt has an operand of one of the kinds 1 to 3
-abbrev halts-alone : ℕ → Bool
-halts-alone n = eqb n 0 || (eqb n 14 || eqb (has n hasV) 1)
+-- an opcode of either version
+pub opcode-known : {cells : List ℕ} {i : ℕ} → InstructionAccepted cells i → instructionOf cells i .opcode ≤ 17
+opcode-known {cells} h = omega (arith, h .opcode-most, opcodes-most (versionOf cells))
 
-all-but-halt : every halts-alone 16 0 ≡ true
+-- an instruction that is neither halt nor pop has an operand of one of the kinds 1 to 3
+abbrev operand-or-not : ℕ → Bool
+operand-or-not n = eqb n 0 || (eqb n 14 || (eqb n 17 || eqb (has n hasV) 1))
+
+all-but-two : every operand-or-not 18 0 ≡ true
 unfolding every
-all-but-halt = refl
+all-but-two = refl
 
 pub has-operand : (cells : List ℕ) (i : ℕ) → programNo cells ≡ 0 → i < instructionCount cells → (instructionOf cells i .opcode ≡ 14 → ⊥)
-    → 1 ≤ instructionOf cells i .kind
-unfolding programNo recordsNo instructionNo laidOut operandFits
-has-operand cells i e below n = go (x .kind) refl
+    → (instructionOf cells i .opcode ≡ 17 → ⊥) → 1 ≤ instructionOf cells i .kind
+unfolding recordsNo instructionNo laidOut operandFits
+has-operand cells i e below no-halt no-pop = go (x .kind) refl
   where
     x : Instruction
     x = instructionOf cells i
@@ -41,17 +47,18 @@ has-operand cells i e below n = go (x .kind) refl
 
     has-one : has (x .opcode) hasV ≡ 1
     has-one =
-        let t = every-at halts-alone 16 0 all-but-halt (x .opcode) (omega arith) (omega (arith, I .opcode-most)) in
-        eqb-true (has (x .opcode) hasV) 1 (rw (ne-eqb (x .opcode) 0 (λ z. omega (arith, z, I .opcode-least)), ne-eqb (x .opcode) 14 n) at t)
+        let t = every-at operand-or-not 18 0 all-but-two (x .opcode) (omega arith) (omega (arith, opcode-known I)) in
+        let least = ne-eqb (x .opcode) 0 (λ z. omega (arith, z, I .opcode-least)) in
+        eqb-true (has (x .opcode) hasV) 1 (rw (least, ne-eqb (x .opcode) 14 no-halt, ne-eqb (x .opcode) 17 no-pop) at t)
 
     fits-so : operandFits (blockCount cells) (has (x .opcode) hasV) (x .kind) (x .operand) ≡ true
     fits-so =
-        let p = or-else-both (countsNo (blockCount cells) (instructionCount cells)) (recordsNo cells) e in
-        let q = or-else-both (firstNo (blockNo cells) (blockCount cells) 0) (firstNo (instructionNo cells) (instructionCount cells) 0) (p .1) in
-        let a = ask-yes (leb (770 + 5 * i + 5) (length cells)) 8 _ tt (first-no-all (instructionNo cells) (instructionCount cells) 0 (q .1) i (omega arith) (omega arith)) in
-        let l = ask-yes (laidOut (blockCount cells) x) 8 _ tt (a .1) .0 in
+        let p = program-parts cells e in
+        let q = or-else-both (firstNo (blockNo cells) (blockCount cells) 0) (firstNo (instructionNo cells) (instructionCount cells) 0) (p .2) in
+        let a = ask-yes (leb (instructionCell i + 5) (length cells)) 8 _ tt (first-no-all (instructionNo cells) (instructionCount cells) 0 (q .1) i (omega arith) (omega arith)) in
+        let l = ask-yes (laidOut (lastOpcode (versionOf cells)) (blockCount cells) x) 8 _ tt (a .1) .0 in
         let o = both-true (leb 1 (x .opcode)) _ l in
-        let m = both-true (leb (x .opcode) 15) _ (o .1) in
+        let m = both-true (leb (x .opcode) (lastOpcode (versionOf cells))) _ (o .1) in
         let r = both-true (register (has (x .opcode) hasR) (x .r)) _ (m .1) in
         both-true (register (has (x .opcode) hasS) (x .s)) _ (r .1) .1
 
@@ -59,7 +66,7 @@ has-operand cells i e below n = go (x .kind) refl
     go zero z = clash (rw (has-one, z) at fits-so) refl
     go (suc k) z = omega (arith, z)
 
-module _ (cells : List ℕ) (x : Instruction) (few : x .opcode ≤ 15) (known : x .kind ≤ 3) where
+module _ (cells : List ℕ) (x : Instruction) (few : x .opcode ≤ 17) (known : x .kind ≤ 3) where
   pub armed-common : Armed cells x (x .opcode + 32 * x .kind) (x .operand)
   armed-common = record { common = λ l. (refl, refl); plain = λ l. absurd (omega (arith, few, known, l)) }
 

@@ -21,7 +21,7 @@ use Rattle.task.proofs.Counts.{within-is, is-within, within-more, step-one-with
 use Rattle.image.proofs.Accepted.{accepted}
 use Rattle.image.specs.Questions.{programNo}
 use Rattle.arms.specs.declared.Gone.{Gone}
-use Rattle.arms.specs.Turns.{frameAt, rules, Ends, Turned, Runs}
+use Rattle.arms.specs.Turns.{Stacked, frameAt, rules, Ends, Turned, Runs}
 
 module _ (cells : List ℕ) (words : List ℤ) (interval : ℕ) where
   -- a step to one task that runs on
@@ -36,9 +36,9 @@ module _ (cells : List ℕ) (words : List ℤ) (interval : ℕ) where
     pub runs-start : pc ≡ 4 * (pc / 4) → pc / 4 < instructionCount cells → left ≤ beat → Runs cells words interval places depth pc beat left before
         pc beat left before
     runs-start a h l = record {
-      same-run = λ forks span s. rw same;
-      keeps-formed = λ forks span D h r x. rw same x;
-      keeps-within = λ forks span W x. rw (same, same) x;
+      same-run = λ forks span u s. rw same;
+      keeps-formed = λ forks span u D h r x. rw same x;
+      keeps-within = λ forks span u W x. rw (same, same) x;
       aligned = a;
       inside = h;
       counted = l;
@@ -56,16 +56,16 @@ module _ (cells : List ℕ) (words : List ℤ) (interval : ℕ) where
         → Runs cells words interval places depth pc beat left before (g .pc) (g .beat) (left′ - 1) next
     runs-on pc′ beat′ zero after g next p on h t = absurd (omega arith)
     runs-on pc′ beat′ (suc n) after g next p on h t = record {
-      same-run = λ forks span s. h .same-run forks span s ∙ run-one n (here forks span) (there forks span) s refl (steps forks span) refl ∙ rw less;
-      keeps-formed = λ forks span D k r x.
-          is-formed (programOf cells) D k (there forks span)
-          (step-one cells (accepted cells accept) D r words (chosen interval) k (here forks span) (there forks span)
-          (formed-is (programOf cells) D k (here forks span) (h .keeps-formed forks span D k r x)) refl (steps forks span));
-      keeps-within = λ forks span W x.
-          is-within (W + (left - (suc n - 1))) (there forks span)
+      same-run = λ forks span u s. h .same-run forks span u s ∙ run-one n (here forks span u) (there forks span u) s refl (steps forks span u) refl ∙ rw less;
+      keeps-formed = λ forks span u D k r x.
+          is-formed (programOf cells) D k (there forks span u)
+          (step-one cells (accepted cells accept) D r words (chosen interval) k (here forks span u) (there forks span u)
+          (formed-is (programOf cells) D k (here forks span u) (h .keeps-formed forks span u D k r x)) refl (steps forks span u));
+      keeps-within = λ forks span u W x.
+          is-within (W + (left - (suc n - 1))) (there forks span u)
           (within-more (omega (arith, h .fewer))
-          (step-one-within (programOf cells) words (chosen interval) (W + (left - suc n)) (here forks span) (there forks span)
-          (within-is (W + (left - suc n)) (here forks span) (h .keeps-within forks span W x)) (steps forks span)));
+          (step-one-within (programOf cells) words (chosen interval) (W + (left - suc n)) (here forks span u) (there forks span u)
+          (within-is (W + (left - suc n)) (here forks span u) (h .keeps-within forks span u W x)) (steps forks span u)));
       aligned = t .aligned;
       inside = t .inside on;
       counted = t .counted;
@@ -74,18 +74,18 @@ module _ (cells : List ℕ) (words : List ℤ) (interval : ℕ) where
     }
       where
         -- before the turn, and after it
-        here : List Fork → ℕ → Frame
-        here forks span = frameAt places depth forks (pc′ / 4) (beat′ - suc n) (span + (left - suc n)) after
+        here : List Fork → ℕ → Stacked → Frame
+        here forks span u = frameAt places depth forks (pc′ / 4) (beat′ - suc n) (span + (left - suc n)) u after
 
-        there : List Fork → ℕ → Frame
-        there forks span = frameAt places depth forks (g .pc / 4) (g .beat - (suc n - 1)) (span + (left - (suc n - 1))) next
+        there : List Fork → ℕ → Stacked → Frame
+        there forks span u = frameAt places depth forks (g .pc / 4) (g .beat - (suc n - 1)) (span + (left - (suc n - 1))) u next
 
         less : suc n - 1 ≡ n
         less = omega arith
 
-        steps : (forks : List Fork) (span : ℕ) → step (programOf cells) words (chosen interval) (here forks span) ≡ one (there forks span)
-        steps forks span =
-            let e = t .steps on forks (span + (left - suc n)) in
+        steps : (forks : List Fork) (span : ℕ) (u : Stacked) → step (programOf cells) words (chosen interval) (here forks span u) ≡ one (there forks span u)
+        steps forks span u =
+            let e = t .steps on forks (span + (left - suc n)) u in
             let c : suc n - 1 + 1 ≡ suc n = omega arith in
             let w : span + (left - suc n) + 1 ≡ span + (left - (suc n - 1)) = omega (arith, h .fewer) in
             rw (c, w) at e

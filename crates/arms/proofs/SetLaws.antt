@@ -173,7 +173,7 @@ module _ (x : Context) (least arm r s v : ℕ) (nums kinds : List ℕ) (sized : 
 
   -- a fault, whatever the registers hold
   pub refused : (what : ℕ) → 2 ≤ what → arm < 128 → arm % 32 < 13
-      → ((n k : ℕ) → n ≤ 15 → arm ≡ n + 32 * k → (t : Active) (o : List Fork) → Refused n k t o what) → SetsBy x least arm what r s v nums kinds nums kinds
+      → ((n k : ℕ) → n ≤ 17 → arm ≡ n + 32 * k → (t : Active) (o : List Fork) → Refused n k t o what) → SetsBy x least arm what r s v nums kinds nums kinds
   refused what l small few e = record {
     still-sized = sized;
     carried = λ q. (small, few);
@@ -219,15 +219,15 @@ abbrev sorted : List ℕ → ℕ → ℕ → Bool
 sorted arms k n =
     oneOf (n + 32 * k) arms || ((leb 66 (n + 32 * k) && leb (n + 32 * k) 73) || (ltb n 1 || (leb 10 n && not (eqb n 11))))
 
-registers-sorted : every (sorted ofRegister 1) 16 0 ≡ true
+registers-sorted : every (sorted ofRegister 1) 18 0 ≡ true
 unfolding every
 registers-sorted = refl
 
-labels-sorted : every (sorted immediate 2) 16 0 ≡ true
+labels-sorted : every (sorted immediate 2) 18 0 ≡ true
 unfolding every
 labels-sorted = refl
 
-numbers-sorted : every (sorted immediate 3) 16 0 ≡ true
+numbers-sorted : every (sorted immediate 3) 18 0 ≡ true
 unfolding every
 numbers-sorted = refl
 
@@ -235,11 +235,11 @@ second : (a b : Bool) → a ≡ false → a || b ≡ true → b ≡ true
 second true b e h = clash refl e
 second false b e h = h
 
--- an arm that is not among them is of opcode 10 or 12 to 15
-other-opcode : (arms : List ℕ) (k : ℕ) → every (sorted arms k) 16 0 ≡ true → (arm : ℕ) → NoneOf arm arms → (66 ≤ arm → arm ≤ 73 → ⊥)
-    → (n : ℕ) → 1 ≤ n → n ≤ 15 → arm ≡ n + 32 * k → (10 ≤ n) × (n ≡ 11 → ⊥)
+-- an arm that is not among them is of opcode 10 or 12 to 17
+other-opcode : (arms : List ℕ) (k : ℕ) → every (sorted arms k) 18 0 ≡ true → (arm : ℕ) → NoneOf arm arms → (66 ≤ arm → arm ≤ 73 → ⊥)
+    → (n : ℕ) → 1 ≤ n → n ≤ 17 → arm ≡ n + 32 * k → (10 ≤ n) × (n ≡ 11 → ⊥)
 other-opcode arms k all arm rest outside n least most e =
-    let t = every-at (sorted arms k) 16 0 all n (omega arith) (omega (arith, most)) in
+    let t = every-at (sorted arms k) 18 0 all n (omega arith) (omega (arith, most)) in
     let u = second (oneOf (n + 32 * k) arms) _ (subst (λ a. oneOf a arms ≡ false) e (none-of arm arms rest)) t in
     let w = second (leb 66 (n + 32 * k) && leb (n + 32 * k) 73) _ (subst (λ a. leb 66 a && leb a 73 ≡ false) e between) u in
     let b = both-true (leb 10 n) (not (eqb n 11)) (second (ltb n 1) _ (le-ltb n 1 least) w) in

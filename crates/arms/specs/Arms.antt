@@ -88,11 +88,11 @@ pub record CanSet (cells code nums kinds : List ℕ) (depth pc arm s v : ℕ) : 
 pub record SetsBy (x : Context) (least arm what r s v : ℕ) (nums kinds nums′ kinds′ : List ℕ) : Type 0 where
   pub still-sized : Sized nums′ kinds′
   pub carried : (what ≡ 1 → ⊥) → (arm < 128) × (arm % 32 < 13)
-  pub as-table : (what ≡ 1 → ⊥) → (n k : ℕ) → n ≤ 15 → arm ≡ n + 32 * k
+  pub as-table : (what ≡ 1 → ⊥) → (n k : ℕ) → n ≤ 17 → arm ≡ n + 32 * k
       → SetsAs x (getD opcodes n unknown) what r nums kinds nums′ kinds′ (inRegister s) (operandBy k v)
   pub untouched : what ≡ 1 → registersOf nums′ kinds′ ≡ registersOf nums kinds
-  -- the opcodes 10 and 12 to 15
-  pub others : what ≡ 1 → (n k : ℕ) → 1 ≤ n → n ≤ 15 → least ≤ k → k ≤ 3 → arm ≡ n + 32 * k → (10 ≤ n) × (n ≡ 11 → ⊥)
+  -- the opcodes 10 and 12 to 17
+  pub others : what ≡ 1 → (n k : ℕ) → 1 ≤ n → n ≤ 17 → least ≤ k → k ≤ 3 → arm ≡ n + 32 * k → (10 ≤ n) × (n ≡ 11 → ⊥)
 
 -- ---- It goes elsewhere
 

@@ -26,11 +26,17 @@ use Rattle.arms.specs.declared.Stopped.{Stopped}
 use Rattle.arms.specs.Registers.{registersOf, Sized, inRegister}
 use Rattle.arms.specs.Code.{Decodes}
 
--- a running task with these numbers and registers
-abbrev pub frameAt : ℕ → ℕ → List Fork → ℕ → ℕ → ℕ → List Register → Frame
-frameAt places depth forks pc counter span registers = record {
-  task = record { status = Running; places = places; pc = pc; counter = counter; span = span; depth = depth; forks = forks };
+-- a task's stack, which no instruction that it carries out by itself looks at or changes
+pub record Stacked : Type 0 where
+  pub height : ℕ
+  pub values : List Register
+
+-- a running task with these numbers, this stack and these registers
+abbrev pub frameAt : ℕ → ℕ → List Fork → ℕ → ℕ → ℕ → Stacked → List Register → Frame
+frameAt places depth forks pc counter span u registers = record {
+  task = record { status = Running; places = places; pc = pc; counter = counter; span = span; depth = depth; height = u .height; forks = forks };
   registers = registers;
+  stack = u .values;
 }
 
 -- what the tasks of a job do by themselves
@@ -65,8 +71,10 @@ pub record Starts (cells code nums kinds : List ℕ) (places depth left beat pc 
   pub height : ℕ
   pub forks : List Fork
   pub span : ℕ
+  pub stacked : Stacked
   pub room : rank ≤ 6
-  pub is-formed : formed (programOf cells) rank height (frameAt places depth forks (pc / 4) (beat - left) span (registersOf nums kinds)) ≡ true
+  pub is-formed : formed (programOf cells) rank height
+      (frameAt places depth forks (pc / 4) (beat - left) span stacked (registersOf nums kinds)) ≡ true
   pub accepted-program : programNo cells ≡ 0
   pub decodes : Decodes cells code
   pub sized : Sized nums kinds
@@ -76,35 +84,40 @@ pub record Starts (cells code nums kinds : List ℕ) (places depth left beat pc 
 
 -- ---- What they do
 
+-- the opcode of an instruction that a task does not carry out by itself: fork, join, push, pop or halt
+abbrev pub LeftOpcode : ℕ → Type 0
+LeftOpcode n = (n ≡ 12 → ⊥) → (n ≡ 15 → ⊥) → (n ≡ 16 → ⊥) → (n ≡ 17 → ⊥) → n ≡ 14
+
 module _ (cells : List ℕ) (words : List ℤ) (interval places depth : ℕ) where
-  -- the instruction at pc, which such a task with these registers does not carry out by itself: a fault with this number, or fork, halt or join (1)
+  -- the instruction at pc, which such a task with these registers does not carry out by itself: a fault with this number, or fork, halt, join,
+  -- push or pop (1)
   pub record Ends (what pc counter : ℕ) (registers : List Register) : Type 0 where
-    pub faults-there : 2 ≤ what → (forks : List Fork) (span : ℕ)
-        → executedOf (programOf cells) words (chosen interval) (frameAt places depth forks pc counter span registers) ≡ ending Faults what
-    pub left-there : what ≡ 1 → (instructionOf cells pc .opcode ≡ 12 → ⊥) → (instructionOf cells pc .opcode ≡ 15 → ⊥) → instructionOf cells pc .opcode ≡ 14
+    pub faults-there : 2 ≤ what → (forks : List Fork) (span : ℕ) (u : Stacked)
+        → executedOf (programOf cells) words (chosen interval) (frameAt places depth forks pc counter span u registers) ≡ ending Faults what
+    pub left-there : what ≡ 1 → LeftOpcode (instructionOf cells pc .opcode)
 
   -- one instruction, after which `left` is left
   pub record Turned (pc beat left : ℕ) (before : List Register) (g : Gone) (after : List Register) : Type 0 where
-    pub steps : g .what ≡ 0 → (forks : List Fork) (span : ℕ)
-        → step (programOf cells) words (chosen interval) (frameAt places depth forks (pc / 4) (beat - (left + 1)) span before)
-        ≡ one (frameAt places depth forks (g .pc / 4) (g .beat - left) (span + 1) after)
+    pub steps : g .what ≡ 0 → (forks : List Fork) (span : ℕ) (u : Stacked)
+        → step (programOf cells) words (chosen interval) (frameAt places depth forks (pc / 4) (beat - (left + 1)) span u before)
+        ≡ one (frameAt places depth forks (g .pc / 4) (g .beat - left) (span + 1) u after)
     pub stays : (g .what ≡ 0 → ⊥) → (after ≡ before) × Ends (g .what) (pc / 4) (beat - (left + 1)) before
     pub aligned : g .pc ≡ 4 * (g .pc / 4)
     pub inside : g .what ≡ 0 → g .pc / 4 < instructionCount cells
     pub counted : left ≤ g .beat
     pub beat-most : g .beat ≤ beat
 
-  -- several: they are the run so far, whatever the task's open forks, its span and the forks pending
+  -- several: they are the run so far, whatever the task's open forks, its span, its stack and the forks pending
   pub record Runs (pc beat left : ℕ) (before : List Register) (pc′ beat′ left′ : ℕ) (after : List Register) : Type 0 where
-    pub same-run : (forks : List Fork) (span : ℕ) (s : Pending Frame)
-        → run (rules cells words interval) left (held (frameAt places depth forks (pc / 4) (beat - left) span before) s)
-        ≡ run (rules cells words interval) left′ (held (frameAt places depth forks (pc′ / 4) (beat′ - left′) (span + (left - left′)) after) s)
-    pub keeps-formed : (forks : List Fork) (span D h : ℕ) → D ≤ 6
-        → formed (programOf cells) D h (frameAt places depth forks (pc / 4) (beat - left) span before) ≡ true
-        → formed (programOf cells) D h (frameAt places depth forks (pc′ / 4) (beat′ - left′) (span + (left - left′)) after) ≡ true
-    pub keeps-within : (forks : List Fork) (span W : ℕ)
-        → within W (frameAt places depth forks (pc / 4) (beat - left) span before) ≡ true
-        → within (W + (left - left′)) (frameAt places depth forks (pc′ / 4) (beat′ - left′) (span + (left - left′)) after) ≡ true
+    pub same-run : (forks : List Fork) (span : ℕ) (u : Stacked) (s : Pending Frame)
+        → run (rules cells words interval) left (held (frameAt places depth forks (pc / 4) (beat - left) span u before) s)
+        ≡ run (rules cells words interval) left′ (held (frameAt places depth forks (pc′ / 4) (beat′ - left′) (span + (left - left′)) u after) s)
+    pub keeps-formed : (forks : List Fork) (span : ℕ) (u : Stacked) (D h : ℕ) → D ≤ 6
+        → formed (programOf cells) D h (frameAt places depth forks (pc / 4) (beat - left) span u before) ≡ true
+        → formed (programOf cells) D h (frameAt places depth forks (pc′ / 4) (beat′ - left′) (span + (left - left′)) u after) ≡ true
+    pub keeps-within : (forks : List Fork) (span : ℕ) (u : Stacked) (W : ℕ)
+        → within W (frameAt places depth forks (pc / 4) (beat - left) span u before) ≡ true
+        → within (W + (left - left′)) (frameAt places depth forks (pc′ / 4) (beat′ - left′) (span + (left - left′)) u after) ≡ true
     pub aligned : pc′ ≡ 4 * (pc′ / 4)
     pub inside : pc′ / 4 < instructionCount cells
     pub counted : left′ ≤ beat′

@@ -26,7 +26,7 @@ fn jumps_to_label(x: Instruction) -> bool
 // `decode_one` alone calls it, with an instruction of an accepted program. A block that is not promotion-ready is entered without a question, so
 // a jump to its label has an arm of its own.
 fn arm_of(cells: &[u64], x: Instruction) -> Arm
-    requires { ⌜ (programNo (now cells) ≡ 0) × (x .opcode ≤ 15) × (x .kind ≤ 3) × (x .kind ≡ 2 → x .operand < blockCount (now cells)) ⌝ }
+    requires { ⌜ (programNo (now cells) ≡ 0) × (x .opcode ≤ 17) × (x .kind ≤ 3) × (x .kind ≡ 2 → x .operand < blockCount (now cells)) ⌝ }
     ensures { λ r. ⌜ Armed (now (cells .entry)) x (r .number) (r .operand) ⌝ }
 {
     let number = x.opcode + 32 * x.kind;

@@ -1,4 +1,4 @@
-// The loop of a task by itself: one turn is one instruction that neither forks nor ends the task.
+// The loop of a task by itself: one turn is one instruction that neither forks nor ends the task, and leaves its stack alone.
 use crate::Gone;
 use crate::Stopped;
 use crate::jumps::branch_plain;

@@ -7,7 +7,7 @@ use borrow.Author.Tests.{eqb-true, not-true}
 use Rattle.facts.proofs.Tests.{both-true}
 use Rattle.int64.specs.Little.{little, bytesOf}
 use Rattle.image.specs.Layout.{rows, buffer, cellsIn}
-use Rattle.image.specs.Questions.{orElse, firstNo, countsNo, rising, unjoined, joined, annotated, blockNo, register, operandFits, laidOut, startsAt, lastInBlock, instructionNo, recordsNo}
+use Rattle.image.specs.Questions.{orElse, firstNo, versionNo, countsNo, rising, unjoined, joined, annotated, blockNo, register, operandFits, laidOut, startsAt, lastInBlock, instructionNo, recordsNo}
 use Rattle.image.specs.Doors.{markIn, headerNo, imageNo}
 use Rattle.agreement.specs.Plain.{eval}
 use Rattle.agreement.specs.Slots.{settle, carry}
@@ -41,7 +41,7 @@ laneTest row =
 
 lanes-pass : every laneTest laneRows ≡ true
 unfolding laneRows imageF caseF assembled forking bytesOf little rows buffer cellsIn
-    imageNo markIn headerNo orElse firstNo countsNo rising unjoined joined annotated blockNo register operandFits laidOut startsAt
+    imageNo markIn headerNo orElse firstNo versionNo countsNo rising unjoined joined annotated blockNo register operandFits laidOut startsAt
     lastInBlock instructionNo recordsNo
     eval step operand asked promotes belong fits copied join
     play pick carry settle reads rank fresh

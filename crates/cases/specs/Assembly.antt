@@ -78,6 +78,13 @@ halt = record { opcode = 14; r = 0; s = 0; kind = 0; operand = 0 }
 abbrev pub join : Operand → Instruction
 join v = instruction 15 0 0 v
 
+-- version 2: push v, pop r
+abbrev pub push : Operand → Instruction
+push v = instruction 16 0 0 v
+
+abbrev pub pop : ℕ → Instruction
+pop r = record { opcode = 17; r = r; s = 0; kind = 0; operand = 0 }
+
 -- ---- Blocks
 
 -- a pair: the child's register, and the target that it is copied to
@@ -113,7 +120,7 @@ recordOf first (ready handler) = record { first = first; annotation = 1; policy 
 recordOf first (target policy pairs combining) =
     record { first = first; annotation = 2; policy = policyOf policy; label = combining; pairs = length pairs; packed = packedOf pairs }
 
--- ---- The image
+-- ---- The image, of version 1 or 2
 
 -- all instructions, block after block
 abbrev pub allCode : List Listed → List Instruction
@@ -125,13 +132,14 @@ codeBytes [] = []
 codeBytes (x ∷ code) = instructionBytes x ++ codeBytes code
 
 -- the block records, the first of which starts at an instruction
-abbrev pub recordsFrom : ℕ → List Listed → List ℕ
-recordsFrom first [] = []
-recordsFrom first (block note code ∷ blocks) = blockBytes (recordOf first note) ++ recordsFrom (first + length code) blocks
+abbrev pub recordsFrom : ℕ → ℕ → List Listed → List ℕ
+recordsFrom version first [] = []
+recordsFrom version first (block note code ∷ blocks) =
+    blockBytes version (recordOf first note) ++ recordsFrom version (first + length code) blocks
 
-unfoldable pub assembled : List Listed → List ℕ
-assembled blocks =
+unfoldable pub assembled : ℕ → List Listed → List ℕ
+assembled version blocks =
     mark
-    ++ (bytesOf 2 1
+    ++ (bytesOf 2 version
     ++ (bytesOf 1 (length blocks)
-    ++ (bytesOf 2 (length (allCode blocks)) ++ (recordsFrom 0 blocks ++ codeBytes (allCode blocks)))))
+    ++ (bytesOf 2 (length (allCode blocks)) ++ (recordsFrom version 0 blocks ++ codeBytes (allCode blocks)))))

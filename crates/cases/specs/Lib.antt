@@ -3,5 +3,6 @@ pub mod Assembly
 pub mod Cases
 pub mod ProgramF
 pub mod Figure2
+pub mod Calls
 pub mod Table
 pub mod Lanes

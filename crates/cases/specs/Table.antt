@@ -5,11 +5,12 @@ use Prim.Native.Nat.{ℕ, zero, suc, _+_, _-_, _^_}
 use lib.IntN.{ℤ, pos, negℤ}
 use lib.ListN.{length, replicate}
 use Rattle.image.specs.declared.Instruction.{Instruction}
-use Rattle.task.specs.declared.Value.the-variants.{Int, Record}
+use Rattle.task.specs.declared.Value.the-variants.{Int, Label, Record}
 use Rattle.drive.specs.declared.End.the-variants.{Halt, Fault}
 use Rattle.cases.specs.Assembly.{block, none, int, plus, divide, modulo, less, halt, assembled}
 use Rattle.cases.specs.ProgramF.{imageF, twoFaults, haltInSide}
 use Rattle.cases.specs.Figure2.{product, c}
+use Rattle.cases.specs.Calls.{calling, popInSides, pushing}
 use Rattle.cases.specs.Cases.{Given, Held, held, Case, Right}
 
 -- start registers: these, and 0 in the others
@@ -52,7 +53,7 @@ onePlace = record {
 -- side faults first, or the child's
 unfoldable pub eitherFault : Case
 eitherFault = record {
-  given = forF (assembled twoFaults) 2;
+  given = forF (assembled 1 twoFaults) 2;
   orders = (0 ∷ 0 ∷ 0 ∷ 1 ∷ []) ∷ (0 ∷ 0 ∷ 1 ∷ 0 ∷ []) ∷ [];
   outcome = record { end = Fault 33; work = 4; span = 3; registers = zerosFrom 16 0 };
 }
@@ -60,7 +61,7 @@ eitherFault = record {
 -- a side that halts
 unfoldable pub sideHalts : Case
 sideHalts = record {
-  given = forF (assembled haltInSide) 2;
+  given = forF (assembled 1 haltInSide) 2;
   orders = [];
   outcome = record { end = Fault 38; work = 5; span = 4; registers = zerosFrom 16 0 };
 }
@@ -69,7 +70,7 @@ sideHalts = record {
 
 abbrev pub forProduct : ℕ → ℕ → Given
 forProduct interval a = record {
-  image = assembled product;
+  image = assembled 1 product;
   places = 2;
   interval = interval;
   registers = thenZeros (pos a ∷ pos 5 ∷ []);
@@ -120,7 +121,7 @@ belowInterval = record {
 
 abbrev pub on : ℤ → Instruction → Instruction → Given
 on z first second = record {
-  image = assembled (block none (first ∷ second ∷ halt ∷ []) ∷ []);
+  image = assembled 1 (block none (first ∷ second ∷ halt ∷ []) ∷ []);
   places = 1;
   interval = 0;
   registers = thenZeros (z ∷ pos 9 ∷ pos 9 ∷ []);
@@ -159,6 +160,39 @@ trueIsZero = gives (on (pos 1) (less 1 0 (int (pos 2))) (less 2 0 (int (pos 1)))
 unfoldable pub sumWraps : Case
 sumWraps = gives (on greatest (plus 1 0 (int (pos 1))) (plus 2 0 (int (pos 0)))) least greatest
 
+-- ---- Document 02, request 4: stacks. Version 2, the start of F
+
+-- a call and return, twice: 3 instructions in block 0, 3 in block 3, 2 in block 1, 3 in block 3 again, 2 in block 2. r0 is 4, 8, then 16;
+-- r1 has the last label come back to, and r2 the 4 that was pushed first
+unfoldable pub callReturns : Case
+callReturns = record {
+  given = forF (assembled 2 calling) 1;
+  orders = [];
+  outcome = record {
+    end = Halt;
+    work = 13;
+    span = 13;
+    registers = held 0 (Int (pos 16)) ∷ held 1 (Label 2) ∷ held 2 (Int (pos 4)) ∷ zerosFrom 13 3;
+  };
+}
+
+-- a child's empty stack: 3 instructions up to the fork, the parent's pop and join, the child's pop, in which it faults. (The span is the
+-- parent's, 5; had its pop faulted too, the work would be 5.) The child's side ends last, or the parent's
+unfoldable pub childPops : Case
+childPops = record {
+  given = forF (assembled 2 popInSides) 2;
+  orders = (0 ∷ 0 ∷ 0 ∷ 0 ∷ 0 ∷ 1 ∷ []) ∷ (0 ∷ 0 ∷ 0 ∷ 1 ∷ 0 ∷ 0 ∷ []) ∷ [];
+  outcome = record { end = Fault 43; work = 6; span = 5; registers = zerosFrom 16 0 };
+}
+
+-- 33 pushes: the stack has 32 values when the 33rd faults, before halt
+unfoldable pub onePushMore : Case
+onePushMore = record {
+  given = forF (assembled 2 (pushing 33)) 1;
+  orders = [];
+  outcome = record { end = Fault 42; work = 33; span = 33; registers = zerosFrom 16 0 };
+}
+
 -- ---- All of them
 
 unfoldable pub table : List Case
@@ -166,6 +200,7 @@ table =
     caseF ∷ onePlace ∷ eitherFault ∷ sideHalts
     ∷ product2 ∷ product3 ∷ product4 ∷ onInterval ∷ belowInterval
     ∷ towardZero ∷ leastNegated ∷ trueIsZero ∷ sumWraps
+    ∷ callReturns ∷ childPops ∷ onePushMore
     ∷ []
 
 abbrev pub StarredCases : Type 0

@@ -1,8 +1,7 @@
--- Faults inside a task, 31 to 38, and where two questions of one instruction are both a no: document 01's order decides.
+-- Faults inside a task, 31 to 38, 42 and 43, and where two questions of one instruction are both a no: document 01's order decides.
 use mathlib.Core.Bool.{cond}
 use mathlib.Core.List.{List, [], _∷_, _++_, map}
 use Prim.Native.Nat.{ℕ, _-_}
-use lib.Dec.{leb}
 use lib.IntN.{ℤ, pos, negsuc}
 use lib.ListN.{length, replicate}
 use lib.Seq.{sets}
@@ -13,23 +12,25 @@ use Rattle.task.specs.declared.Value.the-variants.{Int, Label, Record}
 use Rattle.task.specs.declared.Status.the-variants.{Running}
 use Rattle.task.specs.declared.Fork.{Fork}
 use Rattle.task.specs.declared.Frame.{Frame}
-use Rattle.task.specs.Frames.{zeroRegister, zeroFork}
-use Rattle.cases.specs.Assembly.{block, none, target, assoc, reg, label, int, instruction, move, divide, modulo, word, ifJump, jralloc, fork, jump, halt, join, assembled}
+use Rattle.task.specs.Frames.{emptyStack, zeroRegister, zeroFork}
+use Rattle.task.specs.Step.{withHeight}
+use Rattle.cases.specs.Assembly.{block, none, target, assoc, reg, label, int, instruction, move, divide, modulo, word, ifJump, jralloc, fork, jump, halt, join, push, pop, assembled}
 use Rattle.doors.specs.Doors.{Call, Row, _gives_, issue}
+use Rattle.doors.specs.Fields.{isLast}
 
 -- ---- The task that issues an instruction
 
 -- block 1 is a join target, block 2 is not; block 0 has room for an instruction that goes on, or for one that ends its block
 unfoldable pub goingOn : List ℕ
 goingOn =
-    cellsIn (assembled (block none (halt ∷ halt ∷ []) ∷ block (target assoc [] 2) (halt ∷ []) ∷ block none (halt ∷ []) ∷ []))
+    cellsIn (assembled 2 (block none (halt ∷ halt ∷ []) ∷ block (target assoc [] 2) (halt ∷ []) ∷ block none (halt ∷ []) ∷ []))
 
 unfoldable pub ending : List ℕ
-ending = cellsIn (assembled (block none (halt ∷ []) ∷ block (target assoc [] 2) (halt ∷ []) ∷ block none (halt ∷ []) ∷ []))
+ending = cellsIn (assembled 2 (block none (halt ∷ []) ∷ block (target assoc [] 2) (halt ∷ []) ∷ block none (halt ∷ []) ∷ []))
 
 -- the instruction is the first of block 0
 abbrev pub program : Instruction → List ℕ
-program x = sets (cond (leb 13 (x .opcode)) ending goingOn) 770 (instructionCells x)
+program x = sets (cond (isLast (x .opcode)) ending goingOn) 771 (instructionCells x)
 
 -- its registers: integers 0 and 5, labels of both blocks, and records: of block 1 at depth 0 and 1, of block 2 at depth 0
 abbrev pub values : List Value
@@ -70,9 +71,11 @@ task places forks = record {
     counter = 0;
     span = 0;
     depth = length forks;
+    height = 0;
     forks = forks ++ replicate (6 - length forks) zeroFork;
   };
   registers = map (λ v. record { value = v }) values ++ replicate (16 - length values) zeroRegister;
+  stack = emptyStack;
 }
 
 abbrev pub under : ℕ → ℕ → Fork
@@ -87,6 +90,10 @@ inside places = task places (under 1 0 ∷ [])
 
 abbrev pub nested : ℕ → Frame
 nested places = task places (under 1 0 ∷ under 1 1 ∷ [])
+
+-- with so many values on its stack, which are integers 0
+abbrev pub holding : ℕ → Frame
+holding n = record { task = withHeight n (alone 1 .task); registers = alone 1 .registers; stack = emptyStack }
 
 -- the instruction issued by a task, with a call record of two words, and with an empty one
 abbrev pub onWords : List ℤ → Instruction → Frame → Call
@@ -187,5 +194,23 @@ others =
     ∷ on halt (nested 1) gives 38
     ∷ []
 
+unfoldable pub onStacks : List Row
+onStacks =
+    -- push v: A place left on the stack? (42) Whatever the value
+    on (push (int (pos 1))) (holding 0) gives 0
+    ∷ on (push (label 2)) (holding 0) gives 0
+    ∷ on (push (reg rec10)) (holding 0) gives 0
+    ∷ on (push (int (pos 1))) (holding 31) gives 0
+    ∷ on (push (int (pos 1))) (holding 32) gives 42
+    ∷ on (push (reg rec10)) (holding 32) gives 42
+    -- pop r: Something on it? (43)
+    ∷ on (pop r) (holding 0) gives 43
+    ∷ on (pop r) (holding 1) gives 0
+    ∷ on (pop r) (holding 32) gives 0
+    -- another instruction asks nothing of it
+    ∷ on (move r (int (pos 1))) (holding 32) gives 0
+    ∷ on halt (holding 32) gives 0
+    ∷ []
+
 unfoldable pub faultRows : List Row
-faultRows = operations ++ others
+faultRows = operations ++ (others ++ onStacks)

@@ -3,7 +3,10 @@
 use mathlib.Core.List.{List, [], _∷_, _++_}
 use Prim.Native.Nat.{ℕ, _+_, _*_}
 use lib.ListN.{length, set, take, replicate}
+use lib.Seq.{sets}
+use Rattle.cases.specs.Assembly.{assembled}
 use Rattle.cases.specs.ProgramF.{imageF}
+use Rattle.cases.specs.ProgramF.{programF as listedF}
 use Rattle.doors.specs.Doors.{Asked, _gets_, Row, _gives_, check, read, rewrite, readBytes, orLater}
 use Rattle.doors.specs.Fields.{fields}
 
@@ -60,6 +63,21 @@ kind = 3
 abbrev pub operand : ℕ
 operand = 4
 
+-- ---- F of version 2, whose block records have 14 bytes: 172 in all
+
+unfoldable pub secondF : List ℕ
+secondF = assembled 2 listedF
+
+abbrev pub inBlock2 : ℕ → ℕ → ℕ → List ℕ → List ℕ
+inBlock2 b field byte image = set image (8 + 14 * b + field) byte
+
+abbrev pub inCode2 : ℕ → ℕ → ℕ → List ℕ → List ℕ
+inCode2 i field byte image = set image (8 + 14 * 4 + 12 * i + field) byte
+
+-- its block 2 with eight pair bytes: r0 to r1, to r2, .., to r8
+abbrev pub eightBytes : List ℕ → List ℕ
+eightBytes image = sets image (8 + 14 * 2 + 6) (1 ∷ 2 ∷ 3 ∷ 4 ∷ 5 ∷ 6 ∷ 7 ∷ 8 ∷ [])
+
 -- ---- Headers: questions 1 to 5
 
 unfoldable pub headers : List Asked
@@ -74,18 +92,21 @@ headers =
     ∷ set imageF 1 81 gets 2
     ∷ set imageF 2 67 gets 2
     -- with a wrong version too
-    ∷ set (set imageF 2 67) version 2 gets 2
-    -- Version 1? (3)
+    ∷ set (set imageF 2 67) version 3 gets 2
+    -- Version 1 or 2? (3) 0, 3, 257 and 258
     ∷ set imageF version 0 gets 3
-    ∷ set imageF version 2 gets 3
+    ∷ set imageF version 3 gets 3
     ∷ set imageF (version + 1) 1 gets 3
+    ∷ set (set imageF version 2) (version + 1) 1 gets 3
     -- with no block too
-    ∷ set (set imageF version 2) blocks 0 gets 3
+    ∷ set (set imageF version 3) blocks 0 gets 3
     -- B in 1 to 128 and I in 1 to 1,024? (4) F's length is wrong for these too
     ∷ set imageF blocks 0 gets 4
     ∷ set imageF blocks 129 gets 4
     ∷ set imageF blocks 255 gets 4
     ∷ set imageF instructions 0 gets 4
+    -- of version 2 too
+    ∷ set (set imageF version 2) blocks 129 gets 4
     -- I 1,025
     ∷ set (set imageF instructions 1) (instructions + 1) 4 gets 4
     -- Length 8 + 10·B + 12·I? (5) B 128, I 1,024, I 265, 8 bytes, a byte too few or too many
@@ -99,6 +120,11 @@ headers =
     ∷ (imageF ++ (0 ∷ [])) gets 5
     -- with a block 0 that starts at 1 too
     ∷ (inBlock 0 first 1 imageF ++ (0 ∷ [])) gets 5
+    -- of version 2 it is 8 + 14·B + 12·I: records of 10 bytes in version 2, and of 14 in version 1; a byte too few or too many
+    ∷ set imageF version 2 gets 5
+    ∷ set secondF version 1 gets 5
+    ∷ take 171 secondF gets 5
+    ∷ (secondF ++ (0 ∷ [])) gets 5
     ∷ []
 
 -- ---- Records: questions 6 to 9. F has blocks at 0, 4, 6 and 7, and nine instructions; block 2 is its join target
@@ -184,12 +210,46 @@ records =
     ∷ inBlock 3 first 8 imageF gets 9
     ∷ []
 
+-- the same questions of version 2
+unfoldable pub secondRecords : List Asked
+secondRecords =
+    secondF gets 0
+    -- 6 and 7, where the records of 14 bytes have them
+    ∷ inBlock2 1 first 0 secondF gets 6
+    ∷ inBlock2 3 first 9 secondF gets 6
+    ∷ inBlock2 3 annotation 3 secondF gets 7
+    ∷ inBlock2 0 (pair 7) 1 secondF gets 7
+    -- five pairs, and eight at most
+    ∷ inBlock2 2 pairs 5 (inBlock2 2 (pair 5) 0 (inBlock2 2 (pair 6) 0 (inBlock2 2 (pair 7) 0 (eightBytes secondF)))) gets 0
+    ∷ inBlock2 2 pairs 8 (eightBytes secondF) gets 0
+    ∷ inBlock2 2 pairs 9 (eightBytes secondF) gets 7
+    -- one fewer in use, one more; the last not in rising order of target
+    ∷ inBlock2 2 pairs 7 (eightBytes secondF) gets 7
+    ∷ inBlock2 2 pairs 8 (inBlock2 2 (pair 7) 0 (eightBytes secondF)) gets 7
+    ∷ inBlock2 2 pairs 8 (inBlock2 2 (pair 7) 23 (eightBytes secondF)) gets 7
+    -- push 1 for the sum, pop r0 for the child's move; opcode 18
+    ∷ inCode2 2 opcode 16 secondF gets 0
+    ∷ inCode2 4 opcode 17 (inCode2 4 kind 0 (inCode2 4 operand 0 secondF)) gets 0
+    ∷ inCode2 2 opcode 18 secondF gets 8
+    -- push with r, pop with v
+    ∷ inCode2 2 r 1 (inCode2 2 opcode 16 secondF) gets 8
+    ∷ inCode2 4 opcode 17 secondF gets 8
+    -- push and pop as the last of a block, in the middle of the code and at its end
+    ∷ inCode2 5 opcode 16 secondF gets 9
+    ∷ inCode2 8 opcode 16 secondF gets 9
+    ∷ inCode2 8 opcode 17 (inCode2 8 kind 0 (inCode2 8 operand 0 secondF)) gets 9
+    ∷ []
+
 -- ---- At the doors
 
--- one row for each of 6 to 9
+-- one row for each of 6 to 9 in version 1, and of 7 to 9 in version 2 with what that alone has
 unfoldable pub someRecords : List Asked
 someRecords =
     imageF gets 0
+    ∷ inBlock2 2 pairs 9 (eightBytes secondF) gets 7
+    ∷ inCode2 2 opcode 16 secondF gets 0
+    ∷ inCode2 2 opcode 18 secondF gets 8
+    ∷ inCode2 8 opcode 16 secondF gets 9
     ∷ inBlock 2 first 4 imageF gets 6
     ∷ inBlock 2 annotation 3 imageF gets 7
     ∷ inCode 8 opcode 16 imageF gets 8
@@ -204,13 +264,15 @@ atCheck ((image gets n) ∷ images) = check image gives n ∷ atCheck images
 abbrev pub atReaders : List Asked → List Row
 atReaders [] = []
 atReaders ((image gets n) ∷ images) =
-    read image 5890 gives n
-    ∷ read image 5889 gives orLater n 15
+    read image 5891 gives n
+    ∷ read image 5890 gives orLater n 15
     ∷ rewrite image (length image) gives n
     ∷ rewrite image (length image + 1) gives orLater n 15
-    ∷ readBytes image 47120 gives n
-    ∷ readBytes image 5890 gives orLater n 15
+    ∷ readBytes image 47128 gives n
+    ∷ readBytes image 5891 gives orLater n 15
     ∷ atReaders images
 
 unfoldable pub imageRows : List Row
-imageRows = atCheck (headers ++ records ++ fields) ++ atReaders (headers ++ someRecords)
+imageRows =
+    atCheck headers
+    ++ (atCheck records ++ (atCheck secondRecords ++ (atCheck fields ++ (atReaders headers ++ atReaders someRecords))))

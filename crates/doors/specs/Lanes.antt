@@ -15,9 +15,10 @@ laneRows =
     ∷ dispatch programF [] fresh 8 gives 0
     ∷ dispatch programF [] fresh 9 gives 41
     -- the program's questions, 14 and 15 come before it
-    ∷ dispatch (set programF 0 129) [] fresh 9 gives 4
+    ∷ dispatch (set programF 0 3) [] fresh 9 gives 3
+    ∷ dispatch (set programF 1 129) [] fresh 9 gives 4
     ∷ dispatch programF (zeros 4097) fresh 9 gives 14
-    ∷ dispatch (take 815 programF) [] fresh 9 gives 15
+    ∷ dispatch (take 816 programF) [] fresh 9 gives 15
     -- and 20 after it
     ∷ dispatch programF [] noState 9 gives 41
     ∷ dispatch programF [] noState 8 gives 20

@@ -4,13 +4,14 @@ use mathlib.Core.List.{List, [], _∷_, _++_}
 use Prim.Native.Nat.{ℕ}
 use lib.IntN.{pos}
 use lib.ListN.{take}
+use Rattle.task.specs.declared.Value.{Value}
 use Rattle.task.specs.declared.Value.the-variants.{Int, Label, Record}
 use Rattle.task.specs.declared.Status.the-variants.{Waiting, Halted, Faulted}
 use Rattle.drive.specs.declared.State.{State}
 use Rattle.doors.specs.Doors.{Call, Row, _gives_, says, refused, ended, spent, pick, run}
-use Rattle.doors.specs.Programs.{programF, onlyHalt, zeros, noState}
+use Rattle.doors.specs.Programs.{programF, secondF, onlyHalt, zeros, noState}
 use Rattle.doors.specs.States.{after, fresh, forked, parentWaits, halted, faulted}
-use Rattle.doors.specs.States.{withPlaces, withInterval, withWork, status, places, pc, counter, span, depth, fork, register, but, copied}
+use Rattle.doors.specs.States.{withPlaces, withInterval, withWork, status, places, pc, counter, span, depth, height, fork, register, entry, but, copied}
 
 -- a pick of F's task in a slot, with no words
 abbrev pub pickF : State → ℕ → Call
@@ -25,18 +26,18 @@ lentRows =
     ∷ pick programF (zeros 4097) fresh 0 gives 14
     ∷ run programF (zeros 4096) fresh 0 gives 0
     ∷ run programF (zeros 4097) fresh 0 gives 14
-    -- in a program buffer of 815 cells too
-    ∷ pick (take 815 programF) (zeros 4097) fresh 0 gives 14
-    ∷ run (take 815 programF) (zeros 4097) fresh 0 gives 14
+    -- in a program buffer of 816 cells too
+    ∷ pick (take 816 programF) (zeros 4097) fresh 0 gives 14
+    ∷ run (take 816 programF) (zeros 4097) fresh 0 gives 14
     -- Every lent buffer of the length docs/ names? (15)
-    ∷ pick (take 815 programF) [] fresh 0 gives 15
-    ∷ pick (take 5889 programF) [] fresh 0 gives 15
+    ∷ pick (take 816 programF) [] fresh 0 gives 15
+    ∷ pick (take 5890 programF) [] fresh 0 gives 15
     ∷ pick (programF ++ (0 ∷ [])) [] fresh 0 gives 15
-    ∷ run (take 815 programF) [] fresh 0 gives 15
+    ∷ run (take 816 programF) [] fresh 0 gives 15
     ∷ run (programF ++ (0 ∷ [])) [] fresh 0 gives 15
     -- with no state too
-    ∷ pick (take 815 programF) [] noState 0 gives 15
-    ∷ run (take 815 programF) [] noState 0 gives 15
+    ∷ pick (take 816 programF) [] noState 0 gives 15
+    ∷ run (take 816 programF) [] noState 0 gives 15
     -- Does the state meet the shape test for the program handed in? (20) Slot 0 is not below P 0 either
     ∷ pick programF [] noState 0 gives 20
     ∷ run programF [] noState 0 gives 20
@@ -100,6 +101,58 @@ shapeRows =
     ∷ pickF (but 0 (span 3) forked) 0 gives 20
     ∷ []
 
+-- ---- Question 20 about stacks, of F in version 2
+
+-- a pick of its task in a slot, with no words
+abbrev pub pickSecond : State → ℕ → Call
+pickSecond state slot = pick secondF [] state slot
+
+-- a stack of this height in slot 0, with the value in its first entry, or in its last
+abbrev pub onStack : ℕ → Value → State
+onStack n v = but 0 (height n) (but 0 (entry 0 v) fresh)
+
+abbrev pub onTop : ℕ → Value → State
+onTop n v = but 0 (height n) (but 0 (entry 31 v) fresh)
+
+unfoldable pub stackRows : List Row
+stackRows =
+    -- at most 32 values
+    pickSecond (but 0 (height 32) fresh) 0 gives 0
+    ∷ pickSecond (but 0 (height 33) fresh) 0 gives 20
+    -- those on the stack are as those in registers
+    ∷ pickSecond (onStack 1 (Int (pos 1))) 0 gives 0
+    ∷ pickSecond (onStack 1 (Label 3)) 0 gives 0
+    ∷ pickSecond (onStack 1 (Label 4)) 0 gives 20
+    ∷ pickSecond (onStack 1 (Record 2 0)) 0 gives 0
+    ∷ pickSecond (onStack 1 (Record 3 0)) 0 gives 20
+    ∷ pickSecond (onTop 32 (Label 3)) 0 gives 0
+    ∷ pickSecond (onTop 32 (Label 4)) 0 gives 20
+    -- and above the height there is integer 0
+    ∷ pickSecond (onStack 0 (Int (pos 1))) 0 gives 20
+    ∷ pickSecond (onStack 0 (Label 0)) 0 gives 20
+    ∷ pickSecond (onTop 31 (Int (pos 1))) 0 gives 20
+    -- a task that waits or has halted keeps its stack; one that has faulted has none
+    ∷ pickSecond (but 0 (height 1) parentWaits) 1 gives 0
+    ∷ pickSecond (but 0 (height 1) halted) 0 gives 22
+    ∷ pickSecond (but 0 (height 1) faulted) 0 gives 20
+    ∷ pickSecond (but 0 (entry 0 (Int (pos 1))) faulted) 0 gives 20
+    -- nor has a vacant slot, below P or not
+    ∷ pickSecond (but 1 (height 1) fresh) 0 gives 20
+    ∷ pickSecond (but 1 (entry 31 (Int (pos 1))) fresh) 0 gives 20
+    ∷ pickSecond (but 63 (height 1) fresh) 0 gives 20
+    -- Faulted with a number from 31 to 38, 42 or 43
+    ∷ pickSecond (but 0 (status (Faulted 41)) faulted) 0 gives 20
+    ∷ pickSecond (but 0 (status (Faulted 42)) faulted) 0 gives 22
+    ∷ pickSecond (but 0 (status (Faulted 43)) faulted) 0 gives 22
+    ∷ pickSecond (but 0 (status (Faulted 44)) faulted) 0 gives 20
+    -- of which version 1 has not 42 and 43; the run asks as the pick does
+    ∷ pickF (but 0 (status (Faulted 42)) faulted) 0 gives 20
+    ∷ pickF (but 0 (status (Faulted 43)) faulted) 0 gives 20
+    ∷ run programF [] (but 0 (status (Faulted 42)) faulted) 0 gives 20
+    ∷ run secondF [] (but 0 (status (Faulted 42)) faulted) 0 gives 0
+    ∷ run secondF [] (but 0 (height 33) fresh) 0 gives 20
+    ∷ []
+
 -- ---- The pick's: 21 to 24
 
 unfoldable pub slotRows : List Row
@@ -151,4 +204,4 @@ runRows =
     ∷ []
 
 unfoldable pub pickRows : List Row
-pickRows = lentRows ++ (shapeRows ++ (slotRows ++ runRows))
+pickRows = lentRows ++ (shapeRows ++ (stackRows ++ (slotRows ++ runRows)))

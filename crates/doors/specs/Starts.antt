@@ -45,10 +45,10 @@ startRows =
     ∷ startOf programF 2 0 16 1 gives 0
     ∷ startOf programF 2 0 16 4096 gives 0
     ∷ startOf programF 2 0 16 4097 gives 14
-    -- in a program buffer of 815 cells too
-    ∷ startOf (take 815 programF) 2 0 16 4097 gives 14
+    -- in a program buffer of 816 cells too
+    ∷ startOf (take 816 programF) 2 0 16 4097 gives 14
     -- Every lent buffer of the length docs/ names? (15)
-    ∷ startOf (take 815 programF) 2 0 16 0 gives 15
-    ∷ startOf (take 5889 programF) 2 0 16 0 gives 15
+    ∷ startOf (take 816 programF) 2 0 16 0 gives 15
+    ∷ startOf (take 5890 programF) 2 0 16 0 gives 15
     ∷ startOf (programF ++ (0 ∷ [])) 2 0 16 0 gives 15
     ∷ []

@@ -9,6 +9,7 @@ use Rattle.task.specs.declared.Status.{Status}
 use Rattle.task.specs.declared.Fork.{Fork}
 use Rattle.task.specs.declared.Task.{Task}
 use Rattle.task.specs.declared.Frame.{Frame}
+use Rattle.task.specs.Step.{withHeight}
 use Rattle.drive.specs.declared.State.{State}
 use Rattle.drive.specs.Slots.{at, put}
 use Rattle.machine.specs.Starting as start
@@ -46,20 +47,20 @@ faulted = after 1 (0 ∷ 0 ∷ [])
 -- ---- Those states changed
 
 abbrev pub withPlaces : ℕ → State → State
-withPlaces places m = record { places = places; interval = m .interval; work = m .work; bank = m .bank; tasks = m .tasks }
+withPlaces places m = record { places = places; interval = m .interval; work = m .work; bank = m .bank; stacks = m .stacks; tasks = m .tasks }
 
 abbrev pub withInterval : ℕ → State → State
-withInterval interval m = record { places = m .places; interval = interval; work = m .work; bank = m .bank; tasks = m .tasks }
+withInterval interval m = record { places = m .places; interval = interval; work = m .work; bank = m .bank; stacks = m .stacks; tasks = m .tasks }
 
 abbrev pub withWork : ℕ → State → State
-withWork work m = record { places = m .places; interval = m .interval; work = work; bank = m .bank; tasks = m .tasks }
+withWork work m = record { places = m .places; interval = m .interval; work = work; bank = m .bank; stacks = m .stacks; tasks = m .tasks }
 
--- a field of a task record, an entry of its forks, or a register
+-- a field of a task record, an entry of its forks, a register, or an entry of its stack
 pub data Change : Type 0 where
   status : Status → Change
-  places pc counter span depth : ℕ → Change
+  places pc counter span depth height : ℕ → Change
   fork : ℕ → Fork → Change
-  register : ℕ → Value → Change
+  register entry : ℕ → Value → Change
 
 abbrev pub taskBut : Change → Task → Task
 taskBut (status x) t = record {
@@ -69,6 +70,7 @@ taskBut (status x) t = record {
   counter = t .counter;
   span = t .span;
   depth = t .depth;
+  height = t .height;
   forks = t .forks;
 }
 taskBut (places n) t = record {
@@ -78,6 +80,7 @@ taskBut (places n) t = record {
   counter = t .counter;
   span = t .span;
   depth = t .depth;
+  height = t .height;
   forks = t .forks;
 }
 taskBut (pc n) t = record {
@@ -87,6 +90,7 @@ taskBut (pc n) t = record {
   counter = t .counter;
   span = t .span;
   depth = t .depth;
+  height = t .height;
   forks = t .forks;
 }
 taskBut (counter n) t = record {
@@ -96,6 +100,7 @@ taskBut (counter n) t = record {
   counter = n;
   span = t .span;
   depth = t .depth;
+  height = t .height;
   forks = t .forks;
 }
 taskBut (span n) t = record {
@@ -105,6 +110,7 @@ taskBut (span n) t = record {
   counter = t .counter;
   span = n;
   depth = t .depth;
+  height = t .height;
   forks = t .forks;
 }
 taskBut (depth n) t = record {
@@ -114,8 +120,10 @@ taskBut (depth n) t = record {
   counter = t .counter;
   span = t .span;
   depth = n;
+  height = t .height;
   forks = t .forks;
 }
+taskBut (height n) t = withHeight n t
 taskBut (fork i k) t = record {
   status = t .status;
   places = t .places;
@@ -123,9 +131,11 @@ taskBut (fork i k) t = record {
   counter = t .counter;
   span = t .span;
   depth = t .depth;
+  height = t .height;
   forks = set (t .forks) i k;
 }
 taskBut (register r v) t = t
+taskBut (entry i v) t = t
 
 abbrev pub registersBut : Change → List Register → List Register
 registersBut (status x) rs = rs
@@ -134,11 +144,25 @@ registersBut (pc n) rs = rs
 registersBut (counter n) rs = rs
 registersBut (span n) rs = rs
 registersBut (depth n) rs = rs
+registersBut (height n) rs = rs
 registersBut (fork i k) rs = rs
 registersBut (register r v) rs = set rs r (record { value = v })
+registersBut (entry i v) rs = rs
+
+abbrev pub stackBut : Change → List Register → List Register
+stackBut (status x) vs = vs
+stackBut (places n) vs = vs
+stackBut (pc n) vs = vs
+stackBut (counter n) vs = vs
+stackBut (span n) vs = vs
+stackBut (depth n) vs = vs
+stackBut (height n) vs = vs
+stackBut (fork i k) vs = vs
+stackBut (register r v) vs = vs
+stackBut (entry i v) vs = set vs i (record { value = v })
 
 abbrev pub frameBut : Change → Frame → Frame
-frameBut c f = record { task = taskBut c (f .task); registers = registersBut c (f .registers) }
+frameBut c f = record { task = taskBut c (f .task); registers = registersBut c (f .registers); stack = stackBut c (f .stack) }
 
 -- the frame of slot k changed
 abbrev pub but : ℕ → Change → State → State

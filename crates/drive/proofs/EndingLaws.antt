@@ -32,14 +32,14 @@ end-by-fault : (a : Bool) (n : ℕ) → isEnd (cond a (Fault n) NotEnded) ≡ a 
 end-by-fault true n = refl
 end-by-fault false n = refl
 
-end-test : (f : Frame) (s : Status) → statusFits f s ≡ true → isEnd (endAt (f .task .depth) s) ≡ eqb (f .task .depth) 0 && not (isRunning s)
-end-test f Vacant fit = clash fit refl
-end-test f Running fit = and-false (eqb (f .task .depth) 0)
-end-test f Waiting fit =
+end-test : (version : ℕ) (f : Frame) (s : Status) → statusFits version f s ≡ true → isEnd (endAt (f .task .depth) s) ≡ eqb (f .task .depth) 0 && not (isRunning s)
+end-test version f Vacant fit = clash fit refl
+end-test version f Running fit = and-false (eqb (f .task .depth) 0)
+end-test version f Waiting fit =
     let p = both-true (ltb 0 (f .task .depth)) (atRest (f .task)) fit in
     rw (ne-eqb (f .task .depth) 0 (omega (arith, ltb-true 0 (f .task .depth) (p .0))))
-end-test f Halted fit = rw (both-true (eqb (f .task .depth) 0) (atRest (f .task)) fit .0)
-end-test f (Faulted n) fit = end-by-fault (eqb (f .task .depth) 0) n
+end-test version f Halted fit = rw (both-true (eqb (f .task .depth) 0) (atRest (f .task)) fit .0)
+end-test version f (Faulted n) fit = end-by-fault (eqb (f .task .depth) 0) n
 
 module _ (cells : List ℕ) (D : ℕ) where
   -- the first slot of a stretch has a live task
@@ -49,7 +49,7 @@ module _ (cells : List ℕ) (D : ℕ) where
   first-formed (node x y) m b (suc h) l = first-formed x m b h (l .0)
 
   pub ended-is : (T : Tree Frame) (m : State) → Holds (slotsOf (programOf cells)) (formsOf cells D) m 0 D T → jobEnded m ≡ sideEnded (slotsOf (programOf cells)) m 0 0
-  ended-is T m l = end-test (at m 0) (at m 0 .task .status) (first-formed T m 0 D l .1 .status-fits)
+  ended-is T m l = end-test (programOf cells .version) (at m 0) (at m 0 .task .status) (first-formed T m 0 D l .1 .status-fits)
 
 -- what is said of a fault's number is said of the status that has it
 pub by-fault : (depth n : ℕ) (s : Status) (r : End) → r ≡ endAt depth (Faulted n) → s ≡ Faulted n → r ≡ endAt depth s

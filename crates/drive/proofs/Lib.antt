@@ -26,9 +26,11 @@ pub mod InPlace
 pub mod Copying
 pub mod Moving
 pub mod PlanLaws
+pub mod Popping
 pub mod Issuing
 pub mod SettleLaws
 pub mod ShapeSlots
+pub mod Stacking
 pub mod SettleSafety
 pub mod Turning
 pub mod Planning

@@ -56,10 +56,10 @@ module _ {cells : List ℕ} {interval places : ℕ} (allowed : Allowed cells int
   laws-hold words = record {
     places-power = rank-power places (allowed .places-allowed);
     places-fit = pow-le-pow-right (omega arith) room;
-    formed-fine = λ h f x. x .registers-full;
+    formed-fine = λ h f x. (x .registers-full, x .stack-full);
     formed-places = λ h f x. x .has-places;
     formed-depth = λ h f x. x .has-depth;
-    vacant-fine = refl;
+    vacant-fine = (refl, refl);
     vacant-empty = refl;
     empty-idle = vacant-idle;
     step-one = step-one cells ok (rank places) room words (chosen interval);

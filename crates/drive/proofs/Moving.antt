@@ -24,7 +24,7 @@ use Rattle.task.proofs.StretchLaws.{length-reads, getD-reads, reads-all}
 use Rattle.drive.specs.declared.State.{State}
 use Rattle.drive.specs.Slots.{at, put, ticked, slotsOf}
 use Rattle.drive.proofs.SlotLaws.{put-other, put-tasks}
-use Rattle.drive.proofs.InPlace.{sets-after, sets-reads}
+use Rattle.drive.proofs.InPlace.{sets-after, sets-reads, withArrays}
 use Rattle.drive.proofs.Copying.{copied-none, copied-next, filling}
 
 -- ---- stretches of a list
@@ -86,29 +86,17 @@ still-there bank vs z k i n (inr h) s =
 
 -- one register stored
 abbrev pub storedIn : State → ℕ → Register → State
-storedIn m i r = record { places = m .places; interval = m .interval; work = m .work; bank = set (m .bank) i r; tasks = m .tasks }
+storedIn m i r = withArrays m (set (m .bank) i r) (m .stacks) (m .tasks)
 
 module _ (m₀ : State) (z : ℕ) (from : List Register) where
   pub filling-none : m₀ ≡ filling m₀ z from 0
-  filling-none = λ j. record {
-    places = m₀ .places;
-    interval = m₀ .interval;
-    work = m₀ .work;
-    bank = copied-none zeroRegister (m₀ .bank) from (16 * z) 0 j;
-    tasks = m₀ .tasks;
-  }
+  filling-none = λ j. withArrays m₀ (copied-none zeroRegister (m₀ .bank) from (16 * z) 0 j) (m₀ .stacks) (m₀ .tasks)
 
   pub filling-next : {m : State} {r : Register} (i : ℕ) → m ≡ filling m₀ z from i → r ≡ getD from i zeroRegister
       → storedIn m (16 * z + i) r ≡ filling m₀ z from (i + 1)
   filling-next {m} {r} i p e =
       ap (λ (n : State). storedIn n (16 * z + i) r) p
-      ∙ (λ j. record {
-        places = m₀ .places;
-        interval = m₀ .interval;
-        work = m₀ .work;
-        bank = filled-next (m₀ .bank) from z i r e j;
-        tasks = m₀ .tasks;
-      })
+      ∙ (λ j. withArrays m₀ (filled-next (m₀ .bank) from z i r e j) (m₀ .stacks) (m₀ .tasks))
 
   pub filling-all : {m : State} (i : ℕ) → i ≤ 16 → 16 ≤ i → m ≡ filling m₀ z from i → m ≡ filling m₀ z from 16
   filling-all {m} i a b p = let e : i ≡ 16 = omega arith in p ∙ ap (filling m₀ z from) e
@@ -131,16 +119,10 @@ copy-next m₀ z k {m} {r} i apart p small e =
 
 -- slot z's registers are l
 abbrev pub placed : State → ℕ → List Register → State
-placed m z l = record { places = m .places; interval = m .interval; work = m .work; bank = sets (m .bank) (16 * z) l; tasks = m .tasks }
+placed m z l = withArrays m (sets (m .bank) (16 * z) l) (m .stacks) (m .tasks)
 
 pub placed-none : (m : State) (z : ℕ) → m ≡ placed m z (at m z .registers)
-placed-none m z = λ j. record {
-  places = m .places;
-  interval = m .interval;
-  work = m .work;
-  bank = sym (sets-reads zeroRegister (m .bank) (16 * z) 16) j;
-  tasks = m .tasks;
-}
+placed-none m z = λ j. withArrays m (sym (sets-reads zeroRegister (m .bank) (16 * z) 16) j) (m .stacks) (m .tasks)
 
 -- one pair copied from slot c, another one
 pub placed-next : (m₀ : State) (q c : ℕ) → (q < c) ⊎ (c < q) → {m : State} {r : Register} (l : List Register) (packed : ℕ) → length l ≡ 16 → m ≡ placed m₀ q l
@@ -150,10 +132,5 @@ placed-next m₀ q c apart {m} {r} l packed full p e =
     let found = e ∙ ap (λ (o : State). getD (o .bank) (16 * c + packed / 16 % 16) zeroRegister) p in
     let v = found ∙ still-there (m₀ .bank) l q c (packed / 16 % 16) (omega arith) apart (omega arith) in
     ap (λ (o : State). storedIn o (16 * q + packed % 16) r) p
-    ∙ (λ j. record {
-      places = m₀ .places;
-      interval = m₀ .interval;
-      work = m₀ .work;
-      bank = (ap (set (sets (m₀ .bank) (16 * q) l) (16 * q + packed % 16)) v ∙ stored-in l (m₀ .bank) (16 * q) (packed % 16) _ (omega arith)) j;
-      tasks = m₀ .tasks;
-    })
+    ∙ ap (λ (b : List Register). withArrays m₀ b (m₀ .stacks) (m₀ .tasks))
+    (ap (set (sets (m₀ .bank) (16 * q) l) (16 * q + packed % 16)) v ∙ stored-in l (m₀ .bank) (16 * q) (packed % 16) _ (omega arith))

@@ -11,15 +11,18 @@ use types.Run.{OneOf}
 use denote.Enum.Declared.{tagOf}
 use Rattle.facts.proofs.Tests.{clash, by-test}
 use Rattle.image.specs.Layout.{programOf}
+use Rattle.agreement.specs.Plain.{one}
 use Rattle.agreement.specs.Slots.{due}
 use Rattle.task.specs.declared.Fork.{Fork}
 use Rattle.task.specs.declared.Task.{Task}
 use Rattle.task.specs.declared.Joint.{Joint}
 use Rattle.task.specs.declared.Executed.{Executed}
-use Rattle.task.specs.declared.Kind.the-variants.{Forks}
+use Rattle.task.specs.declared.Kind.{Kind}
+use Rattle.task.specs.declared.Kind.the-variants.{Faults, Forks}
 use Rattle.task.specs.Frames.{noTask, isRunning, workLimit}
+use Rattle.task.specs.Choices.{chosen}
 use Rattle.task.specs.Values.{recordOf}
-use Rattle.task.specs.Step.{counted, ended}
+use Rattle.task.specs.Step.{counted, ended, withHeight, step}
 use Rattle.task.specs.Execute.{jointOf}
 use Rattle.task.proofs.Kind.{the-type}
 use Rattle.drive.specs.declared.State.{State}
@@ -27,19 +30,22 @@ use Rattle.turns.specs.declared.moves.Moves.{Moves}
 use Rattle.turns.specs.declared.course.Position.{Position}
 use Rattle.turns.specs.declared.course.Stretch.{Stretch}
 use Rattle.drive.specs.Slots.{at, ticked, slotsOf}
+use Rattle.drive.specs.Issue.{issued}
 use Rattle.turns.specs.Moving.{forkMoves, endMoves, joinMoves}
-use Rattle.turns.specs.Kinds.{statusOf}
+use Rattle.turns.specs.Kinds.{statusOf, heightLeft, stacksIt, popsIt, stackNo}
 use Rattle.turns.specs.Stretches.{roundsOf}
-use Rattle.turns.specs.Walk.{stoppedAt}
+use Rattle.turns.specs.Walk.{pickedOn, stoppedAt}
 use Rattle.drive.proofs.Models.{Allowed}
 use Rattle.drive.proofs.ShapeLaws.{Fits}
 use Rattle.drive.proofs.Owning.{own-allowed, own-fits, places-most}
 use Rattle.drive.proofs.SettleSafety.{fits-safe}
 use Rattle.drive.proofs.InPlace.{withTaskAt}
 use Rattle.drive.proofs.PlanLaws.{moved, pairedAt, clearedAt, PlanFits, tasksJoined, join-moved, join-fits, end-fits, fork-fits}
-use Rattle.drive.proofs.Issuing.{ends-steps, end-put, forkedAt, forks-issued, forks-room}
-use Rattle.drive.proofs.Positions.{goes, stopped-kept, stopped-begun, Comes, comes-none, comes-one}
-use Rattle.drive.proofs.Walking.{Given, GivenAllowed, result, mostStretches, At, tile, rise-is}
+use Rattle.drive.proofs.SlotLaws.{task-runs}
+use Rattle.drive.proofs.IssueLaws.{issued-work}
+use Rattle.drive.proofs.Issuing.{endFrame, ends-steps, refused-steps, end-put, forkedAt, forks-issued, forks-room}
+use Rattle.drive.proofs.Positions.{goes, Kept, picked-kept, stopped-kept, stopped-begun, Comes, comes-none, comes-one}
+use Rattle.drive.proofs.Walking.{Given, GivenAllowed, result, mostStretches, At, tile, picked-on, rise-is}
 use Rattle.drive.proofs.Turning.{Turns, none-due, joins, ends, forks, Stopped}
 
 -- what is ahead of the loop, as a number that every turn makes smaller: stretches, picks and looks of this one, and looks at joins
@@ -102,16 +108,22 @@ module _ (g : Given) (allowed : GivenAllowed g) where
       (first : q ≡ side - side % (2 * w)) (is-due : due (slotsOf (programOf (g .cells))) m q w o ≡ true) (wide : 0 < w) (room : q + w < 64)
       {j : Joint} (e : j ≡ jointOf (programOf (g .cells)) (at m q .task) (at m (q + w) .task)) where
     pub join-planned : (g .state .work ≤ m .work) × (m .work ≤ workLimit) → {n : State} {plan : Moves}
-        → n ≡ tasksJoined m q (q + w) (j .task) → plan ≡ joinMoves q (q + w) (j .pairs) (j .packed) (j .faulted)
+        → n ≡ tasksJoined m q (q + w) (j .task)
+        → plan ≡ joinMoves q (q + w) (j .pairs) (j .packed) (j .faulted) (at m q .task .height) (at m (q + w) .task .height)
         → Planned g (ahead g m p o) n plan p (o - 1) q
-    join-planned grown {n} {plan} written planned = record {
-      plan-fits = rw planned (join-fits (g .cells) m (t .sized) q w wide room e);
-      then-turns = λ {m′} is. joins g allowed t q w some width first is-due (is ∙ ap₂ moved planned written ∙ join-moved (g .cells) m (t .sized) q w wide room e);
-      less = let same : n .work ≡ m .work = ap (λ (o : State). o .work) written in omega (arith, t .few);
-      grows = let same : n .work ≡ m .work = ap (λ (o : State). o .work) written in (omega (arith, grown .0), omega (arith, grown .1));
-    }
+    join-planned grown {n} {plan} written planned =
+        let ours = t .safe q (omega arith) .stacked in
+        let theirs = t .safe (q + w) room .stacked in
+        let join-is = join-moved (g .cells) m (t .sized) q w wide room ours theirs e in
+        let same : n .work ≡ m .work = ap (λ (o : State). o .work) written in
+        record {
+          plan-fits = rw planned (join-fits (g .cells) m (t .sized) q w wide room ours theirs e);
+          then-turns = λ {m′} is. joins g allowed t q w some width first is-due (is ∙ ap₂ moved planned written ∙ join-is);
+          less = omega (arith, t .few);
+          grows = (omega (arith, grown .0), omega (arith, grown .1));
+        }
 
-  -- ---- an instruction that ends its side, or forks
+  -- ---- an instruction that a walk stops at: it ends its side, or forks, or it is a push or a pop
 
   module _ {m : State} {p : Position} (a : At g m p) {e : Executed} (s : Stopped (g .cells) (g .words) m p e) where
     abbrev k : ℕ
@@ -137,20 +149,52 @@ module _ (g : Given) (allowed : GivenAllowed g) where
         let same : stoppedAt (m .places) w p .begun ≡ p .begun = stopped-begun (m .places) w p in
         omega (arith, x .picks-left, x .places-left, kept .until-same, kept .ahead-most)
 
-    pub end-planned : OneOf (0 ∷ 1 ∷ 2 ∷ 3 ∷ 4 ∷ []) (tagOf the-type (e .kind)) → {t : Task} → t ≡ ended (statusOf (e .kind) (e .fault)) (counted (at m k .task))
-        → {n : State} → n ≡ ticked (withTaskAt m k t) → {plan : Moves} → plan ≡ endMoves k (e .kind)
+    one-more : (n : State) → n .work ≡ m .work + 1 → (g .state .work ≤ n .work) × (n .work ≤ workLimit)
+    one-more n more = (omega (arith, a .all-picks), omega (arith, goes {m = m} {p = p} (s .walks) .picks-left, a .until-most))
+
+    -- it has ended its side, with this kind and this number
+    abbrev pub EndsBy : Kind → ℕ → Type 0
+    EndsBy kind n =
+        step (programOf (g .cells)) (g .words) (chosen (m .interval)) (at m k)
+        ≡ one (endFrame allowed-there fits-there (a .slot-below) (s .runs-there) (s .fetched) kind n)
+
+    pub ends-by : stacksIt (e .kind) ≡ false → OneOf (0 ∷ 1 ∷ 2 ∷ 3 ∷ 4 ∷ 5 ∷ 6 ∷ []) (tagOf the-type (e .kind)) → EndsBy (e .kind) (e .fault)
+    ends-by = ends-steps allowed-there fits-there (a .slot-below) (s .runs-there) (s .fetched) (s .stops-it)
+
+    pub refused-by : stacksIt (e .kind) ≡ true → (stackNo (popsIt (e .kind)) (at m k .task .height) ≡ 0 → ⊥)
+        → EndsBy Faults (stackNo (popsIt (e .kind)) (at m k .task .height))
+    refused-by = refused-steps allowed-there fits-there (a .slot-below) (s .runs-there) (s .fetched)
+
+    pub end-planned : (kind : Kind) (number : ℕ) → EndsBy kind number
+        → {t : Task} → t ≡ withHeight (heightLeft kind (at m k .task .height)) (ended (statusOf kind number) (counted (at m k .task)))
+        → {n : State} → n ≡ ticked (withTaskAt m k t) → {plan : Moves} → plan ≡ endMoves k kind (at m k .task .height)
         → Planned g (ahead g m p 0) n plan (stoppedAt (m .places) (at m k .task .places) p) (at m k .task .depth) k
-    end-planned no-fork {t} is-ended {n} written {plan} planned =
-        let step-is = ends-steps allowed-there fits-there (a .slot-below) (s .runs-there) (s .fetched) (s .stops-it) no-fork in
-        let put-is = end-put allowed-there fits-there (a .slot-below) (s .runs-there) (s .fetched) is-ended in
-        let deep = fits-safe allowed m (a .fits) k .depth-fits in
+    end-planned kind number step-is {t} is-ended {n} written {plan} planned =
+        let put-is = end-put allowed-there fits-there (a .slot-below) (s .runs-there) (s .fetched) kind number is-ended in
+        let safe = fits-safe allowed m (a .fits) k here in
+        let more : n .work ≡ m .work + 1 = ap (λ (o : State). o .work) written in
         record {
-          plan-fits = rw planned (end-fits k (e .kind) here);
-          then-turns = λ {m′} is. ends g allowed a (s .walks) (s .runs-there) _ step-is (is ∙ ap₂ moved planned written ∙ put-is) here (at m k .task .depth) refl deep;
-          less = less-on n (at m k .task .places) (at m k .task .depth) (ap (λ (o : State). o .work) written) deep;
-          grows = let more : n .work ≡ m .work + 1 = ap (λ (o : State). o .work) written in
-              (omega (arith, a .all-picks), omega (arith, goes {m = m} {p = p} (s .walks) .picks-left, a .until-most));
+          plan-fits = rw planned (end-fits k kind (at m k .task .height) here (safe .stacked .height-most));
+          then-turns = λ {m′} is.
+              ends g allowed a (s .walks) (s .runs-there) _ step-is (is ∙ ap₂ moved planned written ∙ put-is) here (at m k .task .depth) refl (safe .depth-fits);
+          less = less-on n (at m k .task .places) (at m k .task .depth) more (safe .depth-fits);
+          grows = one-more n more;
         }
+
+    -- it runs on: the slot's record is another, of a task that runs
+    pub stacked-on : {n : State} → n ≡ issued (g .cells) (g .words) m k → (t : Task) → n .tasks ≡ set (m .tasks) k t → isRunning (t .status) ≡ true
+        → {q : Position} → q ≡ pickedOn (m .places) (n .work) (at m k .task .places) p
+        → At g n q × (ahead g n q 0 < ahead g m p 0) × (g .state .work ≤ n .work) × (n .work ≤ workLimit)
+    stacked-on {n} is t tasks runs {q} next =
+        let x = goes {m = m} {p = p} (s .walks) in
+        let more : n .work ≡ m .work + 1 = ap (λ (o : State). o .work) is ∙ issued-work (g .cells) (g .words) m k in
+        let kept = subst⁻¹ (Kept p) next (picked-kept (m .places) (at m k .task .places) p places-few (a .ahead-most) (n .work)) in
+        let r = task-runs m n k t (a .fits .sized .of-tasks) here tasks runs in (
+          subst⁻¹ (At g n) next (picked-on g allowed a (s .walks) (s .runs-there) is (r .0) (r .1)),
+          omega (arith, x .picks-left, x .places-left, kept .until-same, kept .ahead-most, kept .begun-least),
+          one-more n more .0,
+          one-more n more .1,
+        )
 
     module _ (kind-is : e .kind ≡ Forks) where
       abbrev half : ℕ
@@ -173,8 +217,7 @@ module _ (g : Given) (allowed : GivenAllowed g) where
             plan-fits = rw planned (fork-fits k (k + half) (omega (arith, r .0)) (omega (arith, r .1, places-few)));
             then-turns = λ {m′} is. none-due g allowed 0 side refl below (on m′ is);
             less = less-on n half 0 (ap (λ (o : State). o .work) written) (omega arith);
-            grows = let more : n .work ≡ m .work + 1 = ap (λ (o : State). o .work) written in
-                (omega (arith, a .all-picks), omega (arith, goes {m = m} {p = p} (s .walks) .picks-left, a .until-most));
+            grows = one-more n (ap (λ (o : State). o .work) written);
           }
         where
           on : (m′ : State) → m′ ≡ moved plan n → At g m′ (stoppedAt (m .places) half p)

@@ -10,58 +10,56 @@ use native.Mathlib.Nat.{pow-suc, pow-le-pow-right, mul-assoc, add-mul, le-mul-of
 use lib.Dec.{ltb}
 use lib.Pow.{pow-add, pow-pos}
 use lib.IntN.{ℤ}
-use lib.ListN.{getD, set, List·getD-eq-default}
+use lib.ListN.{getD, set}
 use lib.Seq.{getD-set-other}
 use borrow.Author.Tests.{lt-ltb}
-use Rattle.facts.proofs.Tests.{by-below}
 use Rattle.task.specs.Choices.{chosen}
 use Rattle.agreement.specs.Plain.{one}
 use Rattle.agreement.specs.Slots.{due, merged, settle}
 use Rattle.image.specs.Layout.{blockCount, programOf}
 use Rattle.image.specs.Questions.{programNo}
-use Rattle.task.specs.declared.Task.{Task}
 use Rattle.task.specs.declared.Frame.{Frame}
-use Rattle.task.specs.Frames.{zeroFork, vacant, vacantTask, noTask, faultOf, running}
+use Rattle.task.specs.Frames.{zeroFork, vacant, faultOf, running}
 use Rattle.task.specs.Step.{firstFault, joinedBy, join, step}
 use Rattle.task.specs.Execute.{Joinable}
 use Rattle.task.proofs.Formation.{Formed, target-below}
+use Rattle.task.proofs.JoinKeeps.{length-copied}
 use Rattle.drive.specs.declared.State.{State}
-use Rattle.drive.specs.Slots.{at, put, slotsOf}
+use Rattle.drive.specs.Slots.{at, put, Sized, slotsOf}
 use Rattle.drive.specs.Settings.{rank}
-use Rattle.drive.proofs.SlotLaws.{put-tasks}
+use Rattle.drive.proofs.SlotLaws.{Full, at-full, put-sized, put-frames}
 use Rattle.drive.proofs.RankLaws.{rank-small}
 use Rattle.drive.proofs.Models.{Allowed, laws-hold}
 use Rattle.drive.proofs.ShapeLaws.{Fits}
 use Rattle.drive.proofs.SettleLaws.{due-sides, settle-goes}
 use Rattle.drive.proofs.ShapeSlots.{fits-framed, running-formed}
+use Rattle.drive.proofs.Stacking.{Stacked, vacant-stacked, formed-stacked, join-stacked}
 
 -- ---- what the joins that fall due need of a state
 
-pub record JoinSafe (cells : List ℕ) (t : Task) : Type 0 where
+pub record JoinSafe (cells : List ℕ) (f : Frame) : Type 0 where
   -- with all its forks joined the task has at most 64 places
-  pub places-fit : t .places * 2 ^ t .depth ≤ 64
-  pub depth-fits : t .depth ≤ 6
+  pub places-fit : f .task .places * 2 ^ f .task .depth ≤ 64
+  pub depth-fits : f .task .depth ≤ 6
   -- each open fork names a block
-  pub forks-name : (i : ℕ) → i < t .depth → getD (t .forks) i zeroFork .continuation < blockCount cells
+  pub forks-name : (i : ℕ) → i < f .task .depth → getD (f .task .forks) i zeroFork .continuation < blockCount cells
+  pub stacked : Stacked f
 
 -- in every slot
 abbrev pub SettleSafe : List ℕ → State → Type 0
-SettleSafe cells m = (i : ℕ) → JoinSafe cells (at m i .task)
+SettleSafe cells m = (i : ℕ) → i < 64 → JoinSafe cells (at m i)
 
--- ---- one task record
+-- ---- one frame
 
--- at depth 0
-outermost : (cells : List ℕ) (t : Task) → t .places ≤ 64 → t .depth ≡ 0 → JoinSafe cells t
-outermost cells t p e = record {
-  places-fit = rw e (omega arith);
+vacant-safe : (cells : List ℕ) → JoinSafe cells vacant
+vacant-safe cells = record {
+  places-fit = omega arith;
   depth-fits = omega arith;
   forks-name = λ i h. absurd (omega arith);
+  stacked = vacant-stacked;
 }
 
-pub vacant-safe : (cells : List ℕ) → JoinSafe cells vacantTask
-vacant-safe cells = outermost cells vacantTask (omega arith) refl
-
-pub formed-safe : (cells : List ℕ) (D h : ℕ) (f : Frame) → D ≤ 6 → Formed (programOf cells) D h f → JoinSafe cells (f .task)
+pub formed-safe : (cells : List ℕ) (D h : ℕ) (f : Frame) → D ≤ 6 → Formed (programOf cells) D h f → JoinSafe cells f
 formed-safe cells D h f room x =
     let all : f .task .places * 2 ^ f .task .depth ≡ 2 ^ D =
     ap (λ p. p * 2 ^ f .task .depth) (x .has-places) ∙ sym (pow-add 2 h (f .task .depth)) ∙ ap (λ n. 2 ^ n) (omega (arith, x .has-depth)) in
@@ -71,6 +69,7 @@ formed-safe cells D h f room x =
       depth-fits = omega (arith, x .has-depth);
       forks-name = λ i p. let t : ltb i (f .task .depth) ≡ true = lt-ltb i (f .task .depth) p in
           target-below (programOf cells) _ (rw t at (x .forks-fit i (omega (arith, x .has-depth))));
+      stacked = formed-stacked (programOf cells) D h f x;
     }
 
 -- ---- a join
@@ -80,11 +79,11 @@ half n e h =
     let q : n * 2 ^ suc e ≡ n * 2 ^ e * 2 = ap (λ x. n * x) (pow-suc 2 e) ∙ sym (mul-assoc n (2 ^ e) 2) in
     omega arith
 
-module _ (cells : List ℕ) (a b : Frame) (x : JoinSafe cells (a .task)) (y : JoinSafe cells (b .task)) (inside : 0 < a .task .depth)
+module _ (cells : List ℕ) (a b : Frame) (x : JoinSafe cells a) (y : JoinSafe cells b) (inside : 0 < a .task .depth)
     (same : b .task .depth ≡ a .task .depth) where
-  closed : (t : Task) → t .places ≡ a .task .places + b .task .places → t .depth ≡ a .task .depth - 1
-      → t .forks ≡ set (a .task .forks) (a .task .depth - 1) zeroFork → JoinSafe cells t
-  closed t is-both is-outward is-closed =
+  closed : (f : Frame) → f .task .places ≡ a .task .places + b .task .places → f .task .depth ≡ a .task .depth - 1
+      → f .task .forks ≡ set (a .task .forks) (a .task .depth - 1) zeroFork → Stacked f → JoinSafe cells f
+  closed f is-both is-outward is-closed on =
       let e = a .task .depth - 1 in
       let d : a .task .depth ≡ suc e = omega arith in
       let p : a .task .places * 2 ^ suc e ≤ 64 = rw (← d) (x .places-fit) in
@@ -94,6 +93,7 @@ module _ (cells : List ℕ) (a b : Frame) (x : JoinSafe cells (a .task)) (y : Jo
             (omega (arith, half _ e p, half _ e q, add-mul (a .task .places) (b .task .places) (2 ^ e)));
         depth-fits = omega (arith, x .depth-fits);
         forks-name = λ i h. rw (is-closed, getD-set-other (a .task .forks) e i zeroFork zeroFork (omega arith)) (x .forks-name i (omega arith));
+        stacked = on;
       }
 
   both-fit : a .task .places + b .task .places ≤ 64
@@ -104,13 +104,14 @@ module _ (cells : List ℕ) (a b : Frame) (x : JoinSafe cells (a .task)) (y : Jo
       let q : b .task .places * 2 ^ suc e ≤ 64 = rw (← d, ← same) (y .places-fit) in
       omega (arith, half _ e p, half _ e q, le-mul-of-pos-right (a .task .places) (pow-pos e), le-mul-of-pos-right (b .task .places) (pow-pos e))
 
-  join-safe : JoinSafe cells (join (programOf cells) a b .task)
+  join-safe : JoinSafe cells (join (programOf cells) a b)
   unfolding join
-  join-safe = go (firstFault (faultOf (a .task .status)) (faultOf (b .task .status)))
+  join-safe = go (firstFault (faultOf (a .task .status)) (faultOf (b .task .status))) (join-stacked (programOf cells) a b (x .stacked))
     where
-      go : (f : Option ℕ) → JoinSafe cells (joinedBy f (programOf cells) (getD (a .task .forks) (a .task .depth - 1) zeroFork .continuation) a b .task)
-      go none = closed _ refl refl refl
-      go (some n) = closed _ refl refl refl
+      go : (o : Option ℕ) → let g = joinedBy o (programOf cells) (getD (a .task .forks) (a .task .depth - 1) zeroFork .continuation) a b in
+          Stacked g → JoinSafe cells g
+      go none on = closed _ refl refl refl on
+      go (some n) on = closed _ refl refl refl on
 
 -- ---- every slot
 
@@ -120,23 +121,35 @@ pub due-joinable : (cells : List ℕ) (m : State) (q w d : ℕ) → programNo ce
 due-joinable cells m q w d ok all left e =
     let s = due-sides cells m q w d e in
     let inside : 0 < at m q .task .depth = omega (arith, s .parent-depth) in
+    let p = all q (omega (arith, s .has-room)) in
     record {
       accepted-program = ok;
       depth-least = inside;
-      depth-most = all q .depth-fits;
-      places-most = both-fit cells (at m q) (at m (q + w)) (all q) (all (q + w)) inside (s .child-depth ∙ sym (s .parent-depth));
-      continuation-below = all q .forks-name (at m q .task .depth - 1) (omega arith);
+      depth-most = p .depth-fits;
+      places-most = both-fit cells (at m q) (at m (q + w)) p (all (q + w) (s .has-room)) inside (s .child-depth ∙ sym (s .parent-depth));
+      continuation-below = p .forks-name (at m q .task .depth - 1) (omega arith);
     }
 
-pub put-safe : (cells : List ℕ) (m : State) (k : ℕ) (f : Frame) → SettleSafe cells m → JoinSafe cells (f .task) → SettleSafe cells (put m k f)
-put-safe cells m k f all x i = put-tasks (JoinSafe cells) m k f i x (all i)
+put-safe : (cells : List ℕ) (m : State) (k : ℕ) (f : Frame) → Sized m → Full f → k < 64 → SettleSafe cells m → JoinSafe cells f
+    → SettleSafe cells (put m k f)
+put-safe cells m k f sized full below all x i h = put-frames (JoinSafe cells) m k f i sized full below x (all i h)
 
-merged-safe : (cells : List ℕ) (m : State) (q w : ℕ) → SettleSafe cells m → 0 < at m q .task .depth
+-- a joined task has its registers and its stack
+join-full : (cells : List ℕ) (a b : Frame) → Full a → Full (join (programOf cells) a b)
+unfolding join
+join-full cells a b full = go (firstFault (faultOf (a .task .status)) (faultOf (b .task .status)))
+  where
+    go : (o : Option ℕ) → Full (joinedBy o (programOf cells) (getD (a .task .forks) (a .task .depth - 1) zeroFork .continuation) a b)
+    go none = (length-copied (b .registers) _ _ (a .registers) ∙ full .0, full .1)
+    go (some n) = (refl, refl)
+
+merged-safe : (cells : List ℕ) (m : State) (q w : ℕ) → Sized m → q + w < 64 → SettleSafe cells m → 0 < at m q .task .depth
     → at m (q + w) .task .depth ≡ at m q .task .depth → SettleSafe cells (merged (slotsOf (programOf cells)) m q w)
-merged-safe cells m q w all inside same =
+merged-safe cells m q w sized room all inside same =
     put-safe cells (put m (q + w) vacant) q (join (programOf cells) (at m q) (at m (q + w)))
-    (put-safe cells m (q + w) vacant all (vacant-safe cells))
-    (join-safe cells (at m q) (at m (q + w)) (all q) (all (q + w)) inside same)
+    (put-sized m (q + w) vacant sized) (join-full cells (at m q) (at m (q + w)) (at-full m q)) (omega arith)
+    (put-safe cells m (q + w) vacant sized (refl, refl) room all (vacant-safe cells))
+    (join-safe cells (at m q) (at m (q + w)) (all q (omega arith)) (all (q + w) room) inside same)
 
 -- ---- a turn of settling
 
@@ -146,16 +159,16 @@ pub record Turn (cells : List ℕ) (m : State) (k d q w : ℕ) : Type 0 where
   pub goes-on : settle (slotsOf (programOf cells)) d m k ≡ settle (slotsOf (programOf cells)) (d - 1) (merged (slotsOf (programOf cells)) m q w) q
   pub stays-safe : SettleSafe cells (merged (slotsOf (programOf cells)) m q w)
 
-pub turn : (cells : List ℕ) (m : State) (k d q w : ℕ) → SettleSafe cells m → 0 < d → at m k .task .places ≡ w → q ≡ k - k % (2 * w)
+pub turn : (cells : List ℕ) (m : State) (k d q w : ℕ) → Sized m → SettleSafe cells m → 0 < d → at m k .task .places ≡ w → q ≡ k - k % (2 * w)
     → due (slotsOf (programOf cells)) m q w d ≡ true → Turn cells m k d q w
-turn cells m k d q w all left hw hq e =
+turn cells m k d q w sized all left hw hq e =
     let s = due-sides cells m q w d e in
     let inside : 0 < at m q .task .depth = omega (arith, s .parent-depth) in
     let same : at m (q + w) .task .depth ≡ at m q .task .depth = s .child-depth ∙ sym (s .parent-depth) in
     record {
       has-room = s .has-room;
       goes-on = settle-goes cells m k d q w left hw hq e;
-      stays-safe = merged-safe cells m q w all inside same;
+      stays-safe = merged-safe cells m q w sized (s .has-room) all inside same;
     }
 
 -- ---- a state of the shape
@@ -165,22 +178,15 @@ module _ {cells : List ℕ} {interval places : ℕ} (allowed : Allowed cells int
   room = rank-small places (allowed .places-allowed)
 
   pub fits-safe : SettleSafe cells m
-  fits-safe i =
-      by-below i 64
-      (λ p. ⊎-elim
-      (λ (e : at m i ≡ vacant). subst⁻¹ (λ (f : Frame). JoinSafe cells (f .task)) e (vacant-safe cells))
+  fits-safe i below = ⊎-elim
+      (λ (e : at m i ≡ vacant). subst⁻¹ (JoinSafe cells) e (vacant-safe cells))
       (λ (f : (h : ℕ) × Formed (programOf cells) (rank places) h (at m i)). formed-safe cells (rank places) (f .0) (at m i) room (f .1))
-      (fits-framed allowed m x i p))
-      (λ p. let e : at m i .task ≡ noTask = List·getD-eq-default (m .tasks) noTask {n = i} (omega (arith, x .sized .of-tasks)) in
-      rw e (outermost cells noTask (omega arith) refl))
+      (fits-framed allowed m x i below)
 
   -- the frame that an instruction leaves is safe to put back, and to settle
-  pub stepped-safe : (words : List ℤ) (k : ℕ) (g : Frame) → k < 64 → running (at m k) ≡ true → step (programOf cells) words (chosen interval) (at m k) ≡ one g
-      → JoinSafe cells (g .task)
-  stepped-safe words k g below runs e =
-      let f = running-formed allowed m x k below runs in
-      formed-safe cells (rank places) (f .0) g room (laws-hold allowed words .step-one (f .0) (at m k) g (f .1) runs e)
-
   pub put-back-safe : (words : List ℤ) (k : ℕ) (g : Frame) → k < 64 → running (at m k) ≡ true → step (programOf cells) words (chosen interval) (at m k) ≡ one g
       → SettleSafe cells (put m k g)
-  put-back-safe words k g below runs e = put-safe cells m k g fits-safe (stepped-safe words k g below runs e)
+  put-back-safe words k g below runs e =
+      let f = running-formed allowed m x k below runs in
+      let y = laws-hold allowed words .step-one (f .0) (at m k) g (f .1) runs e in
+      put-safe cells m k g (x .sized) (y .registers-full, y .stack-full) below fits-safe (formed-safe cells (rank places) (f .0) g room y)

@@ -72,7 +72,7 @@ module _ (g : Given) where
       pub joins : {m′ : State} (q w : ℕ) → 0 < o → at m side .task .places ≡ w → q ≡ side - side % (2 * w)
           → due (slotsOf (programOf (g .cells))) m q w o ≡ true → m′ ≡ merged (slotsOf (programOf (g .cells))) m q w → Turns m′ p (o - 1) q
       joins {m′} q w some hw hq e is =
-          let x = turn (g .cells) m side o q w (t .safe) some hw hq e in
+          let x = turn (g .cells) m side o q w (t .sized) (t .safe) some hw hq e in
           record {
             head = subst (λ n. At g n p) (x .goes-on ∙ ap (λ n. settle (slotsOf (programOf (g .cells))) (o - 1) n q) (sym is)) (t .head);
             safe = subst⁻¹ (SettleSafe (g .cells)) is (x .stays-safe);

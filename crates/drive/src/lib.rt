@@ -6,12 +6,14 @@ pub mod slots;
 use task::Register;
 use task::Task;
 
-// Slot k has tasks[k] and the 16 registers of bank from 16·k on. Whether the job has ended, and how, is read off slot 0.
+// Slot k has tasks[k], the 16 registers of bank from 16·k on and the 32 values of stacks from 32·k on. Whether the job has ended, and how, is
+// read off slot 0.
 pub struct State {
     pub places: u64,
     pub interval: u16,
     pub work: u32,
     pub bank: [Register; task::BANK],
+    pub stacks: [Register; task::STACKS],
     pub tasks: [Task; 64],
 }
 

@@ -13,8 +13,10 @@ use task::running::is_running;
 use turns::course;
 use turns::course::Course;
 use turns::moves;
+use turns::moves::Sides;
 use turns::records;
 use turns::rows;
+use turns::stacking;
 use turns::walk;
 ghost use mathlib.Core.Path.{_≡_};
 ghost use mathlib.Core.Bool.{true};
@@ -61,7 +63,14 @@ pub fn drive(cells: &[u64], words: &[i64], state: State, order: &[u8], course: C
             let whole = joint.task;
             m.tasks[c] = slots::vacant_task();
             m.tasks[q] = whole;
-            plan = moves::join_moves(q, c, joint.pairs, joint.packed, joint.faulted);
+            let sides = Sides {
+                pairs: joint.pairs,
+                packed: joint.packed,
+                faulted: joint.faulted,
+                ours: parent.height,
+                theirs: child.height,
+            };
+            plan = moves::join_moves(q, c, sides);
             side = q;
             due = due - 1;
         } else {
@@ -147,9 +156,32 @@ pub fn drive(cells: &[u64], words: &[i64], state: State, order: &[u8], course: C
             }
             // the pick that stopped it
             let k = p.slot;
-            let record = m.tasks[k];
             m.work = m.work + 1;
-            let kind = e.kind;
+            let mut kind = e.kind;
+            let mut fault = e.fault;
+            if stacking::does_stack(kind) {
+                // a push or a pop, after which the task runs on unless the stack is full or empty
+                let own = m.tasks[k];
+                let pops = stacking::does_pop(kind);
+                let no = stacking::ask_stack(pops, own.height);
+                if no == 0 {
+                    let at = 32 * k + stacking::entry_of(pops, own.height);
+                    let held = m.stacks[at];
+                    let value = e.value;
+                    m.stacks[at] = moves::holding(value);
+                    if pops {
+                        let x = image::layout::instruction_of(cells, own.pc as usize);
+                        let at_r = 16 * k + (x.r as usize);
+                        m.bank[at_r] = held;
+                    }
+                    m.tasks[k] = stacking::restacked(own, pops, e.pc, e.counter);
+                    p = walk::picked_on(p, m.places, m.work, own.places);
+                    continue;
+                }
+                kind = Kind::Faults;
+                fault = no;
+            }
+            let record = m.tasks[k];
             if let Kind::Forks = kind {
                 let value = e.value;
                 let parent = records::side_task(record, records::record_of(value), e.pc, e.counter);
@@ -159,8 +191,8 @@ pub fn drive(cells: &[u64], words: &[i64], state: State, order: &[u8], course: C
                 plan = moves::fork_moves(k, c);
                 p = walk::stopped_at(p, m.places, parent.places);
             } else {
-                m.tasks[k] = records::ended_task(record, kind, e.fault);
-                plan = moves::end_moves(k, kind);
+                m.tasks[k] = records::ended_task(record, kind, fault);
+                plan = moves::end_moves(k, kind, record.height);
                 due = record.depth;
                 side = k;
                 p = walk::stopped_at(p, m.places, record.places);
@@ -183,6 +215,12 @@ pub fn drive(cells: &[u64], words: &[i64], state: State, order: &[u8], course: C
             while i < 16 {
                 m.bank[16 * from + i] = moves::zero_register();
                 i += 1;
+            }
+            let dropped = plan.dropped;
+            let mut left = plan.drops as usize;
+            while 0 < left {
+                left -= 1;
+                m.stacks[32 * dropped + left] = moves::zero_register();
             }
         }
         if 0 < plan.whole {

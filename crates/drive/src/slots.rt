@@ -26,13 +26,25 @@ pub fn frame_at(m: State, k: usize) -> Frame
         registers[i] = m.bank[16 * k + i];
         i += 1;
     }
+    let mut stack = [Register {
+        value: Value::Int(0),
+    }; task::STACK];
+    let mut j = 0usize;
+    while j < task::STACK {
+        stack[j] = m.stacks[32 * k + j];
+        j += 1;
+    }
     let task = m.tasks[k];
-    Frame { task, registers }
+    Frame {
+        task,
+        registers,
+        stack,
+    }
 }
 
 // A task record with no fork open, at the first instruction, and no count.
 pub fn unforked(status: Status, places: u64) -> Task
-    ensures { λ r. ⌜ r ≡ record { status = status; places = places; pc = 0; counter = 0; span = 0; depth = 0; forks = noForks } ⌝ }
+    ensures { λ r. ⌜ r ≡ record { status = status; places = places; pc = 0; counter = 0; span = 0; depth = 0; height = 0; forks = noForks } ⌝ }
 {
     let none = Fork {
         continuation: 0,
@@ -46,6 +58,7 @@ pub fn unforked(status: Status, places: u64) -> Task
         counter: 0,
         span: 0,
         depth: 0,
+        height: 0,
         forks,
     }
 }

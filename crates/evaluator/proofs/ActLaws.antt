@@ -4,34 +4,37 @@ use mathlib.Core.Bool.{true}
 use mathlib.Core.List.{List, _∷_}
 use Prim.Native.Nat.{ℕ, suc, _+_, _*_, _-_, _/_, _<_, _≤_}
 use native.Mathlib.Omega.{arith}
-use lib.Dec.{leb}
 use lib.IntN.{ℤ}
-use borrow.Author.Tests.{leb-true}
 use Rattle.facts.proofs.Tests.{both-true, by-order}
-use Rattle.image.specs.Layout.{instructionOf, programOf}
+use Rattle.image.specs.Layout.{versionOf, instructionOf, programOf}
 use Rattle.agreement.specs.Plain.{one, two, Rules}
 use Rattle.serial.specs.Serial.{toCome, held, onward, run}
 use Rattle.serial.proofs.Equations.{onward-runs}
 use Rattle.task.specs.declared.Fork.{Fork}
 use Rattle.task.specs.declared.Frame.{Frame}
 use Rattle.task.specs.declared.Kind.{Kind}
-use Rattle.task.specs.declared.Kind.the-variants.{Stores, Goes, Waits, Halts, Faults, Forks}
+use Rattle.task.specs.declared.Kind.the-variants.{Stores, Goes, Pushes, Pops, Waits, Halts, Faults, Forks}
 use Rattle.task.specs.declared.Executed.{Executed}
 use Rattle.task.specs.Frames.{workLimit}
 use Rattle.task.specs.Choices.{chosen}
-use Rattle.task.specs.Formed.{formed, within}
+use Rattle.task.specs.Formed.{faultListed, formed, within}
 use Rattle.task.specs.Step.{step}
 use Rattle.task.proofs.Executing.{madeBy, step-executed}
-use Rattle.task.proofs.Formation.{Formed, formed-is}
+use Rattle.task.proofs.Formation.{Formed, formed-is, listed-within}
 use Rattle.arms.specs.declared.Stopped.{Stopped}
 use Rattle.evaluator.specs.declared.Hand.{Hand}
+use Rattle.evaluator.specs.declared.Kept.{Kept}
 use Rattle.arms.specs.Registers.{registersOf, Sized}
 use Rattle.evaluator.specs.Banks.{forksOf}
 use Rattle.arms.specs.Code.{Decodes}
-use Rattle.arms.specs.Turns.{frameAt, rules, executedOf, Starts, RunsUntil}
-use Rattle.evaluator.specs.Sides.{frameOf, Good, CanStep, madeOf}
-use Rattle.evaluator.specs.Hands.{frameFrom, Rows, rowsOf, keptOf, handFrame, keptFrame, pendingFrom, Point, LeadsTo, handSide, steppedIn, Applied}
+use Rattle.arms.specs.Turns.{Stacked, frameAt, rules, executedOf, Starts, RunsUntil}
+use Rattle.evaluator.specs.Stacks.{stackOf}
+use Rattle.evaluator.specs.Sides.{Good, CanStep, madeOf}
+use Rattle.evaluator.specs.Hands.{frameFrom, Rows, rowsOf, keptOf, lowOf, handFrame, keptFrame, pendingFrom, Point, LeadsTo}
+use Rattle.evaluator.specs.Hands.{handSide, steppedIn, ownFrame, Applied}
 use Rattle.evaluator.proofs.GoodLaws.{good-more, good-depth}
+use Rattle.evaluator.proofs.StackLaws.{low-top, low-same}
+use Rattle.evaluator.proofs.HandLaws.{is-running}
 use Rattle.evaluator.proofs.FrameLaws.{pending-same, pending-top, one-run, two-run, one-good, two-good}
 
 module _ (cells : List ℕ) (words : List ℤ) (interval : ℕ) (h : Hand) (rows : Rows) (p : Point cells h rows) (runs : h .what ≡ 0) where
@@ -40,10 +43,14 @@ module _ (cells : List ℕ) (words : List ℤ) (interval : ℕ) (h : Hand) (rows
 
   -- the task in hand, as a running one
   abbrev f : Frame
-  f = frameOf (handSide h (rows .recs) (rows .nums) (rows .kinds))
+  f = ownFrame h rows
+
+  -- its stack
+  abbrev own-stack : Stacked
+  own-stack = stackOf (rows .pile) (rows .tags) (h .low) (h .height)
 
   pub own-is : handFrame h rows ≡ f
-  own-is = ap (λ w. frameFrom w (h .places) (h .depth) (forksOf (rows .recs) (h .depth)) (h .pc / 4) (h .beat - h .left) (h .spun - h .left) (registersOf (rows .nums) (rows .kinds))) runs
+  own-is = ap (λ w. frameFrom w (h .places) (h .depth) (forksOf (rows .recs) (h .depth)) (h .pc / 4) (h .beat - h .left) (h .spun - h .left) own-stack (registersOf (rows .nums) (rows .kinds))) runs
 
   pub good : Good cells (p .rank) (p .height) (workLimit - h .left) f
   good = subst (Good cells (p .rank) (p .height) (workLimit - h .left)) own-is (p .own-good)
@@ -59,6 +66,7 @@ module _ (cells : List ℕ) (words : List ℤ) (interval : ℕ) (h : Hand) (rows
     height = p .height;
     forks = forksOf (rows .recs) (h .depth);
     span = h .spun - h .left;
+    stacked = own-stack;
     room = p .room;
     is-formed = good .is-formed;
     accepted-program = p .accepted-program;
@@ -72,10 +80,20 @@ module _ (cells : List ℕ) (words : List ℤ) (interval : ℕ) (h : Hand) (rows
   module _ (z : Stopped) (nums kinds : List ℕ) (sized : Sized nums kinds)
       (t : RunsUntil cells words interval (h .places) (h .depth) (h .pc) (h .beat) (h .left) (registersOf (rows .nums) (rows .kinds)) z (registersOf nums kinds)) where
     abbrev h′ : Hand
-    h′ = record { what = 0; places = h .places; depth = h .depth; pc = z .pc; beat = z .beat; left = z .left; spun = h .spun }
+    h′ = record {
+      what = 0;
+      places = h .places;
+      depth = h .depth;
+      pc = z .pc;
+      beat = z .beat;
+      left = z .left;
+      spun = h .spun;
+      low = h .low;
+      height = h .height;
+    }
 
     abbrev rows′ : Rows
-    rows′ = rowsOf nums kinds (rows .bank) (rows .marks) (rows .recs) (rows .sides)
+    rows′ = rowsOf nums kinds (rows .bank) (rows .marks) (rows .recs) (rows .sides) (rows .pile) (rows .tags)
 
     abbrev o : List Fork
     o = forksOf (rows .recs) (h .depth)
@@ -87,14 +105,14 @@ module _ (cells : List ℕ) (words : List ℤ) (interval : ℕ) (h : Hand) (rows
     work-is = omega (arith, t .runs .fewer, p .limited)
 
     abbrev after : ℕ → Frame
-    after span = frameAt (h .places) (h .depth) o (z .pc / 4) (z .beat - z .left) span (registersOf nums kinds)
+    after span = frameAt (h .places) (h .depth) o (z .pc / 4) (z .beat - z .left) span own-stack (registersOf nums kinds)
 
     good-after : Good cells (p .rank) (p .height) (workLimit - z .left) (after (h .spun - z .left))
     good-after = record {
       is-formed = ap (λ n. formed (programOf cells) (p .rank) (p .height) (after n)) (sym span-is)
-          ∙ t .runs .keeps-formed o (h .spun - h .left) (p .rank) (p .height) (p .room) (good .is-formed);
+          ∙ t .runs .keeps-formed o (h .spun - h .left) own-stack (p .rank) (p .height) (p .room) (good .is-formed);
       is-within = ap (λ n. within n (after (h .spun - z .left))) (sym work-is) ∙ ap (λ n. within (workLimit - h .left + (h .left - z .left)) (after n)) (sym span-is)
-          ∙ t .runs .keeps-within o (h .spun - h .left) (workLimit - h .left) (good .is-within);
+          ∙ t .runs .keeps-within o (h .spun - h .left) own-stack (workLimit - h .left) (good .is-within);
     }
 
     pub run-leads : LeadsTo cells words interval h rows h′ rows′
@@ -107,7 +125,16 @@ module _ (cells : List ℕ) (words : List ℤ) (interval : ℕ) (h : Hand) (rows
         limited = omega (arith, t .runs .fewer, p .limited);
         own-good = good-after;
         kept-good = λ i l. good-more cells (p .rank) (p .rank - (i + 1)) (keptFrame rows i) (omega (arith, t .runs .fewer)) (p .kept-good i l);
-        full = record { sized = sized; bank-full = p .full .bank-full; marks-full = p .full .marks-full; recs-full = p .full .recs-full; sides-full = p .full .sides-full };
+        full = record {
+          sized = sized;
+          bank-full = p .full .bank-full;
+          marks-full = p .full .marks-full;
+          recs-full = p .full .recs-full;
+          sides-full = p .full .sides-full;
+          pile-full = p .full .pile-full;
+          tags-full = p .full .tags-full;
+        };
+        piled = record { own-low = p .piled .own-low; none-yet = p .piled .none-yet };
         on-place = t .runs .aligned;
         kept-on-place = p .kept-on-place;
         counter-least = t .runs .counted;
@@ -117,7 +144,7 @@ module _ (cells : List ℕ) (words : List ℤ) (interval : ℕ) (h : Hand) (rows
           let s = pendingFrom (keptFrame rows) (h .depth) in
           ap (λ x. run R (h .left) (onward R x s)) own-is
           ∙ ap (run R (h .left)) (onward-runs R f s refl)
-          ∙ t .runs .same-run o (h .spun - h .left) s
+          ∙ t .runs .same-run o (h .spun - h .left) own-stack s
           ∙ ap (λ n. run R (z .left) (held (after n) s)) span-is
           ∙ ap (run R (z .left)) (sym (onward-runs R (after (h .spun - z .left)) s refl));
     }
@@ -130,6 +157,7 @@ module _ (cells : List ℕ) (words : List ℤ) (interval : ℕ) (h : Hand) (rows
       rank = p .rank;
       height = p .height;
       before = workLimit - h .left;
+      stack = own-stack .values;
       accepted-program = p .accepted-program;
       room = p .room;
       below-limit = omega (arith, some);
@@ -137,10 +165,15 @@ module _ (cells : List ℕ) (words : List ℤ) (interval : ℕ) (h : Hand) (rows
       runs = refl;
     }
 
+    pub height-most : h .height ≤ 32
+    height-most = formed-here .height-most
+
     module _ (e : Executed) (ee : e ≡ executedOf (programOf cells) words (chosen interval) f) (r : ℕ) (er : r ≡ instructionOf cells (h .pc / 4) .r) where
       made-of : (k : Kind) (n : ℕ) (d : Executed) → madeBy k f n d ≡ madeOf k f n d
       made-of Stores n d = refl
       made-of Goes n d = refl
+      made-of Pushes n d = refl
+      made-of Pops n d = refl
       made-of Waits n d = refl
       made-of Halts n d = refl
       made-of Faults n d = refl
@@ -159,8 +192,8 @@ module _ (cells : List ℕ) (words : List ℤ) (interval : ℕ) (h : Hand) (rows
           let g = one-good cells words interval f (h .left) some (p .limited) refl (p .accepted-program) (p .rank) (p .height) (p .room) good _
           (steps-to ∙ ap (λ y. madeOf y f r e) k) in
           let x = formed-is (programOf cells) (p .rank) (p .height) _ (g .is-formed) in
-          let y = leb-true 31 (e .fault) (both-true (leb 31 (e .fault)) _ (x .status-fits) .0) in
-          omega (arith, y)
+          let y = listed-within (versionOf cells) (e .fault) (both-true (faultListed (versionOf cells) (e .fault)) _ (x .status-fits) .0) in
+          omega (arith, y .0)
 
       pub fork-room : e .kind ≡ Forks → h .depth < 6
       fork-room k =
@@ -177,10 +210,19 @@ module _ (cells : List ℕ) (words : List ℤ) (interval : ℕ) (h : Hand) (rows
             (good-more cells (p .rank) (p .rank - (i + 1)) (keptFrame rows i) (omega (arith, a .less)) (p .kept-good i l))
 
         below-place : (i : ℕ) → i < h .depth → keptOf (rows′ .sides) i .pc ≡ 4 * (keptOf (rows′ .sides) i .pc / 4)
-        below-place i l = subst (λ n. n ≡ 4 * (n / 4)) (sym (a .same-pc i l)) (p .kept-on-place i l)
+        below-place i l = subst (λ n. n ≡ 4 * (n / 4)) (sym (ap (λ (k : Kept). k .pc) (a .same-kept i l))) (p .kept-on-place i l)
 
         same-pending : pendingFrom (keptFrame rows′) (h .depth) ≡ pendingFrom (keptFrame rows) (h .depth)
         same-pending = pending-same (keptFrame rows′) (keptFrame rows) (h .depth) (a .same-below)
+
+        -- where the stacks of those inside them begin
+        same-lows : lowOf (rows′ .sides) (h .depth) ≡ lowOf (rows .sides) (h .depth)
+        same-lows = low-same (rows .sides) (rows′ .sides) (h .depth) (a .same-kept)
+
+        below-none : (i : ℕ) → i < h .depth → keptOf (rows′ .sides) i .what ≡ 0 → keptOf (rows′ .sides) i .height ≡ 0
+        below-none i l w =
+            let e = a .same-kept i l in
+            ap (λ (k : Kept). k .height) e ∙ p .piled .none-yet i l (sym (ap (λ (k : Kept). k .what) e) ∙ w)
 
         alone-leads : step (programOf cells) words (chosen interval) f ≡ one (handFrame z rows′) → LeadsTo cells words interval h rows z rows′
         alone-leads st =
@@ -199,6 +241,10 @@ module _ (cells : List ℕ) (words : List ℤ) (interval : ℕ) (h : Hand) (rows
                 own-good = g;
                 kept-good = λ i l. below-good i (omega (arith, d, l));
                 full = a .still-full;
+                piled = record {
+                  own-low = a .same-low ∙ p .piled .own-low ∙ sym same-lows ∙ ap (lowOf (rows′ .sides)) (sym d);
+                  none-yet = λ i l w. below-none i (omega (arith, d, l)) w;
+                };
                 on-place = a .on-place;
                 kept-on-place = λ i l. below-place i (omega (arith, d, l));
                 counter-least = a .counter-least;
@@ -215,6 +261,8 @@ module _ (cells : List ℕ) (words : List ℤ) (interval : ℕ) (h : Hand) (rows
         fork-leads : e .kind ≡ Forks → step (programOf cells) words (chosen interval) f ≡ two (handFrame z rows′) (keptFrame rows′ (h .depth))
             → LeadsTo cells words interval h rows z rows′
         fork-leads k st =
+            let q = ap (λ (x : Kept). x .pc) (a .child-kept k) in
+            let child-place : keptOf (rows′ .sides) (h .depth) .pc ≡ 4 * (keptOf (rows′ .sides) (h .depth) .pc / 4) = omega (arith, q) in
             let s = pendingFrom (keptFrame rows) (h .depth) in
             let c = keptFrame rows′ (h .depth) in
             let t = two-good cells words interval f (h .left) some (p .limited) refl (p .accepted-program) (p .rank) (p .height) (p .room) good (handFrame z rows′) c st in
@@ -238,9 +286,16 @@ module _ (cells : List ℕ) (words : List ℤ) (interval : ℕ) (h : Hand) (rows
                     (subst (λ m. Good cells (p .rank) (t .0) (workLimit - z .left) (keptFrame rows′ m)) (sym b) gc))
                     (λ b. absurd (omega (arith, b, d, l)));
                 full = a .still-full;
+                piled = record {
+                  own-low = a .same-low ∙ p .piled .own-low ∙ sym same-lows ∙ sym (low-top (rows′ .sides) (h .depth) (ap (λ (x : Kept). x .what) (a .child-kept k)))
+                      ∙ ap (lowOf (rows′ .sides)) (sym d);
+                  none-yet = λ i l w. by-order i (h .depth) (λ b. below-none i b w)
+                      (λ b. ap (λ m. keptOf (rows′ .sides) m .height) b ∙ ap (λ (x : Kept). x .height) (a .child-kept k))
+                      (λ b. absurd (omega (arith, b, d, l)));
+                };
                 on-place = a .on-place;
                 kept-on-place = λ i l. by-order i (h .depth) (λ b. below-place i b)
-                    (λ b. subst (λ m. keptOf (rows′ .sides) m .pc ≡ 4 * (keptOf (rows′ .sides) m .pc / 4)) (sym b) (a .child-on-place k))
+                    (λ b. subst (λ m. keptOf (rows′ .sides) m .pc ≡ 4 * (keptOf (rows′ .sides) m .pc / 4)) (sym b) child-place)
                     (λ b. absurd (omega (arith, b, d, l)));
                 counter-least = a .counter-least;
                 span-least = omega (arith, a .less, a .same-spun, p .span-least);
@@ -250,7 +305,7 @@ module _ (cells : List ℕ) (words : List ℤ) (interval : ℕ) (h : Hand) (rows
                   ∙ two-run cells words interval f (h .left) some (p .limited) refl (handFrame z rows′) c st s
                   ∙ ap (λ n. run R n (onward R (handFrame z rows′) (toCome c ∷ s))) (sym (a .less))
                   ∙ ap (λ x. run R (z .left) (onward R (handFrame z rows′) (toCome c ∷ x))) (sym same-pending)
-                  ∙ ap (λ x. run R (z .left) (onward R (handFrame z rows′) x)) (sym (pending-top (keptFrame rows′) (h .depth) true (a .child-runs k)))
+                  ∙ ap (λ x. run R (z .left) (onward R (handFrame z rows′) x)) (sym (pending-top (keptFrame rows′) (h .depth) true (is-running (keptOf (rows′ .sides) (h .depth) .what) (ap (λ (x : Kept). x .what) (a .child-kept k)))))
                   ∙ ap (λ n. run R (z .left) (onward R (handFrame z rows′) (pendingFrom (keptFrame rows′) n))) (sym d);
             }
 
@@ -258,6 +313,8 @@ module _ (cells : List ℕ) (words : List ℤ) (interval : ℕ) (h : Hand) (rows
             → LeadsTo cells words interval h rows z rows′
         leads-by Stores q st = alone-leads st
         leads-by Goes q st = alone-leads st
+        leads-by Pushes q st = alone-leads st
+        leads-by Pops q st = alone-leads st
         leads-by Waits q st = alone-leads st
         leads-by Halts q st = alone-leads st
         leads-by Faults q st = alone-leads st

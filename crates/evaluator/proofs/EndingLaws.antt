@@ -9,7 +9,7 @@ use lib.IntN.{ℤ}
 use lib.ListN.{getD}
 use mir.Syntax.{w64}
 use mir.Val.{toZ}
-use borrow.Author.Tests.{eqb-true}
+use borrow.Author.Tests.{eqb-true, ltb-true}
 use Rattle.facts.proofs.Tests.{both-true}
 use Rattle.image.specs.declared.Instruction.{Instruction}
 use Rattle.image.specs.Program.{Program}
@@ -107,7 +107,7 @@ target-enters program choices b t h =
 
 module _ (cells : List ℕ) (own : Side) (can : CanStep cells own) where
   abbrev g : Frame
-  g = frameOf own
+  g = frameOf own (can .stack)
 
   its : Formed (programOf cells) (can .rank) (can .height) g
   its = formed-is (programOf cells) (can .rank) (can .height) g (can .good .is-formed)
@@ -134,9 +134,6 @@ module _ (cells : List ℕ) (own : Side) (can : CanStep cells own) where
     pub s-below : x .s < 16
     s-below = omega (arith, ap (λ (y : Instruction). y .s) ex, here .s-small)
 
-    pub opcode-most : x .opcode ≤ 15
-    opcode-most = omega (arith, ap (λ (y : Instruction). y .opcode) ex, here .opcode-most)
-
     pub operand-below : x .kind ≡ 1 → x .operand < 16
     operand-below h = omega (arith, ap (λ (y : Instruction). y .operand) ex, here .register-small (sym (ap (λ (y : Instruction). y .kind) ex) ∙ h))
 
@@ -144,25 +141,32 @@ module _ (cells : List ℕ) (own : Side) (can : CanStep cells own) where
     label-below h = omega (arith, ap (λ (y : Instruction). y .operand) ex, here .label-below (sym (ap (λ (y : Instruction). y .kind) ex) ∙ h))
 
     -- the two values
-    pub s-is : valueOf (getD (own .kinds) (x .s) 0) (getD (own .nums) (x .s) 0) ≡ register g (x .s)
-    s-is = sym (value-at (own .nums) (own .kinds) (x .s) sized s-below)
+    pub s-is : (stack : List Register) → valueOf (getD (own .kinds) (x .s) 0) (getD (own .nums) (x .s) 0) ≡ register (frameOf own stack) (x .s)
+    s-is stack = sym (value-at (own .nums) (own .kinds) (x .s) sized s-below)
 
-    pub v-is : {w : Value} → w ≡ operandBy (x .kind) (x .operand) (registersOf (own .nums) (own .kinds)) → w ≡ operand g x
-    v-is e = e ∙ sym (operand-as g x (x .kind) (omega (arith, ap (λ (y : Instruction). y .kind) ex, here .kind-known)) refl)
+    pub v-is : {w : Value} → w ≡ operandBy (x .kind) (x .operand) (registersOf (own .nums) (own .kinds)) → (stack : List Register) → w ≡ operand (frameOf own stack) x
+    v-is e stack = e ∙ sym (operand-as (frameOf own stack) x (x .kind) (omega (arith, ap (λ (y : Instruction). y .kind) ex, here .kind-known)) refl)
 
-    module _ {s v : Value} (es : s ≡ register g (x .s)) (ev : v ≡ operand g x) where
-      pub v-fits : valueFits (programOf cells) v ≡ true
-      v-fits = ap (valueFits (programOf cells)) ev ∙ operand-fits (programOf cells) g x (its .values-fit) label-below
+    pub v-fits : {v : Value} → ((stack : List Register) → v ≡ operand (frameOf own stack) x) → valueFits (programOf cells) v ≡ true
+    v-fits ev = ap (valueFits (programOf cells)) (ev (can .stack)) ∙ operand-fits (programOf cells) g x (its .values-fit) label-below
 
-      module _ (words : List ℤ) (choices : Choices) where
-        -- an answer to these values is the instruction's
-        pub executes : (o : Op) → getD opcodes (x .opcode) unknown ≡ o → {e : Executed}
-            → e ≡ answered (programOf cells) words choices s v (countedActive (activeOf (own .task))) (own .task .forks) o
-            → e ≡ executedOf (programOf cells) words choices g
-        unfolding executed
-        executes o eo h =
-            h
-            ∙ ap (answered (programOf cells) words choices s v (countedActive (activeOf (own .task))) (own .task .forks)) (sym eo)
-            ∙ ap (λ w. executed (programOf cells) words choices x w v (activeOf (own .task)) (own .task .forks)) es
-            ∙ ap (λ w. executed (programOf cells) words choices x (register g (x .s)) w (activeOf (own .task)) (own .task .forks)) ev
-            ∙ ap (λ (y : Instruction). executed (programOf cells) words choices y (register g (y .s)) (operand g y) (activeOf (own .task)) (own .task .forks)) ex
+    -- a label's number
+    pub label-small : (j u : ℕ) → valueFits (programOf cells) (valueOf j u) ≡ true → j ≡ 1 → u < 4294967296
+    label-small j u fit e =
+        let f : ltb u (blockCount cells) ≡ true = rw e at fit in
+        omega (arith, ltb-true u (blockCount cells) f, ok .few-blocks)
+
+    module _ {s v : Value} (es : (stack : List Register) → s ≡ register (frameOf own stack) (x .s)) (ev : (stack : List Register) → v ≡ operand (frameOf own stack) x)
+        (words : List ℤ) (choices : Choices) where
+      -- an answer to these values is the instruction's, whatever the stack
+      pub executes : (o : Op) → getD opcodes (x .opcode) unknown ≡ o → {e : Executed}
+          → e ≡ answered (programOf cells) words choices s v (countedActive (activeOf (own .task))) (own .task .forks) o
+          → (stack : List Register) → e ≡ executedOf (programOf cells) words choices (frameOf own stack)
+      unfolding executed
+      executes o eo h stack =
+          h
+          ∙ ap (answered (programOf cells) words choices s v (countedActive (activeOf (own .task))) (own .task .forks)) (sym eo)
+          ∙ ap (λ w. executed (programOf cells) words choices x w v (activeOf (own .task)) (own .task .forks)) (es stack)
+          ∙ ap (λ w. executed (programOf cells) words choices x (register (frameOf own stack) (x .s)) w (activeOf (own .task)) (own .task .forks)) (ev stack)
+          ∙ ap (λ (y : Instruction). executed (programOf cells) words choices y (register (frameOf own stack) (y .s)) (operand (frameOf own stack) y)
+          (activeOf (own .task)) (own .task .forks)) ex

@@ -1,11 +1,13 @@
 -- What an instruction makes of the task in hand and of the rows: each way through `apply`.
 use mathlib.Core.Path.{_≡_, refl, sym, ap, subst, _∙_}
+use mathlib.Core.Bool.{true, false, cond}
 use mathlib.Core.Logic.{inl, inr}
 use mathlib.Core.List.{List}
 use Prim.Native.Nat.{ℕ, zero, suc, _+_, _*_, _-_, _/_, _%_, _<_, _≤_}
 use native.Mathlib.Omega.{arith}
-use lib.ListN.{length, set, length-set}
+use lib.ListN.{length, getD, set, length-set}
 use lib.Seq.{sets}
+use borrow.Author.Tests.{lt-ltb, le-ltb}
 use Rattle.agreement.specs.Plain.{one, two}
 use Rattle.task.specs.declared.Value.{Value}
 use Rattle.task.specs.declared.Value.the-variants.{Record}
@@ -16,26 +18,38 @@ use Rattle.task.specs.declared.Fork.{Fork}
 use Rattle.task.specs.declared.Task.{Task}
 use Rattle.task.specs.declared.Frame.{Frame}
 use Rattle.task.specs.declared.Kind.{Kind}
-use Rattle.task.specs.declared.Kind.the-variants.{Stores, Goes, Waits, Halts, Faults, Forks}
+use Rattle.task.specs.declared.Kind.the-variants.{Stores, Goes, Pushes, Pops, Waits, Halts, Faults, Forks}
 use Rattle.task.specs.declared.Executed.{Executed}
-use Rattle.task.specs.Frames.{zeros, running}
+use Rattle.task.specs.Frames.{zeroRegister, zeros, emptyStack, isRunning}
 use Rattle.task.specs.Values.{recordOf}
 use Rattle.task.specs.Stretches.{reads}
-use Rattle.task.specs.Step.{counted, movedTo, ended, side, withTask}
+use Rattle.task.specs.Step.{counted, movedTo, ended, side, withHeight, withTask, emptied, faulted, pushed, popped}
 use Rattle.task.proofs.StretchLaws.{reads-same, reads-sets}
-use Rattle.facts.proofs.Tests.{by-order}
+use Rattle.facts.proofs.Tests.{by-below, by-order}
 use Rattle.evaluator.specs.declared.Hand.{Hand}
 use Rattle.evaluator.specs.declared.Kept.{Kept}
 use Rattle.arms.specs.Registers.{valueOf, registersOf, Sized}
+use Rattle.arms.specs.Turns.{Stacked}
 use Rattle.evaluator.specs.Banks.{bankFrom, forkOf, forksOf}
-use Rattle.evaluator.specs.Sides.{frameOf, madeOf}
-use Rattle.evaluator.specs.Hands.{statusFrom, registersFrom, frameFrom, Rows, rowsOf, keptOf, Keeps, handFrame}
-use Rattle.evaluator.specs.Hands.{keptFrame, Full, handSide, goneOn, endedWith, parentOf, childOf, steppedIn, Applied}
+use Rattle.evaluator.specs.Stacks.{entriesFrom, stackOf}
+use Rattle.evaluator.specs.Sides.{madeOf}
+use Rattle.evaluator.specs.Hands.{statusFrom, registersFrom, frameFrom, Rows, rowsOf, keptOf, lowOf, Keeps, handFrame, Piled}
+use Rattle.evaluator.specs.Hands.{keptFrame, Full, handSide, goneOn, endedWith, parentOf, childOf, Pushed, Popped, steppedIn, ownFrame, Applied}
 use Rattle.arms.proofs.RegisterLaws.{written, still-sized}
 use Rattle.evaluator.proofs.BankLaws.{length-sets}
 use Rattle.evaluator.proofs.ForkLaws.{forks-opened, forks-below}
+use Rattle.evaluator.proofs.StackLaws.{entries-none, entries-pushed, entries-popped, entry-at, entries-other, low-same, low-most, low-above}
 
--- ---- faults
+-- ---- by the number of what a task does
+
+pub not-running : (w : ℕ) → (w ≡ 0 → ⊥) → isRunning (statusFrom w) ≡ false
+not-running zero h = absurd (h refl)
+not-running (suc zero) h = refl
+not-running (suc (suc zero)) h = refl
+not-running (suc (suc (suc w))) h = refl
+
+pub is-running : (w : ℕ) → w ≡ 0 → isRunning (statusFrom w) ≡ true
+is-running w e = rw e
 
 pub fault-status : (w : ℕ) → 3 ≤ w → statusFrom w ≡ Faulted w
 fault-status zero h = absurd (omega arith)
@@ -82,42 +96,76 @@ bank-other bank marks nums kinds d i h n =
 
 -- ---- a kept side by its parts
 
-pub kept-by : (k k′ : Kept) (n : ℕ) (o o′ : List Fork) (l l′ : List Register) → k ≡ k′ → o ≡ o′ → l ≡ l′
-    → frameFrom (k .what) (k .places) n o (k .pc / 4) 0 (k .span) l ≡ frameFrom (k′ .what) (k′ .places) n o′ (k′ .pc / 4) 0 (k′ .span) l′
-kept-by k k′ n o o′ l l′ p q r =
-    ap (λ (x : Kept). frameFrom (x .what) (x .places) n o (x .pc / 4) 0 (x .span) l) p
-    ∙ ap (λ x. frameFrom (k′ .what) (k′ .places) n x (k′ .pc / 4) 0 (k′ .span) l) q
-    ∙ ap (frameFrom (k′ .what) (k′ .places) n o′ (k′ .pc / 4) 0 (k′ .span)) r
+pub kept-by : (k k′ : Kept) (n : ℕ) (o o′ : List Fork) (u u′ : Stacked) (l l′ : List Register) → k ≡ k′ → o ≡ o′ → u ≡ u′ → l ≡ l′
+    → frameFrom (k .what) (k .places) n o (k .pc / 4) 0 (k .span) u l ≡ frameFrom (k′ .what) (k′ .places) n o′ (k′ .pc / 4) 0 (k′ .span) u′ l′
+kept-by k k′ n o o′ u u′ l l′ p q s r =
+    ap (λ (x : Kept). frameFrom (x .what) (x .places) n o (x .pc / 4) 0 (x .span) u l) p
+    ∙ (λ j. frameFrom (k′ .what) (k′ .places) n (q j) (k′ .pc / 4) 0 (k′ .span) (s j) (r j))
+
+-- ---- stacks of kept sides
+
+-- an empty one
+pub stack-none : (pile tags : List ℕ) (low n : ℕ) → n ≡ 0 → _≡_ {A = Stacked} (stackOf pile tags low n) (record { height = 0; values = emptyStack })
+stack-none pile tags low n e =
+    ap (stackOf pile tags low) e ∙ (λ j. record { height = 0; values = entries-none pile tags low 32 j })
+
+by-zero : {A : Type 0} (w : ℕ) → (w ≡ 0 → A) → ((w ≡ 0 → ⊥) → A) → A
+by-zero zero f g = f refl
+by-zero (suc w) f g = g (λ e. absurd (omega (arith, e)))
+
+-- a push of the task in hand leaves them
+pub stack-stays : (h : Hand) (sides pile tags : List ℕ) (u k i : ℕ) → Piled h sides → i < h .depth
+    → stackOf (set pile (h .low + h .height) u) (set tags (h .low + h .height) k) (lowOf sides i) (keptOf sides i .height)
+    ≡ stackOf pile tags (lowOf sides i) (keptOf sides i .height)
+stack-stays h sides pile tags u k i piled l = by-zero (keptOf sides i .what)
+    (λ e.
+    let n = piled .none-yet i l e in
+    stack-none (set pile (h .low + h .height) u) (set tags (h .low + h .height) k) (lowOf sides i) (keptOf sides i .height) n
+    ∙ sym (stack-none pile tags (lowOf sides i) (keptOf sides i .height) n))
+    (λ n.
+    let below = low-above sides (h .depth) i l n in
+    let e = entries-other pile tags (lowOf sides i) (keptOf sides i .height) 32 (h .low + h .height) u k (omega (arith, below, piled .own-low)) in
+    λ j. record { height = keptOf sides i .height; values = e j })
 
 -- ---- by the kind of what was carried out
 
-module _ (h : Hand) (nums kinds bank marks recs sides : List ℕ) (r : ℕ) (e : Executed) (full : Full (rowsOf nums kinds bank marks recs sides)) (some : 0 < h .left)
-    (least : h .left ≤ h .spun) where
+module _ (h : Hand) (nums kinds bank marks recs sides pile tags : List ℕ) (r : ℕ) (e : Executed) (full : Full (rowsOf nums kinds bank marks recs sides pile tags))
+    (some : 0 < h .left) (least : h .left ≤ h .spun) where
   abbrev rows : Rows
-  rows = rowsOf nums kinds bank marks recs sides
+  rows = rowsOf nums kinds bank marks recs sides pile tags
 
   abbrev task : Task
   task = handSide h recs nums kinds .task
 
   abbrev f : Frame
-  f = frameOf (handSide h recs nums kinds)
+  f = ownFrame h rows
 
   span-more : h .spun - (h .left - 1) ≡ h .spun - h .left + 1
   span-more = omega (arith, some, least)
 
-  goes-frame : (pc counter : ℕ) (l : List Register)
-      → frameFrom 0 (h .places) (h .depth) (forksOf recs (h .depth)) (4 * pc / 4) (h .left - 1 + counter - (h .left - 1)) (h .spun - (h .left - 1)) l
-      ≡ record { task = movedTo pc counter (counted task); registers = l }
-  goes-frame pc counter l =
+  goes-frame : (pc counter : ℕ) (u : Stacked) (v : List Register) (l : List Register) → u .values ≡ v
+      → frameFrom 0 (h .places) (h .depth) (forksOf recs (h .depth)) (4 * pc / 4) (h .left - 1 + counter - (h .left - 1)) (h .spun - (h .left - 1)) u l
+      ≡ record { task = withHeight (u .height) (movedTo pc counter (counted task)); registers = l; stack = v }
+  goes-frame pc counter u v l q =
       let a : 4 * pc / 4 ≡ pc = omega arith in
       let b : h .left - 1 + counter - (h .left - 1) ≡ counter = omega arith in
       λ j. record {
-        task = record { status = Running; places = h .places; pc = a j; counter = b j; span = span-more j; depth = h .depth; forks = forksOf recs (h .depth) };
+        task = record {
+          status = Running;
+          places = h .places;
+          pc = a j;
+          counter = b j;
+          span = span-more j;
+          depth = h .depth;
+          height = u .height;
+          forks = forksOf recs (h .depth);
+        };
         registers = l;
+        stack = q j;
       }
 
-  abbrev atEnd : ℕ → List Register → Frame
-  atEnd w l = record {
+  abbrev atEnd : ℕ → Stacked → List Register → Frame
+  atEnd w u l = record {
     task = record {
       status = statusFrom w;
       places = h .places;
@@ -125,66 +173,206 @@ module _ (h : Hand) (nums kinds bank marks recs sides : List ℕ) (r : ℕ) (e :
       counter = h .left - 1 - (h .left - 1);
       span = h .spun - (h .left - 1);
       depth = h .depth;
+      height = u .height;
       forks = forksOf recs (h .depth);
     };
     registers = l;
+    stack = u .values;
   }
 
-  ends-frame : (w : ℕ) (s : Status) (l l′ : List Register) → statusFrom w ≡ s → l ≡ l′ → atEnd w l ≡ record { task = ended s (counted task); registers = l′ }
-  ends-frame w s l l′ p q =
+  ends-frame : (w : ℕ) (s : Status) (u : Stacked) (v l l′ : List Register) → statusFrom w ≡ s → u .values ≡ v → l ≡ l′
+      → atEnd w u l ≡ record { task = withHeight (u .height) (ended s (counted task)); registers = l′; stack = v }
+  ends-frame w s u v l l′ p t q =
       let b : h .left - 1 - (h .left - 1) ≡ 0 = omega arith in
       λ j. record {
-        task = record { status = p j; places = h .places; pc = 0; counter = b j; span = span-more j; depth = h .depth; forks = forksOf recs (h .depth) };
+        task = record {
+          status = p j;
+          places = h .places;
+          pc = 0;
+          counter = b j;
+          span = span-more j;
+          depth = h .depth;
+          height = u .height;
+          forks = forksOf recs (h .depth);
+        };
         registers = q j;
+        stack = t j;
       }
 
+  -- a fault, whatever the pile holds
+  faults-frame : (n : ℕ) → 3 ≤ n → handFrame (endedWith h n 0) rows ≡ faulted n (withTask (counted (f .task)) f)
+  faults-frame n l = ends-frame n (Faulted n) (stackOf pile tags (h .low) 0) emptyStack (registersFrom n (registersOf nums kinds)) zeros (fault-status n l)
+      (entries-none pile tags (h .low) 32) (fault-registers n (registersOf nums kinds) l)
+
   -- one task, and the kept sides stay
-  alone : (k : Kind) → e .kind ≡ k → (k ≡ Forks → ⊥) → (z : Hand) (nums′ kinds′ : List ℕ) → Sized nums′ kinds′ → z .left ≡ h .left - 1 → z .pc ≡ 4 * (z .pc / 4)
-      → z .left ≤ z .beat → z .spun ≡ h .spun
-      → steppedIn k (handFrame z (rowsOf nums′ kinds′ bank marks recs sides)) (keptFrame rows (h .depth)) ≡ madeOf k f r e
-      → Applied h rows r e z (rowsOf nums′ kinds′ bank marks recs sides)
-  alone k q n z nums′ kinds′ sized less on least same m = record {
-    made = ap (λ y. steppedIn y (handFrame z (rowsOf nums′ kinds′ bank marks recs sides)) (keptFrame rows (h .depth))) q ∙ m ∙ ap (λ y. madeOf y f r e) (sym q);
-    same-below = λ i l. refl;
-    same-pc = λ i l. refl;
-    child-runs = λ x. absurd (n (sym q ∙ x));
-    child-on-place = λ x. absurd (n (sym q ∙ x));
-    still-full = record { sized = sized; bank-full = full .bank-full; marks-full = full .marks-full; recs-full = full .recs-full; sides-full = full .sides-full };
+  alone : (k : Kind) → e .kind ≡ k → (k ≡ Forks → ⊥) → (z : Hand) (nums′ kinds′ pile′ tags′ : List ℕ) → Sized nums′ kinds′
+      → length pile′ ≡ 224 → length tags′ ≡ 224
+      → ((i : ℕ) → i < h .depth → keptFrame (rowsOf nums′ kinds′ bank marks recs sides pile′ tags′) i ≡ keptFrame rows i)
+      → z .left ≡ h .left - 1 → z .pc ≡ 4 * (z .pc / 4) → z .left ≤ z .beat → z .spun ≡ h .spun → z .low ≡ h .low
+      → steppedIn k (handFrame z (rowsOf nums′ kinds′ bank marks recs sides pile′ tags′)) (keptFrame (rowsOf nums′ kinds′ bank marks recs sides pile′ tags′) (h .depth)) ≡ madeOf k f r e
+      → Applied h rows r e z (rowsOf nums′ kinds′ bank marks recs sides pile′ tags′)
+  alone k q n z nums′ kinds′ pile′ tags′ sized lp lt below less on least same low m = record {
+    made = ap (λ y. steppedIn y (handFrame z (rowsOf nums′ kinds′ bank marks recs sides pile′ tags′)) (keptFrame (rowsOf nums′ kinds′ bank marks recs sides pile′ tags′) (h .depth))) q
+        ∙ m ∙ ap (λ y. madeOf y f r e) (sym q);
+    same-below = below;
+    same-kept = λ i l. refl;
+    child-kept = λ x. absurd (n (sym q ∙ x));
+    still-full = record {
+      sized = sized;
+      bank-full = full .bank-full;
+      marks-full = full .marks-full;
+      recs-full = full .recs-full;
+      sides-full = full .sides-full;
+      pile-full = lp;
+      tags-full = lt;
+    };
     less = less;
     on-place = on;
     counter-least = least;
     same-spun = same;
+    same-low = low;
   }
 
+  -- with these registers, and the pile as it was
+  going-on : (k : Kind) → e .kind ≡ k → (k ≡ Forks → ⊥) → (n : ℕ) (nums′ kinds′ : List ℕ) → Sized nums′ kinds′
+      → steppedIn k (handFrame (goneOn h (e .pc) (e .counter) n) (rowsOf nums′ kinds′ bank marks recs sides pile tags)) (keptFrame rows (h .depth)) ≡ madeOf k f r e
+      → {z : Hand} → z ≡ goneOn h (e .pc) (e .counter) n → Applied h rows r e z (rowsOf nums′ kinds′ bank marks recs sides pile tags)
+  going-on k q apart n nums′ kinds′ sized m y = subst (λ z. Applied h rows r e z (rowsOf nums′ kinds′ bank marks recs sides pile tags)) (sym y)
+      (alone k q apart (goneOn h (e .pc) (e .counter) n) nums′ kinds′ pile tags sized (full .pile-full) (full .tags-full) (λ i l. refl) refl (omega arith) (omega arith) refl refl m)
+
+  ending-with : (k : Kind) → e .kind ≡ k → (k ≡ Forks → ⊥) → (w n : ℕ)
+      → steppedIn k (handFrame (endedWith h w n) rows) (keptFrame rows (h .depth)) ≡ madeOf k f r e
+      → {z : Hand} → z ≡ endedWith h w n → Applied h rows r e z rows
+  ending-with k q apart w n m y = subst (λ z. Applied h rows r e z rows) (sym y)
+      (alone k q apart (endedWith h w n) nums kinds pile tags (full .sized) (full .pile-full) (full .tags-full) (λ i l. refl) refl refl (omega arith) refl refl m)
+
   pub applied-stores : (u k : ℕ) {nums′ kinds′ : List ℕ} {z : Hand} → e .kind ≡ Stores → valueOf k u ≡ e .value → nums′ ≡ set nums r u → kinds′ ≡ set kinds r k
-      → z ≡ goneOn h (e .pc) (e .counter) → Applied h rows r e z (rowsOf nums′ kinds′ bank marks recs sides)
-  applied-stores u k {nums′} {kinds′} q v p t y = subst (λ z. Applied h rows r e z (rowsOf nums′ kinds′ bank marks recs sides)) (sym y)
-      (alone Stores q (λ x. let z : _≡_ {A = ℕ} 0 1 = cc in absurd (omega arith)) (goneOn h (e .pc) (e .counter)) nums′ kinds′
-      (still-sized nums kinds r u k (full .sized) p t) refl (omega arith) (omega arith) refl
-      (ap one (goes-frame (e .pc) (e .counter) (registersOf nums′ kinds′)
-      ∙ ap (λ l. record { task = movedTo (e .pc) (e .counter) (counted task); registers = l })
-      (rw (p, t) (written nums kinds r u k) ∙ ap (λ w. set (registersOf nums kinds) r (record { value = w })) v))))
+      → z ≡ goneOn h (e .pc) (e .counter) (h .height) → Applied h rows r e z (rowsOf nums′ kinds′ bank marks recs sides pile tags)
+  applied-stores u k {nums′} {kinds′} q v p t y =
+      going-on Stores q (λ x. let z : _≡_ {A = ℕ} 0 1 = cc in absurd (omega arith)) (h .height) nums′ kinds′ (still-sized nums kinds r u k (full .sized) p t)
+      (ap one (goes-frame (e .pc) (e .counter) (stackOf pile tags (h .low) (h .height)) (f .stack) (registersOf nums′ kinds′) refl
+      ∙ ap (λ l. record { task = movedTo (e .pc) (e .counter) (counted task); registers = l; stack = f .stack })
+      (rw (p, t) (written nums kinds r u k) ∙ ap (λ w. set (registersOf nums kinds) r (record { value = w })) v))) y
 
-  pub applied-goes : {z : Hand} → e .kind ≡ Goes → z ≡ goneOn h (e .pc) (e .counter) → Applied h rows r e z rows
-  applied-goes q y = subst (λ z. Applied h rows r e z rows) (sym y)
-      (alone Goes q (λ x. let z : _≡_ {A = ℕ} 0 1 = cc in absurd (omega arith)) (goneOn h (e .pc) (e .counter)) nums kinds (full .sized) refl (omega arith) (omega arith) refl
-      (ap one (goes-frame (e .pc) (e .counter) (registersOf nums kinds))))
+  pub applied-goes : {z : Hand} → e .kind ≡ Goes → z ≡ goneOn h (e .pc) (e .counter) (h .height) → Applied h rows r e z rows
+  applied-goes q y =
+      going-on Goes q (λ x. let z : _≡_ {A = ℕ} 0 1 = cc in absurd (omega arith)) (h .height) nums kinds (full .sized)
+      (ap one (goes-frame (e .pc) (e .counter) (stackOf pile tags (h .low) (h .height)) (f .stack) (registersOf nums kinds) refl)) y
 
-  pub applied-waits : {z : Hand} → e .kind ≡ Waits → z ≡ endedWith h 2 → Applied h rows r e z rows
-  applied-waits q y = subst (λ z. Applied h rows r e z rows) (sym y)
-      (alone Waits q (λ x. let z : _≡_ {A = ℕ} 0 1 = cc in absurd (omega arith)) (endedWith h 2) nums kinds (full .sized) refl refl (omega arith) refl
-      (ap one (ends-frame 2 Waiting _ _ refl refl)))
+  pub applied-waits : {z : Hand} → e .kind ≡ Waits → z ≡ endedWith h 2 (h .height) → Applied h rows r e z rows
+  applied-waits q y =
+      ending-with Waits q (λ x. let z : _≡_ {A = ℕ} 0 1 = cc in absurd (omega arith)) 2 (h .height)
+      (ap one (ends-frame 2 Waiting (stackOf pile tags (h .low) (h .height)) (f .stack) _ _ refl refl refl)) y
 
-  pub applied-halts : {z : Hand} → e .kind ≡ Halts → z ≡ endedWith h 1 → Applied h rows r e z rows
-  applied-halts q y = subst (λ z. Applied h rows r e z rows) (sym y)
-      (alone Halts q (λ x. let z : _≡_ {A = ℕ} 0 1 = cc in absurd (omega arith)) (endedWith h 1) nums kinds (full .sized) refl refl (omega arith) refl
-      (ap one (ends-frame 1 Halted _ _ refl refl)))
+  pub applied-halts : {z : Hand} → e .kind ≡ Halts → z ≡ endedWith h 1 (h .height) → Applied h rows r e z rows
+  applied-halts q y =
+      ending-with Halts q (λ x. let z : _≡_ {A = ℕ} 0 1 = cc in absurd (omega arith)) 1 (h .height)
+      (ap one (ends-frame 1 Halted (stackOf pile tags (h .low) (h .height)) (f .stack) _ _ refl refl refl)) y
 
-  pub applied-faults : {z : Hand} → e .kind ≡ Faults → 3 ≤ e .fault → z ≡ endedWith h (e .fault) → Applied h rows r e z rows
-  applied-faults q n y = subst (λ z. Applied h rows r e z rows) (sym y)
-      (alone Faults q (λ x. let z : _≡_ {A = ℕ} 0 1 = cc in absurd (omega arith)) (endedWith h (e .fault)) nums kinds (full .sized) refl refl (omega arith) refl
-      (ap one (ends-frame (e .fault) (Faulted (e .fault)) (registersFrom (e .fault) (registersOf nums kinds)) zeros (fault-status (e .fault) n)
-      (fault-registers (e .fault) (registersOf nums kinds) n))))
+  pub applied-faults : {z : Hand} → e .kind ≡ Faults → 3 ≤ e .fault → z ≡ endedWith h (e .fault) 0 → Applied h rows r e z rows
+  applied-faults q n y =
+      ending-with Faults q (λ x. let z : _≡_ {A = ℕ} 0 1 = cc in absurd (omega arith)) (e .fault) 0 (ap one (faults-frame (e .fault) n)) y
+
+  -- ---- the stack
+
+  -- the frame at the next instruction
+  abbrev onward : Frame
+  onward = withTask (movedTo (e .pc) (e .counter) (counted (f .task))) f
+
+  -- rows that are as they were
+  same-rows : {z : Hand} {nums′ kinds′ pile′ tags′ : List ℕ} → nums′ ≡ nums → kinds′ ≡ kinds → pile′ ≡ pile → tags′ ≡ tags → Applied h rows r e z rows
+      → Applied h rows r e z (rowsOf nums′ kinds′ bank marks recs sides pile′ tags′)
+  same-rows {z} {nums′} {kinds′} {pile′} {tags′} a b c d x =
+      subst (λ l. Applied h rows r e z (rowsOf l kinds′ bank marks recs sides pile′ tags′)) (sym a)
+      (subst (λ l. Applied h rows r e z (rowsOf nums l bank marks recs sides pile′ tags′)) (sym b)
+      (subst (λ l. Applied h rows r e z (rowsOf nums kinds bank marks recs sides l tags′)) (sym c)
+      (subst (λ l. Applied h rows r e z (rowsOf nums kinds bank marks recs sides pile l)) (sym d) x)))
+
+  module _ (piled : Piled h sides) (shallow : h .depth ≤ 6) where
+    pub low-small : h .low ≤ 192
+    low-small = omega (arith, piled .own-low, low-most sides (h .depth), shallow)
+
+    module _ (u k : ℕ) (place : h .height < 32) (v : valueOf k u ≡ e .value) where
+      abbrev now : Hand
+      now = goneOn h (e .pc) (e .counter) (h .height + 1)
+
+      abbrev pile-now : List ℕ
+      pile-now = set pile (h .low + h .height) u
+
+      abbrev tags-now : List ℕ
+      tags-now = set tags (h .low + h .height) k
+
+      push-values : entriesFrom pile-now tags-now (h .low) (h .height + 1) 32 ≡ set (f .stack) (h .height) (record { value = e .value })
+      push-values =
+          let n : h .height + 1 ≡ suc (h .height) = omega arith in
+          ap (λ m. entriesFrom pile-now tags-now (h .low) m 32) n
+          ∙ entries-pushed pile tags (h .low) (h .height) 32 u k place (omega (arith, low-small, place, full .pile-full)) (omega (arith, low-small, place, full .tags-full))
+          ∙ ap (λ w. set (f .stack) (h .height) (record { value = w })) v
+
+      push-below : (i : ℕ) → i < h .depth → keptFrame (rowsOf nums kinds bank marks recs sides pile-now tags-now) i ≡ keptFrame rows i
+      push-below i l = kept-by (keptOf sides i) (keptOf sides i) (i + 1) (forksOf recs (i + 1)) (forksOf recs (i + 1))
+          (stackOf pile-now tags-now (lowOf sides i) (keptOf sides i .height)) (stackOf pile tags (lowOf sides i) (keptOf sides i .height))
+          (bankFrom bank marks (16 * i)) (bankFrom bank marks (16 * i)) refl refl (stack-stays h sides pile tags u k i piled l) refl
+
+      push-placed : {z : Hand} {pile′ tags′ : List ℕ} → e .kind ≡ Pushes → z ≡ now → pile′ ≡ pile-now → tags′ ≡ tags-now
+          → Applied h rows r e z (rowsOf nums kinds bank marks recs sides pile′ tags′)
+      push-placed {z} {pile′} {tags′} q y p t =
+          subst (λ z. Applied h rows r e z (rowsOf nums kinds bank marks recs sides pile′ tags′)) (sym y)
+          (subst (λ l. Applied h rows r e now (rowsOf nums kinds bank marks recs sides l tags′)) (sym p)
+          (subst (λ l. Applied h rows r e now (rowsOf nums kinds bank marks recs sides pile-now l)) (sym t)
+          (alone Pushes q (λ x. let z : _≡_ {A = ℕ} 0 1 = cc in absurd (omega arith)) now nums kinds pile-now tags-now (full .sized)
+          (length-set pile (h .low + h .height) u ∙ full .pile-full) (length-set tags (h .low + h .height) k ∙ full .tags-full) push-below
+          refl (omega arith) (omega arith) refl refl
+          (ap one (goes-frame (e .pc) (e .counter) (stackOf pile-now tags-now (h .low) (h .height + 1)) (set (f .stack) (h .height) (record { value = e .value }))
+          (registersOf nums kinds) push-values
+          ∙ ap (λ b. cond b (pushed (e .value) onward) (faulted 42 (withTask (counted (f .task)) f))) (sym (lt-ltb (h .height) 32 place)))))))
+
+    push-faults : {z : Hand} → e .kind ≡ Pushes → 32 ≤ h .height → z ≡ endedWith h 42 0 → Applied h rows r e z rows
+    push-faults q none y =
+        ending-with Pushes q (λ x. let z : _≡_ {A = ℕ} 0 1 = cc in absurd (omega arith)) 42 0
+        (ap one (faults-frame 42 (omega arith)
+        ∙ ap (λ b. cond b (pushed (e .value) onward) (faulted 42 (withTask (counted (f .task)) f))) (sym (le-ltb (h .height) 32 none)))) y
+
+    pub applied-pushes : {z : Hand} {pile′ tags′ : List ℕ} → e .kind ≡ Pushes → Pushed h e pile tags z pile′ tags′
+        → Applied h rows r e z (rowsOf nums kinds bank marks recs sides pile′ tags′)
+    applied-pushes q x = by-below (h .height) 32
+        (λ b. let y = x .has-place b in push-placed (y .0) (y .1) b (y .2) q (y .3) (y .4) (y .5))
+        (λ b. let y = x .no-place b in same-rows refl refl (y .1) (y .2) (push-faults q b (y .0)))
+
+    module _ (one-there : 0 < h .height) (most : h .height ≤ 32) where
+      abbrev n : ℕ
+      n = h .height - 1
+
+      abbrev at : ℕ
+      at = h .low + n
+
+      pop-values : entriesFrom pile tags (h .low) n 32 ≡ set (f .stack) n zeroRegister
+      pop-values =
+          let m : suc n ≡ h .height = omega (arith, one-there) in
+          entries-popped pile tags (h .low) n 32 ∙ ap (λ i. set (entriesFrom pile tags (h .low) i 32) n zeroRegister) m
+
+      pop-taken : {z : Hand} {nums′ kinds′ : List ℕ} → e .kind ≡ Pops → z ≡ goneOn h (e .pc) (e .counter) n
+          → nums′ ≡ set nums r (getD pile at 0) → kinds′ ≡ set kinds r (getD tags at 0)
+          → Applied h rows r e z (rowsOf nums′ kinds′ bank marks recs sides pile tags)
+      pop-taken {z} {nums′} {kinds′} q y p t =
+          going-on Pops q (λ x. let z : _≡_ {A = ℕ} 0 1 = cc in absurd (omega arith)) n nums′ kinds′ (still-sized nums kinds r (getD pile at 0) (getD tags at 0) (full .sized) p t)
+          (ap one (goes-frame (e .pc) (e .counter) (stackOf pile tags (h .low) n) (set (f .stack) n zeroRegister) (registersOf nums′ kinds′) pop-values
+          ∙ ap (λ l. record { task = withHeight n (movedTo (e .pc) (e .counter) (counted task)); registers = l; stack = set (f .stack) n zeroRegister })
+          (rw (p, t) (written nums kinds r (getD pile at 0) (getD tags at 0))
+          ∙ ap (set (registersOf nums kinds) r) (sym (entry-at pile tags (h .low) (h .height) 32 n (omega (arith, one-there)) (omega (arith, one-there, most)))))
+          ∙ ap (λ b. cond b (popped r onward) (faulted 43 (withTask (counted (f .task)) f))) (sym (lt-ltb 0 (h .height) one-there)))) y
+
+    pop-faults : {z : Hand} → e .kind ≡ Pops → h .height ≡ 0 → z ≡ endedWith h 43 0 → Applied h rows r e z rows
+    pop-faults q none y =
+        ending-with Pops q (λ x. let z : _≡_ {A = ℕ} 0 1 = cc in absurd (omega arith)) 43 0
+        (ap one (faults-frame 43 (omega arith)
+        ∙ ap (λ b. cond b (popped r onward) (faulted 43 (withTask (counted (f .task)) f))) (sym (le-ltb 0 (h .height) (omega (arith, none)))))) y
+
+    pub applied-pops : {z : Hand} {nums′ kinds′ : List ℕ} → e .kind ≡ Pops → h .height ≤ 32 → Popped h r e pile tags nums kinds z nums′ kinds′
+        → Applied h rows r e z (rowsOf nums′ kinds′ bank marks recs sides pile tags)
+    applied-pops q most x = by-below 0 (h .height)
+        (λ b. let y = x .has-value b in pop-taken b most q (y .0) (y .1) (y .2))
+        (λ b. let n : h .height ≡ 0 = omega (arith, b) in let y = x .no-value n in same-rows (y .1) (y .2) refl refl (pop-faults q n (y .0)))
 
   -- two sides
   module _ (u : ℕ) (under : forkOf u ≡ recordOf (e .value)) (room : h .depth < 6) (sides′ : List ℕ) (keeps : Keeps sides (h .depth) (childOf h (e .child)) sides′) where
@@ -198,7 +386,7 @@ module _ (h : Hand) (nums kinds bank marks recs sides : List ℕ) (r : ℕ) (e :
     recs′ = set recs (h .depth) u
 
     abbrev rows′ : Rows
-    rows′ = rowsOf nums kinds bank′ marks′ recs′ sides′
+    rows′ = rowsOf nums kinds bank′ marks′ recs′ sides′ pile tags
 
     forks-now : forksOf recs′ (h .depth + 1) ≡ set (forksOf recs (h .depth)) (h .depth) (recordOf (e .value))
     forks-now =
@@ -213,52 +401,91 @@ module _ (h : Hand) (nums kinds bank marks recs sides : List ℕ) (r : ℕ) (e :
         let a : 4 * e .pc / 4 ≡ e .pc = omega arith in
         let b : h .left - 1 + e .counter - (h .left - 1) ≡ e .counter = omega arith in
         λ j. record {
-          task = record { status = Running; places = h .places / 2; pc = a j; counter = b j; span = span-more j; depth = h .depth + 1; forks = forks-now j };
+          task = record {
+            status = Running;
+            places = h .places / 2;
+            pc = a j;
+            counter = b j;
+            span = span-more j;
+            depth = h .depth + 1;
+            height = h .height;
+            forks = forks-now j;
+          };
           registers = registersOf nums kinds;
+          stack = f .stack;
         }
 
-    child-is : keptFrame rows′ (h .depth) ≡ withTask (movedTo (e .child) 0 parent) f
+    -- the child's stack is empty
+    abbrev empty : Stacked
+    empty = record { height = 0; values = emptyStack }
+
+    child-is : keptFrame rows′ (h .depth) ≡ emptied (withTask (movedTo (e .child) 0 parent) f)
     child-is =
         kept-by (keptOf sides′ (h .depth)) (childOf h (e .child)) (h .depth + 1) (forksOf recs′ (h .depth + 1)) (forksOf recs′ (h .depth + 1))
+        (stackOf pile tags (lowOf sides′ (h .depth)) (keptOf sides′ (h .depth) .height)) empty
         (bankFrom bank′ marks′ (16 * h .depth)) (registersOf nums kinds) (keeps .there) refl
+        (stack-none pile tags (lowOf sides′ (h .depth)) (keptOf sides′ (h .depth) .height) (ap (λ (k : Kept). k .height) (keeps .there)))
         (bank-same bank marks nums kinds (h .depth) (full .sized) (full .bank-full) (full .marks-full) room)
         ∙ last
       where
-        last : frameFrom 0 (h .places / 2) (h .depth + 1) (forksOf recs′ (h .depth + 1)) (4 * e .child / 4) 0 (h .spun - (h .left - 1)) (registersOf nums kinds)
-            ≡ withTask (movedTo (e .child) 0 parent) f
+        last : frameFrom 0 (h .places / 2) (h .depth + 1) (forksOf recs′ (h .depth + 1)) (4 * e .child / 4) 0 (h .spun - (h .left - 1)) empty (registersOf nums kinds)
+            ≡ emptied (withTask (movedTo (e .child) 0 parent) f)
         last =
             let a : 4 * e .child / 4 ≡ e .child = omega arith in
             λ j. record {
-              task = record { status = Running; places = h .places / 2; pc = a j; counter = 0; span = span-more j; depth = h .depth + 1; forks = forks-now j };
+              task = record {
+                status = Running;
+                places = h .places / 2;
+                pc = a j;
+                counter = 0;
+                span = span-more j;
+                depth = h .depth + 1;
+                height = 0;
+                forks = forks-now j;
+              };
               registers = registersOf nums kinds;
+              stack = emptyStack;
             }
+
+    others-kept : (i : ℕ) → i < h .depth → keptOf sides′ i ≡ keptOf sides i
+    others-kept i l = keeps .elsewhere i (λ x. absurd (omega (arith, x, l)))
+
+    stacks-stay : (i : ℕ) → i < h .depth
+        → stackOf pile tags (lowOf sides′ i) (keptOf sides′ i .height) ≡ stackOf pile tags (lowOf sides i) (keptOf sides i .height)
+    stacks-stay i l =
+        let a = low-same sides sides′ i (λ m b. others-kept m (omega (arith, b, l))) in
+        let b = ap (λ (k : Kept). k .height) (others-kept i l) in
+        λ j. stackOf pile tags (a j) (b j)
 
     forks-applied : {z : Hand} → e .kind ≡ Forks → z ≡ parentOf h (e .pc) (e .counter) → Applied h rows r e z rows′
     forks-applied q y = subst (λ z. Applied h rows r e z rows′) (sym y) (record {
       made = ap (λ k. steppedIn k (handFrame (parentOf h (e .pc) (e .counter)) rows′) (keptFrame rows′ (h .depth))) q
           ∙ ap (λ p. two p (keptFrame rows′ (h .depth))) parent-is ∙ ap (two (withTask parent f)) child-is ∙ ap (λ k. madeOf k f r e) (sym q);
       same-below = λ i l. kept-by (keptOf sides′ i) (keptOf sides i) (i + 1) (forksOf recs′ (i + 1)) (forksOf recs (i + 1))
-          (bankFrom bank′ marks′ (16 * i)) (bankFrom bank marks (16 * i)) (keeps .elsewhere i (λ x. absurd (omega (arith, x, l))))
-          (forks-below recs (h .depth) (i + 1) u (omega (arith, l)))
+          (stackOf pile tags (lowOf sides′ i) (keptOf sides′ i .height)) (stackOf pile tags (lowOf sides i) (keptOf sides i .height))
+          (bankFrom bank′ marks′ (16 * i)) (bankFrom bank marks (16 * i)) (others-kept i l)
+          (forks-below recs (h .depth) (i + 1) u (omega (arith, l))) (stacks-stay i l)
           (bank-other bank marks nums kinds (h .depth) i (full .sized) (λ x. absurd (omega (arith, x, l))));
-      same-pc = λ i l. ap (λ (k : Kept). k .pc) (keeps .elsewhere i (λ x. absurd (omega (arith, x, l))));
-      child-runs = λ x. ap running child-is;
-      child-on-place = λ x. let p = ap (λ (k : Kept). k .pc) (keeps .there) in omega (arith, p);
+      same-kept = others-kept;
+      child-kept = λ x. keeps .there;
       still-full = record {
         sized = full .sized;
         bank-full = length-sets nums bank (16 * h .depth) ∙ full .bank-full;
         marks-full = length-sets kinds marks (16 * h .depth) ∙ full .marks-full;
         recs-full = length-set recs (h .depth) u ∙ full .recs-full;
         sides-full = keeps .same-length ∙ full .sides-full;
+        pile-full = full .pile-full;
+        tags-full = full .tags-full;
       };
       less = refl;
       on-place = omega arith;
       counter-least = omega arith;
       same-spun = refl;
+      same-low = refl;
     })
 
     pub applied-forks : {z : Hand} {b m c : List ℕ} → e .kind ≡ Forks → z ≡ parentOf h (e .pc) (e .counter) → b ≡ bank′ → m ≡ marks′ → c ≡ recs′
-        → Applied h rows r e z (rowsOf nums kinds b m c sides′)
-    applied-forks {z} {b} {m} {c} q y eb em ec = subst (λ l. Applied h rows r e z (rowsOf nums kinds l m c sides′)) (sym eb)
-        (subst (λ l. Applied h rows r e z (rowsOf nums kinds bank′ l c sides′)) (sym em)
-        (subst (λ l. Applied h rows r e z (rowsOf nums kinds bank′ marks′ l sides′)) (sym ec) (forks-applied q y)))
+        → Applied h rows r e z (rowsOf nums kinds b m c sides′ pile tags)
+    applied-forks {z} {b} {m} {c} q y eb em ec = subst (λ l. Applied h rows r e z (rowsOf nums kinds l m c sides′ pile tags)) (sym eb)
+        (subst (λ l. Applied h rows r e z (rowsOf nums kinds bank′ l c sides′ pile tags)) (sym em)
+        (subst (λ l. Applied h rows r e z (rowsOf nums kinds bank′ marks′ l sides′ pile tags)) (sym ec) (forks-applied q y)))

@@ -1,9 +1,10 @@
--- The laws, in their order: live tasks; then by rows: banks, records, kept sides, the task in hand, the loop over frames, its rounds, an ending
+-- The laws, in their order: live tasks; then by rows: banks, records, kept sides, stacks, the task in hand, the loop over frames, its rounds, an ending
 -- instruction.
 pub mod GoodLaws
 pub mod BankLaws
 pub mod ForkLaws
 pub mod KeepLaws
+pub mod StackLaws
 pub mod HandLaws
 pub mod FrameLaws
 pub mod ActLaws

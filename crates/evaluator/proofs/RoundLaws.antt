@@ -4,34 +4,38 @@ use mathlib.Core.Bool.{true, false}
 use mathlib.Core.List.{List, [], _∷_}
 use Prim.Native.Nat.{ℕ, zero, suc, _-_, _<_, _≤_}
 use native.Mathlib.Omega.{arith}
-use lib.Dec.{eqb, ltb, leb}
+use lib.Dec.{eqb, ltb}
 use lib.IntN.{ℤ}
 use lib.ListN.{length, getD, replicate}
-use borrow.Author.Tests.{eqb-true, eqb-false, leb-true, ltb-true}
+use borrow.Author.Tests.{eqb-true, eqb-false, ltb-true}
 use Rattle.facts.proofs.Tests.{both-true}
 use Rattle.image.specs.Program.{Program}
-use Rattle.image.specs.Layout.{programOf}
+use Rattle.image.specs.Layout.{versionOf, programOf}
 use Rattle.image.proofs.Accepted.{accepted}
 use Rattle.agreement.specs.Plain.{eval}
 use Rattle.serial.specs.Serial.{onward, Outcome, spent, done, run, withinBudget}
 use Rattle.serial.proofs.SerialLaws.{serial-is-plain}
 use Rattle.task.specs.declared.Frame.{Frame}
 use Rattle.task.specs.Frames.{zeroFork, noForks, startFrame, workLimit}
-use Rattle.task.specs.Formed.{every, forkFits, valueFits, statusFits}
+use Rattle.task.specs.Formed.{every, forkFits, valueFits, faultListed, statusFits}
 use Rattle.task.proofs.EveryLaws.{every-at}
-use Rattle.task.proofs.Formation.{Formed, formed-is, is-formed}
+use Rattle.task.proofs.Formation.{Formed, formed-is, is-formed, listed-within}
+use Rattle.task.proofs.Stacks.{empty-fits}
 use Rattle.task.proofs.Counts.{within-is, is-within, start-within}
 use Rattle.evaluator.specs.declared.Hand.{Hand}
 use Rattle.arms.specs.Registers.{registersOf, inRegister}
 use Rattle.evaluator.specs.Banks.{forksOf}
-use Rattle.arms.specs.Turns.{rules}
+use Rattle.evaluator.specs.Stacks.{stackOf}
+use Rattle.arms.specs.Turns.{Stacked, rules}
 use Rattle.evaluator.specs.Sides.{Good}
 use Rattle.evaluator.specs.Hands.{statusFrom, registersFrom, frameFrom, Rows, rowsOf, handFrame, keptFrame, pendingFrom, Full, Point}
 use Rattle.evaluator.specs.Hands.{found, LeadsTo, overBy, endedBy, weight, lastFrame, outcomeFrom, CanEvaluate, Closes}
 use Rattle.evaluator.proofs.ForkLaws.{no-forks}
+use Rattle.evaluator.proofs.StackLaws.{low-none, low-most}
 use Rattle.evaluator.proofs.GoodLaws.{good-depth}
 use Rattle.evaluator.proofs.FrameLaws.{pending-none, run-over, run-out}
-use Rattle.evaluator.proofs.CloseLaws.{not-running, is-running, rests}
+use Rattle.evaluator.proofs.HandLaws.{not-running, is-running, stack-none}
+use Rattle.evaluator.proofs.CloseLaws.{rests}
 
 -- ---- one after the other
 
@@ -70,6 +74,9 @@ ended-one (suc w) n = refl
 pub depth-most : (cells : List ℕ) (h : Hand) (r : Rows) → Point cells h r → h .depth ≤ 6
 depth-most cells h r p = omega (arith, good-depth cells (p .rank) (p .height) (workLimit - h .left) (handFrame h r) (p .own-good), p .room)
 
+pub low-small : (cells : List ℕ) (h : Hand) (r : Rows) → Point cells h r → h .low ≤ 192
+low-small cells h r p = omega (arith, p .piled .own-low, low-most (r .sides) (h .depth), depth-most cells h r p)
+
 pub less-left : (cells : List ℕ) (h z : Hand) (r : Rows) → Point cells z r → z .left < h .left → weight z < weight h
 less-left cells h z r p l = omega (arith, depth-most cells z r p, ended-most (z .what), l)
 
@@ -91,13 +98,13 @@ none-fit : (program : Program) → every (λ i. forkFits program (ltb i 0) (getD
 unfolding every
 none-fit program = refl
 
-module _ (cells code : List ℕ) (places budget : ℕ) (nums kinds bank marks recs sides : List ℕ) (can : CanEvaluate cells code places budget nums kinds)
-    (full : Full (rowsOf nums kinds bank marks recs sides)) where
+module _ (cells code : List ℕ) (places budget : ℕ) (nums kinds bank marks recs sides pile tags : List ℕ) (can : CanEvaluate cells code places budget nums kinds)
+    (full : Full (rowsOf nums kinds bank marks recs sides pile tags)) where
   abbrev first : Hand
-  first = record { what = 0; places = places; depth = 0; pc = 0; beat = budget; left = budget; spun = budget }
+  first = record { what = 0; places = places; depth = 0; pc = 0; beat = budget; left = budget; spun = budget; low = 0; height = 0 }
 
   abbrev rows : Rows
-  rows = rowsOf nums kinds bank marks recs sides
+  rows = rowsOf nums kinds bank marks recs sides pile tags
 
   abbrev start : Frame
   start = startFrame places (registersOf nums kinds)
@@ -106,18 +113,22 @@ module _ (cells code : List ℕ) (places budget : ℕ) (nums kinds bank marks re
   first-is =
       let a : budget - budget ≡ 0 = omega arith in
       let f : forksOf recs 0 ≡ noForks = no-forks recs ∙ ap (λ n. replicate n zeroFork) (full .recs-full) in
-      λ j. frameFrom 0 places 0 (f j) 0 (a j) (a j) (registersOf nums kinds)
+      let s = stack-none pile tags 0 0 refl in
+      λ j. frameFrom 0 places 0 (f j) 0 (a j) (a j) (s j) (registersOf nums kinds)
 
   start-formed : Formed (programOf cells) (can .rank) (can .rank) start
   start-formed = record {
     registers-full = length-registers nums kinds (can .first-sized .0 ∙ sym (can .first-sized .1)) ∙ can .first-sized .0;
     forks-full = refl;
+    stack-full = refl;
     has-places = can .all-places;
     has-depth = omega arith;
     pc-below = accepted cells (can .base .accepted-program) .some-instruction;
     status-fits = refl;
     forks-fit = λ i p. every-at (λ i. forkFits (programOf cells) (ltb i 0) (getD noForks i zeroFork)) 6 0 (none-fit (programOf cells)) i (omega arith) (omega arith);
     values-fit = can .values-fit;
+    height-most = omega arith;
+    entries-fit = empty-fits (programOf cells);
   }
 
   pub start-point : Point cells first rows
@@ -135,6 +146,7 @@ module _ (cells code : List ℕ) (places budget : ℕ) (nums kinds bank marks re
         });
     kept-good = λ i l. absurd (omega (arith, l));
     full = full;
+    piled = record { own-low = sym (low-none sides); none-yet = λ i l. absurd (omega (arith, l)) };
     on-place = refl;
     kept-on-place = λ i l. absurd (omega (arith, l));
     counter-least = omega arith;
@@ -150,15 +162,13 @@ module _ (cells code : List ℕ) (places budget : ℕ) (nums kinds bank marks re
 -- ---- the end
 
 -- a task that has ended, inside no fork, has halted or has a fault of the list
-listed-by : (f : Frame) (w : ℕ) → statusFits f (statusFrom w) ≡ true → f .task .depth ≡ 0 → (w ≡ 0 → ⊥) → (w ≡ 1 → ⊥) → (31 ≤ w) × (w ≤ 38)
-listed-by f zero e d n m = absurd (n refl)
-listed-by f (suc zero) e d n m = absurd (m refl)
-listed-by f (suc (suc zero)) e d n m = absurd (omega (arith, d, ltb-true 0 (f .task .depth) (both-true (ltb 0 (f .task .depth)) _ e .0)))
-listed-by f (suc (suc (suc w))) e d n m =
+listed-by : (version : ℕ) (f : Frame) (w : ℕ) → statusFits version f (statusFrom w) ≡ true → f .task .depth ≡ 0 → (w ≡ 0 → ⊥) → (w ≡ 1 → ⊥) → (31 ≤ w) × (w ≤ 43)
+listed-by version f zero e d n m = absurd (n refl)
+listed-by version f (suc zero) e d n m = absurd (m refl)
+listed-by version f (suc (suc zero)) e d n m = absurd (omega (arith, d, ltb-true 0 (f .task .depth) (both-true (ltb 0 (f .task .depth)) _ e .0)))
+listed-by version f (suc (suc (suc w))) e d n m =
     let k : ℕ = suc (suc (suc w)) in
-    let a = both-true (leb 31 k) _ e in
-    let b = both-true (leb k 38) _ (a .1) in
-    (leb-true 31 k (a .0), leb-true k 38 (b .0))
+    listed-within version k (both-true (faultListed version k) _ e .0)
 
 module _ (cells : List ℕ) (words : List ℤ) (interval : ℕ) (h : Hand) (r : Rows) (p : Point cells h r) (over : overBy (h .what) (h .left) (h .depth) ≡ true) where
   pub end-spent : h .what ≡ 0 → h .left ≡ 0
@@ -167,21 +177,25 @@ module _ (cells : List ℕ) (words : List ℤ) (interval : ℕ) (h : Hand) (r : 
   end-shallow : (h .what ≡ 0 → ⊥) → h .depth ≡ 0
   end-shallow n = eqb-true (h .depth) 0 (over-ended (h .what) (h .left) (h .depth) n ∙ over)
 
-  last-is : (n : h .what ≡ 0 → ⊥) → handFrame h r ≡ lastFrame (h .what) (h .places) (h .spun - h .left) (registersOf (r .nums) (r .kinds))
+  -- the last task's stack
+  abbrev last-stack : Stacked
+  last-stack = stackOf (r .pile) (r .tags) (h .low) (h .height)
+
+  last-is : (n : h .what ≡ 0 → ⊥) → handFrame h r ≡ lastFrame (h .what) (h .places) (h .spun - h .left) last-stack (registersOf (r .nums) (r .kinds))
   last-is n =
       let a = end-shallow n in
       let f : forksOf (r .recs) (h .depth) ≡ noForks = ap (forksOf (r .recs)) a ∙ no-forks (r .recs) ∙ ap (λ m. replicate m zeroFork) (p .full .recs-full) in
       let b = rests cells h r p n in
-      λ j. frameFrom (h .what) (h .places) (a j) (f j) (b .0 j) (b .1 j) (h .spun - h .left) (registersOf (r .nums) (r .kinds))
+      λ j. frameFrom (h .what) (h .places) (a j) (f j) (b .0 j) (b .1 j) (h .spun - h .left) last-stack (registersOf (r .nums) (r .kinds))
 
   outcome-by : (w : ℕ) (x : Outcome Frame) → (w ≡ 0 → x ≡ spent)
-      → ((w ≡ 0 → ⊥) → x ≡ done (lastFrame w (h .places) (h .spun - h .left) (registersOf (r .nums) (r .kinds))) (h .left))
-      → outcomeFrom w (h .places) (h .spun - h .left) (h .left) (registersOf (r .nums) (r .kinds)) ≡ x
+      → ((w ≡ 0 → ⊥) → x ≡ done (lastFrame w (h .places) (h .spun - h .left) last-stack (registersOf (r .nums) (r .kinds))) (h .left))
+      → outcomeFrom w (h .places) (h .spun - h .left) (h .left) last-stack (registersOf (r .nums) (r .kinds)) ≡ x
   outcome-by zero x f g = sym (f refl)
   outcome-by (suc w) x f g = sym (g (λ e. absurd (omega (arith, e))))
 
   -- what is told of the task in hand is what is found from there
-  pub ends-as : outcomeFrom (h .what) (h .places) (h .spun - h .left) (h .left) (registersOf (r .nums) (r .kinds)) ≡ found cells words interval h r
+  pub ends-as : outcomeFrom (h .what) (h .places) (h .spun - h .left) (h .left) last-stack (registersOf (r .nums) (r .kinds)) ≡ found cells words interval h r
   ends-as = outcome-by (h .what) (found cells words interval h r)
       (λ e. ap (λ n. run (rules cells words interval) n (onward (rules cells words interval) (handFrame h r) (pendingFrom (keptFrame r) (h .depth)))) (end-spent e)
       ∙ run-out cells words interval (handFrame h r) (pendingFrom (keptFrame r) (h .depth)) (is-running (h .what) e))
@@ -194,7 +208,7 @@ module _ (cells : List ℕ) (words : List ℤ) (interval : ℕ) (h : Hand) (r : 
       let f = formed-is (programOf cells) (p .rank) (p .height) (handFrame h r) (p .own-good .is-formed) in
       record {
         last-sized = p .full .sized;
-        fault-listed = λ n m. listed-by (handFrame h r) (h .what) (f .status-fits) (end-shallow n) n m;
+        fault-listed = λ n m. listed-by (versionOf cells) (handFrame h r) (h .what) (f .status-fits) (end-shallow n) n m;
         last-fit = λ e i. ap (λ w. valueFits (programOf cells) (inRegister i (registersFrom w (registersOf (r .nums) (r .kinds))))) (sym e) ∙ f .values-fit i;
         span-most = omega (arith, within-is (workLimit - h .left) (handFrame h r) (p .own-good .is-within) .span-most);
       }

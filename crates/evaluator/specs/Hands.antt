@@ -1,5 +1,5 @@
--- The task in hand as numbers (`Hand`) and two rows of registers, and the other side of each fork that it stands inside as numbers (`Kept`) and a
--- bank: what they mean as frames, and as a point of `serial`'s run.
+-- The task in hand as numbers (`Hand`), two rows of registers and a stretch of the pile, and the other side of each fork that it stands inside as
+-- numbers (`Kept`), a bank and a stretch: what they mean as frames, and as a point of `serial`'s run.
 use mathlib.Core.Path.{_≡_}
 use mathlib.Core.Bool.{Bool, true}
 use mathlib.Core.List.{List, [], _∷_}
@@ -7,7 +7,7 @@ use mathlib.Core.Option.{none, some}
 use Prim.Native.Nat.{ℕ, zero, suc, _+_, _*_, _-_, _/_, _^_, _<_, _≤_, max}
 use lib.Dec.{eqb}
 use lib.IntN.{ℤ}
-use lib.ListN.{length, getD}
+use lib.ListN.{length, getD, set}
 use Rattle.image.specs.Layout.{programOf}
 use Rattle.image.specs.Questions.{programNo}
 use Rattle.agreement.specs.Plain.{Stepped, one, two}
@@ -18,7 +18,7 @@ use Rattle.task.specs.declared.Status.the-variants.{Running, Waiting, Halted, F
 use Rattle.task.specs.declared.Fork.{Fork}
 use Rattle.task.specs.declared.Frame.{Frame}
 use Rattle.task.specs.declared.Kind.{Kind}
-use Rattle.task.specs.declared.Kind.the-variants.{Stores, Goes, Waits, Halts, Faults, Forks}
+use Rattle.task.specs.declared.Kind.the-variants.{Stores, Goes, Pushes, Pops, Waits, Halts, Faults, Forks}
 use Rattle.task.specs.declared.Executed.{Executed}
 use Rattle.task.specs.Frames.{zeros, noForks, running, faultOf, workLimit}
 use Rattle.task.specs.Formed.{valueFits}
@@ -28,9 +28,10 @@ use Rattle.evaluator.specs.declared.Hand.{Hand}
 use Rattle.evaluator.specs.declared.Kept.{Kept}
 use Rattle.evaluator.specs.declared.Ran.{Ran}
 use Rattle.evaluator.specs.declared.Finished.{Finished}
-use Rattle.arms.specs.Registers.{registersOf, Sized, inRegister}
+use Rattle.arms.specs.Registers.{valueOf, registersOf, Sized, inRegister}
 use Rattle.evaluator.specs.Banks.{bankFrom, forksOf}
-use Rattle.arms.specs.Turns.{rules, Ends}
+use Rattle.evaluator.specs.Stacks.{stackOf, above}
+use Rattle.arms.specs.Turns.{Stacked, rules, Ends}
 use Rattle.evaluator.specs.Sides.{frameOf, openOf, Base, Good, madeOf}
 
 -- ---- Frames
@@ -49,15 +50,27 @@ registersFrom (suc zero) l = l
 registersFrom (suc (suc zero)) l = l
 registersFrom (suc (suc (suc n))) l = zeros
 
-abbrev pub frameFrom : ℕ → ℕ → ℕ → List Fork → ℕ → ℕ → ℕ → List Register → Frame
-frameFrom what places depth forks pc counter span registers = record {
-  task = record { status = statusFrom what; places = places; pc = pc; counter = counter; span = span; depth = depth; forks = forks };
+-- with the stack u: that of a faulted task has height 0, and so is empty, whatever the rows hold
+abbrev pub frameFrom : ℕ → ℕ → ℕ → List Fork → ℕ → ℕ → ℕ → Stacked → List Register → Frame
+frameFrom what places depth forks pc counter span u registers = record {
+  task = record {
+    status = statusFrom what;
+    places = places;
+    pc = pc;
+    counter = counter;
+    span = span;
+    depth = depth;
+    height = u .height;
+    forks = forks;
+  };
   registers = registersFrom what registers;
+  stack = u .values;
 }
 
 -- ---- The rows
 
--- the registers in hand; the banks of the sides that are kept; the records of the open forks; those sides' numbers
+-- the registers in hand; the banks of the sides that are kept; the records of the open forks; those sides' numbers; the pile, seven stretches
+-- of 32
 pub record Rows : Type 0 where
   pub nums : List ℕ
   pub kinds : List ℕ
@@ -65,25 +78,34 @@ pub record Rows : Type 0 where
   pub marks : List ℕ
   pub recs : List ℕ
   pub sides : List ℕ
+  pub pile : List ℕ
+  pub tags : List ℕ
 
-abbrev pub rowsOf : List ℕ → List ℕ → List ℕ → List ℕ → List ℕ → List ℕ → Rows
-rowsOf nums kinds bank marks recs sides = record { nums = nums; kinds = kinds; bank = bank; marks = marks; recs = recs; sides = sides }
+abbrev pub rowsOf : List ℕ → List ℕ → List ℕ → List ℕ → List ℕ → List ℕ → List ℕ → List ℕ → Rows
+rowsOf nums kinds bank marks recs sides pile tags =
+    record { nums = nums; kinds = kinds; bank = bank; marks = marks; recs = recs; sides = sides; pile = pile; tags = tags }
 
 -- the counter is the difference of `beat` and what is left of the budget, the span that of `spun`
 abbrev pub handFrame : Hand → Rows → Frame
 handFrame h r = frameFrom (h .what) (h .places) (h .depth) (forksOf (r .recs) (h .depth)) (h .pc / 4) (h .beat - h .left) (h .spun - h .left)
-    (registersOf (r .nums) (r .kinds))
+    (stackOf (r .pile) (r .tags) (h .low) (h .height)) (registersOf (r .nums) (r .kinds))
 
--- four numbers for each side that is kept
+-- five numbers for each side that is kept
 abbrev pub keptOf : List ℕ → ℕ → Kept
 keptOf sides d = record {
-  what = getD sides (4 * d) 0;
-  places = getD sides (4 * d + 1) 0;
-  pc = getD sides (4 * d + 2) 0;
-  span = getD sides (4 * d + 3) 0;
+  what = getD sides (5 * d) 0;
+  places = getD sides (5 * d + 1) 0;
+  pc = getD sides (5 * d + 2) 0;
+  span = getD sides (5 * d + 3) 0;
+  height = getD sides (5 * d + 4) 0;
 }
 
--- they are stored, and no others
+-- where a stack inside the outermost d forks begins: above those of their sides that have ended
+unfoldable pub lowOf : List ℕ → ℕ → ℕ
+lowOf sides zero = 0
+lowOf sides (suc d) = above (keptOf sides d .what) (lowOf sides d)
+
+-- the five numbers of one side are stored, and no others
 pub record Keeps (sides : List ℕ) (d : ℕ) (k : Kept) (sides′ : List ℕ) : Type 0 where
   pub same-length : length sides′ ≡ length sides
   pub there : keptOf sides′ d ≡ k
@@ -93,7 +115,8 @@ pub record Keeps (sides : List ℕ) (d : ℕ) (k : Kept) (sides′ : List ℕ) :
 abbrev pub keptFrame : Rows → ℕ → Frame
 keptFrame r d =
     let k = keptOf (r .sides) d in
-    frameFrom (k .what) (k .places) (d + 1) (forksOf (r .recs) (d + 1)) (k .pc / 4) 0 (k .span) (bankFrom (r .bank) (r .marks) (16 * d))
+    frameFrom (k .what) (k .places) (d + 1) (forksOf (r .recs) (d + 1)) (k .pc / 4) 0 (k .span)
+    (stackOf (r .pile) (r .tags) (lowOf (r .sides) d) (k .height)) (bankFrom (r .bank) (r .marks) (16 * d))
 
 -- the innermost n forks, by their kept sides
 unfoldable pub pendingFrom : (ℕ → Frame) → ℕ → Pending Frame
@@ -106,7 +129,14 @@ pub record Full (r : Rows) : Type 0 where
   pub bank-full : length (r .bank) ≡ 96
   pub marks-full : length (r .marks) ≡ 96
   pub recs-full : length (r .recs) ≡ 6
-  pub sides-full : length (r .sides) ≡ 24
+  pub sides-full : length (r .sides) ≡ 30
+  pub pile-full : length (r .pile) ≡ 224
+  pub tags-full : length (r .tags) ≡ 224
+
+-- the stack in hand lies above those of the sides that have ended, so that a push leaves them as they are; a side to come has an empty one
+pub record Piled (h : Hand) (sides : List ℕ) : Type 0 where
+  pub own-low : h .low ≡ lowOf sides (h .depth)
+  pub none-yet : (i : ℕ) → i < h .depth → keptOf sides i .what ≡ 0 → keptOf sides i .height ≡ 0
 
 -- ---- A point of the run
 
@@ -119,6 +149,7 @@ pub record Point (cells : List ℕ) (h : Hand) (r : Rows) : Type 0 where
   pub own-good : Good cells rank height (workLimit - h .left) (handFrame h r)
   pub kept-good : (i : ℕ) → i < h .depth → Good cells rank (rank - (i + 1)) (workLimit - h .left) (keptFrame r i)
   pub full : Full r
+  pub piled : Piled h (r .sides)
   pub on-place : h .pc ≡ 4 * (h .pc / 4)
   pub kept-on-place : (i : ℕ) → i < h .depth → keptOf (r .sides) i .pc ≡ 4 * (keptOf (r .sides) i .pc / 4)
   pub counter-least : h .left ≤ h .beat
@@ -154,15 +185,17 @@ handSide h recs nums kinds = record {
     counter = h .beat - h .left;
     span = h .spun - h .left;
     depth = h .depth;
+    height = h .height;
     forks = forksOf recs (h .depth);
   };
   nums = nums;
   kinds = kinds;
 }
 
--- what it leaves of the numbers: the task goes on, has ended, or goes on as the parent's side of a fork, whose child's is kept
-abbrev pub goneOn : Hand → ℕ → ℕ → Hand
-goneOn h pc counter = record {
+-- what it leaves of the numbers: the task goes on or has ended, with a stack of this height; or goes on as the parent's side of a fork, whose
+-- child's is kept
+abbrev pub goneOn : Hand → ℕ → ℕ → ℕ → Hand
+goneOn h pc counter height = record {
   what = 0;
   places = h .places;
   depth = h .depth;
@@ -170,10 +203,12 @@ goneOn h pc counter = record {
   beat = h .left - 1 + counter;
   left = h .left - 1;
   spun = h .spun;
+  low = h .low;
+  height = height;
 }
 
-abbrev pub endedWith : Hand → ℕ → Hand
-endedWith h what = record {
+abbrev pub endedWith : Hand → ℕ → ℕ → Hand
+endedWith h what height = record {
   what = what;
   places = h .places;
   depth = h .depth;
@@ -181,6 +216,8 @@ endedWith h what = record {
   beat = h .left - 1;
   left = h .left - 1;
   spun = h .spun;
+  low = h .low;
+  height = height;
 }
 
 abbrev pub parentOf : Hand → ℕ → ℕ → Hand
@@ -192,40 +229,60 @@ parentOf h pc counter = record {
   beat = h .left - 1 + counter;
   left = h .left - 1;
   spun = h .spun;
+  low = h .low;
+  height = h .height;
 }
 
 abbrev pub childOf : Hand → ℕ → Kept
-childOf h child = record { what = 0; places = h .places / 2; pc = 4 * child; span = h .spun - (h .left - 1) }
+childOf h child = record { what = 0; places = h .places / 2; pc = 4 * child; span = h .spun - (h .left - 1); height = 0 }
+
+-- a push: no place is left (42), or the value is stored above the others
+pub record Pushed (h : Hand) (e : Executed) (pile tags : List ℕ) (z : Hand) (pile′ tags′ : List ℕ) : Type 0 where
+  pub no-place : 32 ≤ h .height → (z ≡ endedWith h 42 0) × (pile′ ≡ pile) × (tags′ ≡ tags)
+  pub has-place : h .height < 32 → (u : ℕ) × (k : ℕ) × (valueOf k u ≡ e .value) × (z ≡ goneOn h (e .pc) (e .counter) (h .height + 1))
+      × (pile′ ≡ set pile (h .low + h .height) u) × (tags′ ≡ set tags (h .low + h .height) k)
+
+-- a pop: there is none (43), or the last one goes to r
+pub record Popped (h : Hand) (r : ℕ) (e : Executed) (pile tags nums kinds : List ℕ) (z : Hand) (nums′ kinds′ : List ℕ) : Type 0 where
+  pub no-value : h .height ≡ 0 → (z ≡ endedWith h 43 0) × (nums′ ≡ nums) × (kinds′ ≡ kinds)
+  pub has-value : 0 < h .height → (z ≡ goneOn h (e .pc) (e .counter) (h .height - 1))
+      × (nums′ ≡ set nums r (getD pile (h .low + (h .height - 1)) 0)) × (kinds′ ≡ set kinds r (getD tags (h .low + (h .height - 1)) 0))
 
 -- one task, or two sides
 abbrev pub steppedIn : Kind → Frame → Frame → Stepped Frame
 steppedIn Stores p c = one p
 steppedIn Goes p c = one p
+steppedIn Pushes p c = one p
+steppedIn Pops p c = one p
 steppedIn Waits p c = one p
 steppedIn Halts p c = one p
 steppedIn Faults p c = one p
 steppedIn Forks p c = two p c
 
+-- the task in hand as a running one, with its stack
+abbrev pub ownFrame : Hand → Rows → Frame
+ownFrame h r = frameOf (handSide h (r .recs) (r .nums) (r .kinds)) (stackOf (r .pile) (r .tags) (h .low) (h .height) .values)
+
 -- what an instruction e, whose register is r, makes of a running task in hand
 pub record Applied (h : Hand) (rows : Rows) (r : ℕ) (e : Executed) (z : Hand) (rows′ : Rows) : Type 0 where
-  pub made : steppedIn (e .kind) (handFrame z rows′) (keptFrame rows′ (h .depth)) ≡ madeOf (e .kind) (frameOf (handSide h (rows .recs) (rows .nums) (rows .kinds))) r e
+  pub made : steppedIn (e .kind) (handFrame z rows′) (keptFrame rows′ (h .depth)) ≡ madeOf (e .kind) (ownFrame h rows) r e
   pub same-below : (i : ℕ) → i < h .depth → keptFrame rows′ i ≡ keptFrame rows i
-  pub same-pc : (i : ℕ) → i < h .depth → keptOf (rows′ .sides) i .pc ≡ keptOf (rows .sides) i .pc
-  pub child-runs : e .kind ≡ Forks → running (keptFrame rows′ (h .depth)) ≡ true
-  pub child-on-place : e .kind ≡ Forks → keptOf (rows′ .sides) (h .depth) .pc ≡ 4 * (keptOf (rows′ .sides) (h .depth) .pc / 4)
+  pub same-kept : (i : ℕ) → i < h .depth → keptOf (rows′ .sides) i ≡ keptOf (rows .sides) i
+  pub child-kept : e .kind ≡ Forks → keptOf (rows′ .sides) (h .depth) ≡ childOf h (e .child)
   pub still-full : Full rows′
   pub less : z .left ≡ h .left - 1
   pub on-place : z .pc ≡ 4 * (z .pc / 4)
   pub counter-least : z .left ≤ z .beat
   pub same-spun : z .spun ≡ h .spun
+  pub same-low : z .low ≡ h .low
 
 -- ---- A side that has ended
 
 -- as it is kept
 abbrev pub sideOf : Hand → Kept
-sideOf h = record { what = h .what; places = h .places; pc = h .pc; span = h .spun - h .left }
+sideOf h = record { what = h .what; places = h .places; pc = h .pc; span = h .spun - h .left; height = h .height }
 
--- the other side, taken in hand
+-- the other side, taken in hand: its stack lies above that of the side that has ended
 abbrev pub otherOf : Hand → Kept → Hand
 otherOf h k = record {
   what = k .what;
@@ -235,11 +292,13 @@ otherOf h k = record {
   beat = h .left;
   left = h .left;
   spun = h .left + k .span;
+  low = h .low + 32;
+  height = k .height;
 }
 
--- the task that both make: faulted with this number, or with 0 running at pc
-abbrev pub joinedOf : Hand → Kept → ℕ → ℕ → Hand
-joinedOf h k what pc = record {
+-- the task that both make: faulted with this number, or with 0 running at pc; its stack is the parent's, with this height
+abbrev pub joinedOf : Hand → Kept → ℕ → ℕ → ℕ → Hand
+joinedOf h k what pc height = record {
   what = what;
   places = k .places + h .places;
   depth = h .depth - 1;
@@ -247,6 +306,8 @@ joinedOf h k what pc = record {
   beat = h .left;
   left = h .left;
   spun = h .left + max (k .span) (h .spun - h .left);
+  low = h .low - 32;
+  height = height;
 }
 
 -- whose fault it has, the parent's number first
@@ -259,15 +320,19 @@ pub record FirstFault (p c n : ℕ) : Type 0 where
 -- ---- The end
 
 -- a task that has ended, inside no fork
-abbrev pub lastFrame : ℕ → ℕ → ℕ → List Register → Frame
-lastFrame what places span registers = frameFrom what places 0 noForks 0 0 span registers
+abbrev pub lastFrame : ℕ → ℕ → ℕ → Stacked → List Register → Frame
+lastFrame what places span u registers = frameFrom what places 0 noForks 0 0 span u registers
 
-abbrev pub outcomeFrom : ℕ → ℕ → ℕ → ℕ → List Register → Outcome Frame
-outcomeFrom zero places span left registers = spent
-outcomeFrom (suc n) places span left registers = done (lastFrame (suc n) places span registers) left
+abbrev pub outcomeFrom : ℕ → ℕ → ℕ → ℕ → Stacked → List Register → Outcome Frame
+outcomeFrom zero places span left u registers = spent
+outcomeFrom (suc n) places span left u registers = done (lastFrame (suc n) places span u registers) left
 
-abbrev pub finishedOf : Finished → List ℕ → List ℕ → Outcome Frame
-finishedOf z nums kinds = outcomeFrom (z .what) (z .places) (z .span) (z .left) (registersOf nums kinds)
+abbrev pub finishedOf : Finished → Stacked → List ℕ → List ℕ → Outcome Frame
+finishedOf z u nums kinds = outcomeFrom (z .what) (z .places) (z .span) (z .left) u (registersOf nums kinds)
+
+-- this outcome, but for the last task's stack, which nobody is handed
+abbrev pub Finds : Finished → List ℕ → List ℕ → Outcome Frame → Type 0
+Finds z nums kinds x = (u : Stacked) × (finishedOf z u nums kinds ≡ x)
 
 -- nothing more to do: a running task without a budget, or one that has ended and stands inside no fork
 abbrev pub overBy : ℕ → ℕ → ℕ → Bool
@@ -290,9 +355,9 @@ pub record CanEvaluate (cells code : List ℕ) (places budget : ℕ) (nums kinds
   pub first-sized : Sized nums kinds
   pub values-fit : (i : ℕ) → valueFits (programOf cells) (inRegister i (registersOf nums kinds)) ≡ true
 
--- what is known of the end besides: a fault's number is of the list, a halted task's values fit the program
+-- what is known of the end besides: a fault's number is of the list, 31 to 43, a halted task's values fit the program
 pub record Closes (cells : List ℕ) (z : Finished) (nums kinds : List ℕ) : Type 0 where
   pub last-sized : Sized nums kinds
-  pub fault-listed : (z .what ≡ 0 → ⊥) → (z .what ≡ 1 → ⊥) → (31 ≤ z .what) × (z .what ≤ 38)
+  pub fault-listed : (z .what ≡ 0 → ⊥) → (z .what ≡ 1 → ⊥) → (31 ≤ z .what) × (z .what ≤ 43)
   pub last-fit : z .what ≡ 1 → (i : ℕ) → valueFits (programOf cells) (inRegister i (registersOf nums kinds)) ≡ true
   pub span-most : z .span ≤ workLimit

@@ -1,7 +1,8 @@
-// The instruction that the task in hand does not carry out by itself: a fault that its arm has found, or fork, join or halt.
+// The instruction that the task in hand does not carry out by itself: a fault that its arm has found, or fork, join, halt, push or pop.
 use crate::Hand;
 use crate::fitting::does_fit;
 use arms::Pair;
+use arms::rows::value_of;
 use image::Instruction;
 use image::layout;
 use task::Active;
@@ -19,9 +20,10 @@ ghost use Rattle.image.specs.Program.{Program};
 ghost use Rattle.image.specs.Layout.{programOf};
 ghost use Rattle.image.specs.Questions.{mostInstructions, programNo};
 ghost use Rattle.task.specs.declared.Value.{Value};
+ghost use Rattle.task.specs.declared.Register.{Register};
 ghost use Rattle.task.specs.declared.Fork.{Fork};
 ghost use Rattle.task.specs.Choices.{Choices, chosen};
-ghost use Rattle.task.specs.Effect.{fork, halt, meet};
+ghost use Rattle.task.specs.Effect.{fork, halt, meet, push};
 ghost use Rattle.task.specs.Formed.{valueFits};
 ghost use Rattle.task.specs.Execute.{answered};
 ghost use Rattle.arms.specs.Registers.{Sized, registersOf, valueOf, operandBy};
@@ -53,7 +55,7 @@ fn operand_pair(nums: &[u64], kinds: &[u8], x: Instruction) -> Pair
     }
 }
 
-// Opcode 12, of a task that has counted it: a record s that fits, a label v, two places. `ending` alone calls these three, with the values
+// Opcode 12, of a task that has counted it: a record s that fits, a label v, two places. `ending` alone calls these four, with the values
 // of a well-formed task.
 fn fork_under(cells: &[u64], recs: &[u64], s: Pair, v: Pair, t: Active) -> Executed
     requires { ⌜ (programNo (now cells) ≡ 0) × (valueFits (programOf (now cells)) (valueOf (v .kind) (v .num)) ≡ true) × (length (now recs) ≡ 6) × (t .pc < mostInstructions) × (t .depth ≤ 6) ⌝ }
@@ -114,6 +116,15 @@ fn halt_at(t: Active) -> Executed
     results::end(Kind::Halts, 0)
 }
 
+// Opcode 16, likewise: whether there is a place on the stack `apply` asks.
+fn push_of(v: Pair, t: Active) -> Executed
+    requires { ⌜ (v .kind ≡ 1 → v .num < 4294967296) × (t .pc < mostInstructions) ⌝ }
+    ensures { λ r. ⌜ ((p : Program) (w : List ℤ) (c : Choices) (s : Value) (o : List Fork) → r ≡ answered p w c s (valueOf (v .kind) (v .num)) t o push) ⌝ }
+{
+    let value = value_of(v.kind, v.num);
+    results::pass(Kind::Pushes, value, t)
+}
+
 // `act` alone calls it, and ensures `CanStep`; `run_hand` ensures `Ends`. The call record and the interval are the contract's: none of these
 // instructions looks at them.
 pub fn ending(
@@ -128,7 +139,8 @@ pub fn ending(
 ) -> Executed
     requires { ⌜ CanStep (now cells) (handSide hand (now recs) (now nums) (now kinds)) × Sized (now nums) (now kinds) × (length (now recs) ≡ 6) × (hand .left ≤ hand .beat)
         × (what ≡ 0 → ⊥) × Ends (now cells) (now words) interval (hand .places) (hand .depth) what (hand .pc / 4) (hand .beat - hand .left) (registersOf (now nums) (now kinds)) ⌝ }
-    ensures { λ r. ⌜ r ≡ executedOf (programOf (now (cells .entry))) (now (words .entry)) (chosen interval) (frameOf (handSide hand (now (recs .entry)) (now (nums .entry)) (now (kinds .entry)))) ⌝ }
+    ensures { λ r. ⌜ ((stack : List Register) → r ≡ executedOf (programOf (now (cells .entry))) (now (words .entry)) (chosen interval) (frameOf (handSide hand (now
+        (recs .entry)) (now (nums .entry)) (now (kinds .entry))) stack)) ⌝ }
 {
     if what != 1 {
         return results::fault(what);
@@ -153,6 +165,12 @@ pub fn ending(
     }
     if opcode == 15 {
         return meet_under(cells, recs, v, t);
+    }
+    if opcode == 16 {
+        return push_of(v, t);
+    }
+    if opcode == 17 {
+        return results::pass(Kind::Pops, Value::Int(0), t);
     }
     halt_at(t)
 }

@@ -16,7 +16,7 @@ ghost use Rattle.task.specs.Frames.{startFrame, workLimit};
 ghost use Rattle.arms.specs.Registers.{registersOf};
 ghost use Rattle.arms.specs.Code.{Decodes};
 ghost use Rattle.arms.specs.Turns.{rules};
-ghost use Rattle.evaluator.specs.Hands.{rowsOf, Point, LeadsTo, overBy, weight, CanEvaluate, finishedOf, Closes};
+ghost use Rattle.evaluator.specs.Hands.{rowsOf, Point, LeadsTo, overBy, weight, CanEvaluate, Finds, Closes};
 
 fn is_over(hand: Hand) -> bool
     ensures { λ r. ⌜ r ≡ overBy (hand .what) (hand .left) (hand .depth) ⌝ }
@@ -40,13 +40,16 @@ fn advance(
     marks: &mut [u8],
     recs: &mut [u64],
     sides: &mut [u64],
+    pile: &mut [u64],
+    tags: &mut [u8],
 ) -> Hand
-    requires { ⌜ Point (now cells) hand (rowsOf (now nums) (now kinds) (now bank) (now marks) (now recs) (now sides)) × Decodes (now cells) (now code)
+    requires { ⌜ Point (now cells) hand (rowsOf (now nums) (now kinds) (now bank) (now marks) (now recs) (now sides) (now pile) (now tags)) × Decodes (now cells) (now code)
         × (overBy (hand .what) (hand .left) (hand .depth) ≡ false) ⌝ }
     ensures { λ z. ⌜ weight z < weight hand ⌝ }
     ensures { λ z. ⌜ LeadsTo (now (cells .entry)) (now (words .entry)) interval hand (rowsOf (now (nums .entry)) (now (kinds .entry)) (now
-        (bank .entry)) (now (marks .entry)) (now (recs .entry)) (now (sides .entry))) z (rowsOf (now (nums .exit)) (now (kinds .exit)) (now
-        (bank .exit)) (now (marks .exit)) (now (recs .exit)) (now (sides .exit))) ⌝ }
+        (bank .entry)) (now (marks .entry)) (now (recs .entry)) (now (sides .entry)) (now (pile .entry)) (now (tags .entry))) z (rowsOf (now
+        (nums .exit)) (now (kinds .exit)) (now (bank .exit)) (now (marks .exit)) (now (recs .exit)) (now (sides .exit)) (now (pile .exit)) (now
+        (tags .exit))) ⌝ }
 {
     if hand.what == 0 {
         let ran = run_hand(cells, code, words, interval, hand, nums, kinds);
@@ -65,6 +68,8 @@ fn advance(
             marks,
             recs,
             sides,
+            pile,
+            tags,
         );
     }
     let k = kept_at(sides, (hand.depth - 1) as usize);
@@ -87,12 +92,15 @@ fn run_all(
     marks: &mut [u8],
     recs: &mut [u64],
     sides: &mut [u64],
+    pile: &mut [u64],
+    tags: &mut [u8],
 ) -> Hand
-    requires { ⌜ Point (now cells) first (rowsOf (now nums) (now kinds) (now bank) (now marks) (now recs) (now sides)) × Decodes (now cells) (now code) ⌝ }
+    requires { ⌜ Point (now cells) first (rowsOf (now nums) (now kinds) (now bank) (now marks) (now recs) (now sides) (now pile) (now tags)) × Decodes (now cells) (now code) ⌝ }
     ensures { λ z. ⌜ overBy (z .what) (z .left) (z .depth) ≡ true ⌝ }
     ensures { λ z. ⌜ LeadsTo (now (cells .entry)) (now (words .entry)) interval first (rowsOf (now (nums .entry)) (now (kinds .entry)) (now
-        (bank .entry)) (now (marks .entry)) (now (recs .entry)) (now (sides .entry))) z (rowsOf (now (nums .exit)) (now (kinds .exit)) (now
-        (bank .exit)) (now (marks .exit)) (now (recs .exit)) (now (sides .exit))) ⌝ }
+        (bank .entry)) (now (marks .entry)) (now (recs .entry)) (now (sides .entry)) (now (pile .entry)) (now (tags .entry))) z (rowsOf (now
+        (nums .exit)) (now (kinds .exit)) (now (bank .exit)) (now (marks .exit)) (now (recs .exit)) (now (sides .exit)) (now (pile .exit)) (now
+        (tags .exit))) ⌝ }
 {
     let mut hand = first;
     while !is_over(hand) {
@@ -108,13 +116,15 @@ fn run_all(
             marks,
             recs,
             sides,
+            pile,
+            tags,
         );
     }
     hand
 }
 
 // Our crates alone call it: with an accepted program decoded by `decode`, the job's places, its first registers, and a budget that is at most the
-// work's limit. It leaves the last task's registers, but for those of a faulted one, which are 16 integers 0.
+// work's limit. It leaves the last task's registers, but for those of a faulted one, which are 16 integers 0; its stack is handed to nobody.
 pub fn evaluate(
     cells: &[u64],
     code: &[u64],
@@ -126,15 +136,17 @@ pub fn evaluate(
     kinds: &mut [u8],
 ) -> Finished
     requires { ⌜ CanEvaluate (now cells) (now code) places budget (now nums) (now kinds) ⌝ }
-    ensures { λ z. ⌜ finishedOf z (now (nums .exit)) (now (kinds .exit)) ≡ withinBudget budget (eval (rules (now (cells .entry)) (now
-        (words .entry)) interval) workLimit (startFrame places (registersOf (now (nums .entry)) (now (kinds .entry))))) ⌝ }
+    ensures { λ z. ⌜ Finds z (now (nums .exit)) (now (kinds .exit)) (withinBudget budget (eval (rules (now (cells .entry)) (now
+        (words .entry)) interval) workLimit (startFrame places (registersOf (now (nums .entry)) (now (kinds .entry)))))) ⌝ }
     ensures { λ z. ⌜ (z .what ≡ 0 → z .left ≡ 0) ⌝ }
     ensures { λ z. ⌜ Closes (now (cells .entry)) z (now (nums .exit)) (now (kinds .exit)) ⌝ }
 {
     let mut bank = [0u64; 96];
     let mut marks = [0u8; 96];
     let mut recs = [0u64; 6];
-    let mut sides = [0u64; 24];
+    let mut sides = [0u64; 30];
+    let mut pile = [0u64; 224];
+    let mut tags = [0u8; 224];
     let first = Hand {
         what: 0,
         places,
@@ -143,6 +155,8 @@ pub fn evaluate(
         beat: budget,
         left: budget,
         spun: budget,
+        low: 0,
+        height: 0,
     };
     let z = run_all(
         cells,
@@ -156,6 +170,8 @@ pub fn evaluate(
         &mut marks,
         &mut recs,
         &mut sides,
+        &mut pile,
+        &mut tags,
     );
     Finished {
         what: z.what,

@@ -15,14 +15,15 @@ use task::Value;
 ghost use mathlib.Core.Path.{_≡_};
 ghost use mathlib.Core.List.{List};
 ghost use Prim.Native.Nat.{ℕ, _*_, _-_, _/_, _<_, _≤_};
-ghost use lib.ListN.{set};
+ghost use lib.ListN.{length, set};
 ghost use lib.Seq.{sets};
 ghost use Rattle.task.specs.Values.{recordOf};
 ghost use Rattle.task.specs.declared.Kind.the-variants.{Faults, Forks};
-ghost use Rattle.arms.specs.Registers.{registersOf};
+ghost use Rattle.arms.specs.Registers.{Sized, registersOf};
 ghost use Rattle.evaluator.specs.Banks.{forkOf};
 ghost use Rattle.arms.specs.Turns.{Starts, Ends};
-ghost use Rattle.evaluator.specs.Hands.{rowsOf, Keeps, Full, Point, LeadsTo, Rests, goneOn, endedWith, parentOf, childOf, Applied};
+ghost use Rattle.evaluator.specs.Hands.{rowsOf, Keeps, Full, Piled, Point, LeadsTo, Rests};
+ghost use Rattle.evaluator.specs.Hands.{goneOn, endedWith, parentOf, childOf, Pushed, Popped, Applied};
 
 // The instructions by itself. `evaluate` alone calls it, with a running task.
 pub fn run_hand(
@@ -36,9 +37,9 @@ pub fn run_hand(
 ) -> Ran
     requires { ⌜ Starts (now cells) (now code) (now nums) (now kinds) (hand .places) (hand .depth) (hand .left) (hand .beat) (hand .pc) × (hand .what ≡ 0) ⌝ }
     ensures { λ z. ⌜ Rests (now (cells .entry)) (now (words .entry)) interval hand z (registersOf (now (nums .exit)) (now (kinds .exit))) ⌝ }
-    ensures { λ z. ⌜ ((bank marks recs sides : List ℕ) → Point (now (cells .entry)) hand (rowsOf (now (nums .entry)) (now
-        (kinds .entry)) bank marks recs sides) → LeadsTo (now (cells .entry)) (now (words .entry)) interval hand (rowsOf (now (nums .entry)) (now
-        (kinds .entry)) bank marks recs sides) (z .hand) (rowsOf (now (nums .exit)) (now (kinds .exit)) bank marks recs sides)) ⌝ }
+    ensures { λ z. ⌜ ((bank marks recs sides pile tags : List ℕ) → Point (now (cells .entry)) hand (rowsOf (now (nums .entry)) (now
+        (kinds .entry)) bank marks recs sides pile tags) → LeadsTo (now (cells .entry)) (now (words .entry)) interval hand (rowsOf (now (nums .entry))
+        (now (kinds .entry)) bank marks recs sides pile tags) (z .hand) (rowsOf (now (nums .exit)) (now (kinds .exit)) bank marks recs sides pile tags)) ⌝ }
 {
     let ran = run_on(
         cells,
@@ -63,6 +64,8 @@ pub fn run_hand(
             beat: ran.beat,
             left: ran.left,
             spun: hand.spun,
+            low: hand.low,
+            height: hand.height,
         },
     }
 }
@@ -78,10 +81,10 @@ fn record_bits(v: Value) -> u64
     }
 }
 
-// An instruction has been counted, and the task goes on. `apply` alone calls these three.
-fn go_on(hand: Hand, pc: u16, counter: u32) -> Hand
+// An instruction has been counted, and the task goes on, with so many values on its stack. `apply` and what it calls alone call these three.
+fn go_on(hand: Hand, pc: u16, counter: u32, height: u64) -> Hand
     requires { ⌜ (0 < hand .left) × (hand .left ≤ 4294967295) ⌝ }
-    ensures { λ z. ⌜ z ≡ goneOn hand pc counter ⌝ }
+    ensures { λ z. ⌜ z ≡ goneOn hand pc counter height ⌝ }
 {
     let left = hand.left - 1;
     Hand {
@@ -92,12 +95,14 @@ fn go_on(hand: Hand, pc: u16, counter: u32) -> Hand
         beat: left + (counter as u64),
         left,
         spun: hand.spun,
+        low: hand.low,
+        height,
     }
 }
 
-fn end_with(hand: Hand, what: u64) -> Hand
+fn end_with(hand: Hand, what: u64, height: u64) -> Hand
     requires { ⌜ 0 < hand .left ⌝ }
-    ensures { λ z. ⌜ z ≡ endedWith hand what ⌝ }
+    ensures { λ z. ⌜ z ≡ endedWith hand what height ⌝ }
 {
     Hand {
         what,
@@ -107,10 +112,12 @@ fn end_with(hand: Hand, what: u64) -> Hand
         beat: hand.left - 1,
         left: hand.left - 1,
         spun: hand.spun,
+        low: hand.low,
+        height,
     }
 }
 
-// The child's side is kept, and the parent's goes on.
+// The child's side is kept, with an empty stack, and the parent's goes on.
 fn open_fork(
     hand: Hand,
     under: u64,
@@ -122,7 +129,8 @@ fn open_fork(
     recs: &mut [u64],
     sides: &mut [u64],
 ) -> Hand
-    requires { ⌜ Full (rowsOf (now nums) (now kinds) (now bank) (now marks) (now recs) (now sides)) × (hand .depth < 6) × (0 < hand .left) × (hand .left ≤ 4294967295) × (hand .left ≤ hand .spun) ⌝ }
+    requires { ⌜ Sized (now nums) (now kinds) × (length (now bank) ≡ 96) × (length (now marks) ≡ 96) × (length (now recs) ≡ 6) × (length (now sides) ≡ 30) ×
+        (hand .depth < 6) × (0 < hand .left) × (hand .left ≤ 4294967295) × (hand .left ≤ hand .spun) ⌝ }
     ensures { λ z. ⌜ z ≡ parentOf hand (e .pc) (e .counter) ⌝ }
     ensures { λ z. ⌜ now (bank .exit) ≡ sets (now (bank .entry)) (16 * hand .depth) (now (nums .entry)) ⌝ }
     ensures { λ z. ⌜ now (marks .exit) ≡ sets (now (marks .entry)) (16 * hand .depth) (now (kinds .entry)) ⌝ }
@@ -139,6 +147,7 @@ fn open_fork(
         places,
         pc: 4 * (e.child as usize),
         span: hand.spun - rest,
+        height: 0,
     };
     keep(sides, at, child);
     Hand {
@@ -149,10 +158,51 @@ fn open_fork(
         beat: rest + (e.counter as u64),
         left: rest,
         spun: hand.spun,
+        low: hand.low,
+        height: hand.height,
     }
 }
 
-// What an instruction makes of the task and of the rows. `act` alone calls it, below the work's limit.
+// The value goes on the stack, where a place is left (42). `apply` alone calls these two: by `Point` the stack lies on the pile.
+fn push_value(hand: Hand, e: Executed, pile: &mut [u64], tags: &mut [u8]) -> Hand
+    requires { ⌜ (length (now pile) ≡ 224) × (length (now tags) ≡ 224) × (hand .low ≤ 192) × (0 < hand .left) × (hand .left ≤ 4294967295) ⌝ }
+    ensures { λ z. ⌜ Pushed hand e (now (pile .entry)) (now (tags .entry)) z (now (pile .exit)) (now (tags .exit)) ⌝ }
+{
+    if 32 <= hand.height {
+        return end_with(hand, 42, 0);
+    }
+    let value = e.value;
+    let p = pair_of(value);
+    let at = (hand.low + hand.height) as usize;
+    pile[at] = p.num;
+    tags[at] = p.kind;
+    go_on(hand, e.pc, e.counter, hand.height + 1)
+}
+
+// The value pushed last goes to r, where there is one (43); its place on the pile is not in use any more.
+fn pop_value(
+    r: u64,
+    hand: Hand,
+    e: Executed,
+    nums: &mut [u64],
+    kinds: &mut [u8],
+    pile: &[u64],
+    tags: &[u8],
+) -> Hand
+    requires { ⌜ Sized (now nums) (now kinds) × (length (now pile) ≡ 224) × (length (now tags) ≡ 224) × (hand .low ≤ 192) × (hand .height ≤ 32) × (r < 16) ×
+        (0 < hand .left) × (hand .left ≤ 4294967295) ⌝ }
+    ensures { λ z. ⌜ Popped hand r e (now (pile .entry)) (now (tags .entry)) (now (nums .entry)) (now (kinds .entry)) z (now (nums .exit)) (now (kinds .exit)) ⌝ }
+{
+    if hand.height == 0 {
+        return end_with(hand, 43, 0);
+    }
+    let height = hand.height - 1;
+    let at = (hand.low + height) as usize;
+    put(nums, kinds, r as usize, pile[at], tags[at]);
+    go_on(hand, e.pc, e.counter, height)
+}
+
+// What an instruction makes of the task and of the rows. `act` alone calls it, below the work's limit; `Point` has what is said of the pile.
 fn apply(
     r: u64,
     e: Executed,
@@ -163,11 +213,15 @@ fn apply(
     marks: &mut [u8],
     recs: &mut [u64],
     sides: &mut [u64],
+    pile: &mut [u64],
+    tags: &mut [u8],
 ) -> Hand
-    requires { ⌜ Full (rowsOf (now nums) (now kinds) (now bank) (now marks) (now recs) (now sides)) × (r < 16) × (0 < hand .left) ×
-        (hand .left ≤ 4294967295) × (hand .left ≤ hand .spun) × (e .kind ≡ Forks → hand .depth < 6) × (e .kind ≡ Faults → 3 ≤ e .fault) ⌝ }
+    requires { ⌜ Full (rowsOf (now nums) (now kinds) (now bank) (now marks) (now recs) (now sides) (now pile) (now tags)) × (r < 16) × (0 < hand .left) ×
+        (hand .left ≤ 4294967295) × (hand .left ≤ hand .spun) × (e .kind ≡ Forks → hand .depth < 6) × (e .kind ≡ Faults → 3 ≤ e .fault) ×
+        Piled hand (now sides) × (hand .depth ≤ 6) × (hand .height ≤ 32) ⌝ }
     ensures { λ z. ⌜ Applied hand (rowsOf (now (nums .entry)) (now (kinds .entry)) (now (bank .entry)) (now (marks .entry)) (now (recs .entry)) (now
-        (sides .entry))) r e z (rowsOf (now (nums .exit)) (now (kinds .exit)) (now (bank .exit)) (now (marks .exit)) (now (recs .exit)) (now (sides .exit))) ⌝ }
+        (sides .entry)) (now (pile .entry)) (now (tags .entry))) r e z (rowsOf (now (nums .exit)) (now (kinds .exit)) (now (bank .exit)) (now
+        (marks .exit)) (now (recs .exit)) (now (sides .exit)) (now (pile .exit)) (now (tags .exit))) ⌝ }
 {
     let kind = e.kind;
     let value = e.value;
@@ -175,12 +229,14 @@ fn apply(
         Kind::Stores => {
             let p = pair_of(value);
             put(nums, kinds, r as usize, p.num, p.kind);
-            go_on(hand, e.pc, e.counter)
+            go_on(hand, e.pc, e.counter, hand.height)
         }
-        Kind::Goes => go_on(hand, e.pc, e.counter),
-        Kind::Waits => end_with(hand, 2),
-        Kind::Halts => end_with(hand, 1),
-        Kind::Faults => end_with(hand, e.fault as u64),
+        Kind::Goes => go_on(hand, e.pc, e.counter, hand.height),
+        Kind::Pushes => push_value(hand, e, pile, tags),
+        Kind::Pops => pop_value(r, hand, e, nums, kinds, pile, tags),
+        Kind::Waits => end_with(hand, 2, hand.height),
+        Kind::Halts => end_with(hand, 1, hand.height),
+        Kind::Faults => end_with(hand, e.fault as u64, 0),
         Kind::Forks => open_fork(
             hand,
             record_bits(value),
@@ -209,15 +265,30 @@ pub fn act(
     marks: &mut [u8],
     recs: &mut [u64],
     sides: &mut [u64],
+    pile: &mut [u64],
+    tags: &mut [u8],
 ) -> Hand
-    requires { ⌜ Point (now cells) hand (rowsOf (now nums) (now kinds) (now bank) (now marks) (now recs) (now sides)) × (hand .what ≡ 0) × (0 < hand .left)
+    requires { ⌜ Point (now cells) hand (rowsOf (now nums) (now kinds) (now bank) (now marks) (now recs) (now sides) (now pile) (now tags)) × (hand .what ≡ 0) × (0 < hand .left)
         × (what ≡ 0 → ⊥) × Ends (now cells) (now words) interval (hand .places) (hand .depth) what (hand .pc / 4) (hand .beat - hand .left) (registersOf (now nums) (now kinds)) ⌝ }
     ensures { λ z. ⌜ z .left < hand .left ⌝ }
     ensures { λ z. ⌜ LeadsTo (now (cells .entry)) (now (words .entry)) interval hand (rowsOf (now (nums .entry)) (now (kinds .entry)) (now
-        (bank .entry)) (now (marks .entry)) (now (recs .entry)) (now (sides .entry))) z (rowsOf (now (nums .exit)) (now (kinds .exit)) (now
-        (bank .exit)) (now (marks .exit)) (now (recs .exit)) (now (sides .exit))) ⌝ }
+        (bank .entry)) (now (marks .entry)) (now (recs .entry)) (now (sides .entry)) (now (pile .entry)) (now (tags .entry))) z (rowsOf (now
+        (nums .exit)) (now (kinds .exit)) (now (bank .exit)) (now (marks .exit)) (now (recs .exit)) (now (sides .exit)) (now (pile .exit)) (now
+        (tags .exit))) ⌝ }
 {
     let x = layout::instruction_of(cells, hand.pc / 4);
     let e = ending(cells, words, interval, what, hand, nums, kinds, recs);
-    apply(x.r, e, hand, nums, kinds, bank, marks, recs, sides)
+    apply(
+        x.r,
+        e,
+        hand,
+        nums,
+        kinds,
+        bank,
+        marks,
+        recs,
+        sides,
+        pile,
+        tags,
+    )
 }

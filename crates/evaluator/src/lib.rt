@@ -1,5 +1,5 @@
-// The plain evaluation of a task, in its own order: one task at a time, its registers in two rows of numbers. `serial` says what that order
-// is and proves that it finds what the plain evaluation finds.
+// The plain evaluation of a task, in its own order: one task at a time, its registers and its stack in rows of numbers. `serial` says what that
+// order is and proves that it finds what the plain evaluation finds.
 use task::Task;
 
 mod banks;
@@ -10,7 +10,7 @@ pub mod flat;
 mod hands;
 mod keeping;
 
-// A task with its registers.
+// A task with its registers; its stack stands beside it.
 pub struct Side {
     pub task: Task,
     pub nums: [u64; 16],
@@ -18,7 +18,8 @@ pub struct Side {
 }
 
 // The task in hand, but for its registers and the records of its open forks. What it does: 0 it runs, 1 it has halted, 2 it waits; any other
-// number is its fault's. Its counter is the difference of `beat` and what is left of the budget, its span that of `spun`.
+// number is its fault's. Its counter is the difference of `beat` and what is left of the budget, its span that of `spun`. Its stack begins at
+// `low` of the pile and has `height` values.
 pub struct Hand {
     pub what: u64,
     pub places: u64,
@@ -27,6 +28,8 @@ pub struct Hand {
     pub beat: u64,
     pub left: u64,
     pub spun: u64,
+    pub low: u64,
+    pub height: u64,
 }
 
 // The task in hand after its instructions by itself, and what its next one is, as in `Stopped`.
@@ -35,12 +38,14 @@ pub struct Ran {
     pub hand: Hand,
 }
 
-// The other side of a fork: the child's, still to come, or the parent's, that has ended.
+// The other side of a fork: the child's, still to come, whose stack is empty; or the parent's, that has ended, whose stack lies on the pile right
+// below that of the child.
 pub struct Kept {
     pub what: u64,
     pub places: u64,
     pub pc: usize,
     pub span: u64,
+    pub height: u64,
 }
 
 // How an evaluation ended: 0 the budget was used up, else as in `Hand`.

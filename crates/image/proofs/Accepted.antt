@@ -1,42 +1,46 @@
--- What a program that passes questions 4 and 6 to 9 is like, at each block and at each instruction.
+-- What a program that passes questions 3, 4 and 6 to 9 is like, at each block and at each instruction.
 use mathlib.Core.Path.{_≡_, refl}
 use mathlib.Core.Bool.{Bool, true, false, cond, _&&_, _||_}
 use mathlib.Core.List.{List}
-use Prim.Native.Nat.{ℕ, _+_, _*_, _-_, _^_, _<_, _≤_}
+use Prim.Native.Nat.{ℕ, _+_, _-_, _^_, _<_, _≤_}
 use native.Mathlib.Omega.{arith}
+use native.Mathlib.Nat.{one-le-pow}
 use lib.ListN.{length}
 use lib.Dec.{eqb, ltb, leb}
-use borrow.Author.Tests.{eqb-true, ltb-true, leb-true, lt-leb, eq-eqb}
+use borrow.Author.Tests.{eqb-true, ltb-true, leb-true, eq-eqb}
 use Rattle.facts.proofs.Tests.{clash, both-true}
 use Rattle.image.specs.declared.Block.{Block}
-use Rattle.image.specs.Layout.{blockCount, instructionCount, blockOf, instructionOf, programOf}
-use Rattle.image.specs.Questions.{firstNo, countsNo, inOrder, rising, unjoined, joined, annotated, blockNo, hasR, hasS, hasV, has, register, operandFits, laidOut, startsAt, lastInBlock, same, instructionNo, recordsNo, programNo}
+use Rattle.image.specs.Layout.{mostPairs, blockCell, instructionCell, versionOf, blockCount, instructionCount, blockOf, instructionOf, programOf}
+use Rattle.image.specs.Questions.{firstNo, inOrder, rising, unjoined, joined, annotated, blockNo, lastOpcode, endsBlock}
+use Rattle.image.specs.Questions.{hasR, hasS, hasV, has, register, operandFits, laidOut, startsAt, lastInBlock, same, instructionNo, recordsNo, programNo}
 use Rattle.image.proofs.Asked.{ask-yes, or-else-both, first-no-all}
-use Rattle.image.proofs.Counts.{counted}
+use Rattle.image.proofs.Counts.{versioned, counted, program-parts}
 use Rattle.image.proofs.Pairs.{rising-fits}
 
 pub record BlockAccepted (cells : List ℕ) (b : ℕ) : Type 0 where
-  pub is-stored : 2 + 6 * b + 6 ≤ length cells
+  pub is-stored : blockCell b + 6 ≤ length cells
   pub first-below : blockOf cells b .first < instructionCount cells
   pub annotation-known : blockOf cells b .annotation ≤ 2
   pub label-below : blockOf cells b .label < blockCount cells
   pub policy-known : blockOf cells b .policy ≤ 1
-  pub pairs-few : blockOf cells b .pairs ≤ 4
-  pub packed-fits : blockOf cells b .packed < 256 ^ 4
+  pub pairs-few : blockOf cells b .pairs ≤ mostPairs (versionOf cells)
+  pub packed-fits : blockOf cells b .packed < 256 ^ mostPairs (versionOf cells)
 
 pub record InstructionAccepted (cells : List ℕ) (i : ℕ) : Type 0 where
-  pub is-stored : 770 + 5 * i + 5 ≤ length cells
+  pub is-stored : instructionCell i + 5 ≤ length cells
   pub opcode-least : 1 ≤ instructionOf cells i .opcode
-  pub opcode-most : instructionOf cells i .opcode ≤ 15
+  pub opcode-most : instructionOf cells i .opcode ≤ lastOpcode (versionOf cells)
   pub r-small : instructionOf cells i .r ≤ 15
   pub s-small : instructionOf cells i .s ≤ 15
   pub register-small : instructionOf cells i .kind ≡ 1 → instructionOf cells i .operand ≤ 15
   pub label-below : instructionOf cells i .kind ≡ 2 → instructionOf cells i .operand < blockCount cells
   pub kind-known : instructionOf cells i .kind ≤ 3
   -- question 9: only opcodes 13 to 15 are last
-  pub next-below : instructionOf cells i .opcode < 13 → i + 1 < instructionCount cells
+  pub next-below : endsBlock (instructionOf cells i .opcode) ≡ false → i + 1 < instructionCount cells
 
 pub record Accepted (cells : List ℕ) : Type 0 where
+  pub version-least : 1 ≤ versionOf cells
+  pub version-most : versionOf cells ≤ 2
   pub some-block : 1 ≤ blockCount cells
   pub few-blocks : blockCount cells ≤ 128
   pub some-instruction : 1 ≤ instructionCount cells
@@ -47,12 +51,12 @@ pub record Accepted (cells : List ℕ) : Type 0 where
 
 -- ---- blocks
 
-record Annotated (blocks : ℕ) (k : Block) : Type 0 where
+record Annotated (version blocks : ℕ) (k : Block) : Type 0 where
   known : k .annotation ≤ 2
   below : k .label < blocks
   policy : k .policy ≤ 1
-  few : k .pairs ≤ 4
-  packed : k .packed < 256 ^ 4
+  few : k .pairs ≤ mostPairs version
+  packed : k .packed < 256 ^ mostPairs version
 
 record Unjoined (k : Block) : Type 0 where
   no-policy : k .policy ≡ 0
@@ -70,36 +74,36 @@ unjoined-is k h =
       nothing-packed = eqb-true (k .packed) 0 (q .1);
     }
 
-annotated-is : (blocks : ℕ) (k : Block) → 1 ≤ blocks → annotated blocks k ≡ true → Annotated blocks k
+annotated-is : (version blocks : ℕ) (k : Block) → 1 ≤ blocks → annotated version blocks k ≡ true → Annotated version blocks k
 unfolding annotated joined
-annotated-is blocks k some h = bare (eqb (k .annotation) 0) refl
+annotated-is version blocks k some h = bare (eqb (k .annotation) 0) refl
   where
-    plain : k .annotation ≤ 2 → k .label < blocks → Unjoined k → Annotated blocks k
+    plain : k .annotation ≤ 2 → k .label < blocks → Unjoined k → Annotated version blocks k
     plain a l u = record {
       known = a;
       below = l;
       policy = omega (arith, u .no-policy);
       few = omega (arith, u .no-pairs);
-      packed = omega (arith, u .nothing-packed);
+      packed = rw (u .nothing-packed) (one-le-pow (mostPairs version) 256 (omega arith));
     }
 
-    ready : (t : Bool) → eqb (k .annotation) 1 ≡ t → k .label < blocks → cond (eqb (k .annotation) 1) (unjoined k) (eqb (k .annotation) 2 && joined k) ≡ true
-        → Annotated blocks k
+    ready : (t : Bool) → eqb (k .annotation) 1 ≡ t → k .label < blocks → cond (eqb (k .annotation) 1) (unjoined k) (eqb (k .annotation) 2 && joined version k) ≡ true
+        → Annotated version blocks k
     ready true t l h = plain (omega (arith, eqb-true (k .annotation) 1 t)) l (unjoined-is k (rw t at h))
     ready false t l h =
-        let p = both-true (eqb (k .annotation) 2) (joined k) (rw t at h) in
-        let q = both-true (leb (k .policy) 1) (leb (k .pairs) 4 && rising (k .pairs) (k .packed)) (p .1) in
-        let r = both-true (leb (k .pairs) 4) (rising (k .pairs) (k .packed)) (q .1) in
-        let n : k .pairs ≤ 4 = leb-true (k .pairs) 4 (r .0) in
+        let p = both-true (eqb (k .annotation) 2) (joined version k) (rw t at h) in
+        let q = both-true (leb (k .policy) 1) (leb (k .pairs) (mostPairs version) && rising (k .pairs) (k .packed)) (p .1) in
+        let r = both-true (leb (k .pairs) (mostPairs version)) (rising (k .pairs) (k .packed)) (q .1) in
+        let n : k .pairs ≤ mostPairs version = leb-true (k .pairs) (mostPairs version) (r .0) in
         record {
           known = omega (arith, eqb-true (k .annotation) 2 (p .0));
           below = l;
           policy = leb-true (k .policy) 1 (q .0);
           few = n;
-          packed = rising-fits (k .pairs) (k .packed) n (r .1);
+          packed = rising-fits (mostPairs version) (k .pairs) (k .packed) n (r .1);
         }
 
-    bare : (t : Bool) → eqb (k .annotation) 0 ≡ t → Annotated blocks k
+    bare : (t : Bool) → eqb (k .annotation) 0 ≡ t → Annotated version blocks k
     bare true t =
         let p = both-true (eqb (k .label) 0) (unjoined k) (rw t at h) in
         plain (omega (arith, eqb-true (k .annotation) 0 t)) (omega (arith, eqb-true (k .label) 0 (p .0))) (unjoined-is k (p .1))
@@ -110,13 +114,13 @@ annotated-is blocks k some h = bare (eqb (k .annotation) 0) refl
 pub block-is : (cells : List ℕ) (b : ℕ) → 1 ≤ blockCount cells → blockNo cells b ≡ 0 → BlockAccepted cells b
 unfolding blockNo
 block-is cells b some e =
-    let p = ask-yes (leb (2 + 6 * b + 6) (length cells)) 6 _ tt e in
+    let p = ask-yes (leb (blockCell b + 6) (length cells)) 6 _ tt e in
     let q = ask-yes (inOrder (instructionCount cells) b (blockOf cells (b - 1) .first) (blockOf cells b .first)) 6 _ tt (p .1) in
-    let r = ask-yes (annotated (blockCount cells) (blockOf cells b)) 7 _ tt (q .1) in
+    let r = ask-yes (annotated (versionOf cells) (blockCount cells) (blockOf cells b)) 7 _ tt (q .1) in
     let s = both-true (ltb (blockOf cells b .first) (instructionCount cells)) _ (q .0) in
-    let a = annotated-is (blockCount cells) (blockOf cells b) some (r .0) in
+    let a = annotated-is (versionOf cells) (blockCount cells) (blockOf cells b) some (r .0) in
     record {
-      is-stored = leb-true (2 + 6 * b + 6) (length cells) (p .0);
+      is-stored = leb-true (blockCell b + 6) (length cells) (p .0);
       first-below = ltb-true (blockOf cells b .first) (instructionCount cells) (s .0);
       annotation-known = a .known;
       label-below = a .below;
@@ -128,7 +132,7 @@ block-is cells b some e =
 first-is : (cells : List ℕ) → blockNo cells 0 ≡ 0 → blockOf cells 0 .first ≡ 0
 unfolding blockNo
 first-is cells e =
-    let p = ask-yes (leb (2 + 6 * 0 + 6) (length cells)) 6 _ tt e in
+    let p = ask-yes (leb (blockCell 0 + 6) (length cells)) 6 _ tt e in
     let q = ask-yes (inOrder (instructionCount cells) 0 (blockOf cells 0 .first) (blockOf cells 0 .first)) 6 _ tt (p .1) in
     let s = both-true (ltb (blockOf cells 0 .first) (instructionCount cells)) (eqb (blockOf cells 0 .first) 0) (q .0) in
     eqb-true (blockOf cells 0 .first) 0 (s .1)
@@ -185,11 +189,10 @@ either-false true b h = clash h refl
 either-false false b h = refl
 
 -- question 9 of an instruction that is not 13, 14 or 15: it isn't the program's last
-next-is : (cells : List ℕ) (i : ℕ) → i < instructionCount cells → same (leb 13 (instructionOf cells i .opcode)) (lastInBlock (programOf cells) i) ≡ true
-    → instructionOf cells i .opcode < 13 → i + 1 < instructionCount cells
+next-is : (cells : List ℕ) (i : ℕ) → i < instructionCount cells → same (endsBlock (instructionOf cells i .opcode)) (lastInBlock (programOf cells) i) ≡ true
+    → endsBlock (instructionOf cells i .opcode) ≡ false → i + 1 < instructionCount cells
 unfolding lastInBlock
-next-is cells i below h small =
-    let t : leb 13 (instructionOf cells i .opcode) ≡ false = lt-leb 13 (instructionOf cells i .opcode) small in
+next-is cells i below h t =
     let p : eqb (i + 1) (instructionCount cells) ≡ false =
     either-false (eqb (i + 1) (instructionCount cells)) (startsAt (programOf cells) (blockCount cells) (i + 1)) (rw t at h) in
     let q : i + 1 ≡ instructionCount cells → ⊥ = λ z. clash (eq-eqb (i + 1) (instructionCount cells) z) p in
@@ -199,17 +202,17 @@ instruction-is : (cells : List ℕ) (i : ℕ) → i < instructionCount cells →
 unfolding instructionNo laidOut
 instruction-is cells i below e =
     let x = instructionOf cells i in
-    let p = ask-yes (leb (770 + 5 * i + 5) (length cells)) 8 _ tt e in
-    let q = ask-yes (laidOut (blockCount cells) x) 8 _ tt (p .1) in
-    let r = ask-yes (same (leb 13 (x .opcode)) (lastInBlock (programOf cells) i)) 9 0 tt (q .1) in
+    let p = ask-yes (leb (instructionCell i + 5) (length cells)) 8 _ tt e in
+    let q = ask-yes (laidOut (lastOpcode (versionOf cells)) (blockCount cells) x) 8 _ tt (p .1) in
+    let r = ask-yes (same (endsBlock (x .opcode)) (lastInBlock (programOf cells) i)) 9 0 tt (q .1) in
     let a = both-true (leb 1 (x .opcode)) _ (q .0) in
-    let b = both-true (leb (x .opcode) 15) _ (a .1) in
+    let b = both-true (leb (x .opcode) (lastOpcode (versionOf cells))) _ (a .1) in
     let c = both-true (register (has (x .opcode) hasR) (x .r)) _ (b .1) in
     let d = both-true (register (has (x .opcode) hasS) (x .s)) (operandFits (blockCount cells) (has (x .opcode) hasV) (x .kind) (x .operand)) (c .1) in
     record {
-      is-stored = leb-true (770 + 5 * i + 5) (length cells) (p .0);
+      is-stored = leb-true (instructionCell i + 5) (length cells) (p .0);
       opcode-least = leb-true 1 (x .opcode) (a .0);
-      opcode-most = leb-true (x .opcode) 15 (b .0);
+      opcode-most = leb-true (x .opcode) (lastOpcode (versionOf cells)) (b .0);
       r-small = register-is (has (x .opcode) hasR) (x .r) (c .0);
       s-small = register-is (has (x .opcode) hasS) (x .s) (d .0);
       register-small = operand-register (blockCount cells) (has (x .opcode) hasV) (x .kind) (x .operand) (d .1);
@@ -221,14 +224,17 @@ instruction-is cells i below e =
 -- ---- a program
 
 pub accepted : (cells : List ℕ) → programNo cells ≡ 0 → Accepted cells
-unfolding programNo recordsNo
+unfolding recordsNo
 accepted cells e =
     let B = blockCount cells in
     let I = instructionCount cells in
-    let p = or-else-both (countsNo B I) (recordsNo cells) e in
-    let q = or-else-both (firstNo (blockNo cells) B 0) (firstNo (instructionNo cells) I 0) (p .1) in
-    let c = counted B I (p .0) in
+    let p = program-parts cells e in
+    let q = or-else-both (firstNo (blockNo cells) B 0) (firstNo (instructionNo cells) I 0) (p .2) in
+    let v = versioned (versionOf cells) (p .0) in
+    let c = counted B I (p .1) in
     record {
+      version-least = v .version-least;
+      version-most = v .version-most;
       some-block = c .some-block;
       few-blocks = c .blocks-fit;
       some-instruction = c .some-instruction;

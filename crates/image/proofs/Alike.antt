@@ -1,19 +1,20 @@
--- Two buffers with the same counts and records get the same answers.
+-- Two buffers with the same version, counts and records get the same answers.
 use mathlib.Core.Path.{_≡_, refl, sym, ap, ap₂, _∙_}
 use mathlib.Core.Bool.{Bool, true, cond, _&&_, _||_}
 use mathlib.Core.List.{List}
-use Prim.Native.Nat.{ℕ, zero, suc, _+_, _*_, _-_, _<_, _≤_}
+use Prim.Native.Nat.{ℕ, zero, suc, _+_, _-_, _<_, _≤_}
 use native.Mathlib.Omega.{arith}
 use lib.ListN.{length}
 use lib.Dec.{eqb, ltb, leb}
 use borrow.Author.Tests.{le-leb}
 use Rattle.image.specs.declared.Block.{Block}
 use Rattle.image.specs.declared.Instruction.{Instruction}
-use Rattle.image.specs.Layout.{programCells, blockCount, instructionCount, blockOf, instructionOf, programOf}
-use Rattle.image.specs.Questions.{firstNo, inOrder, annotated, blockNo, laidOut, same, startsAt, lastInBlock, instructionNo, recordsNo}
+use Rattle.image.specs.Layout.{programCells, blockCell, instructionCell, versionOf, blockCount, instructionCount, blockOf, instructionOf, programOf}
+use Rattle.image.specs.Questions.{firstNo, inOrder, annotated, blockNo, lastOpcode, endsBlock, laidOut, same, startsAt, lastInBlock, instructionNo, recordsNo}
 use Rattle.image.proofs.Asked.{ask-yes, or-else-both, or-else-yes, first-no-all, first-no-none}
 
 pub record Alike (p q : List ℕ) : Type 0 where
+  pub version : versionOf p ≡ versionOf q
   pub blocks : blockCount p ≡ blockCount q
   pub instructions : instructionCount p ≡ instructionCount q
   pub block : (b : ℕ) → b < blockCount p → blockOf p b ≡ blockOf q b
@@ -21,6 +22,7 @@ pub record Alike (p q : List ℕ) : Type 0 where
 
 pub alike-sym : {p q : List ℕ} → Alike p q → Alike q p
 alike-sym a = record {
+  version = sym (a .version);
   blocks = sym (a .blocks);
   instructions = sym (a .instructions);
   block = λ b h. sym (a .block b (omega (arith, a .blocks)));
@@ -54,24 +56,26 @@ module _ (p q : List ℕ) (alike : Alike p q) where
     block-yes : (b : ℕ) → b < blockCount p → blockCount p ≤ 128 → blockNo p b ≡ 0 → blockNo q b ≡ 0
     unfolding blockNo
     block-yes b h few e =
-        let u = ask-yes (leb (2 + 6 * b + 6) (length p)) 6 _ tt e in
+        let u = ask-yes (leb (blockCell b + 6) (length p)) 6 _ tt e in
         let v = ask-yes (ordered p b) 6 _ tt (u .1) in
-        let w = ask-yes (annotated (blockCount p) (blockOf p b)) 7 0 tt (v .1) in
+        let w = ask-yes (annotated (versionOf p) (blockCount p) (blockOf p b)) 7 0 tt (v .1) in
         let s : ordered q b ≡ true = sym (starts-same b h) ∙ v .0 in
-        let a : annotated (blockCount q) (blockOf q b) ≡ true = sym (ap₂ annotated (alike .blocks) (alike .block b h)) ∙ w .0 in
-        rw (le-leb (2 + 6 * b + 6) (length q) (omega arith), s, a)
+        let a : annotated (versionOf q) (blockCount q) (blockOf q b) ≡ true =
+        sym (ap₂ (annotated (versionOf p)) (alike .blocks) (alike .block b h) ∙ ap (λ (v : ℕ). annotated v (blockCount q) (blockOf q b)) (alike .version)) ∙ w .0 in
+        rw (le-leb (blockCell b + 6) (length q) (omega arith), s, a)
 
     instruction-yes : (i : ℕ) → i < instructionCount p → instructionCount p ≤ 1024 → instructionNo p i ≡ 0 → instructionNo q i ≡ 0
     unfolding instructionNo
     instruction-yes i h few e =
-        let u = ask-yes (leb (770 + 5 * i + 5) (length p)) 8 _ tt e in
-        let v = ask-yes (laidOut (blockCount p) (instructionOf p i)) 8 _ tt (u .1) in
-        let w = ask-yes (same (leb 13 (instructionOf p i .opcode)) (lastInBlock (programOf p) i)) 9 0 tt (v .1) in
+        let u = ask-yes (leb (instructionCell i + 5) (length p)) 8 _ tt e in
+        let v = ask-yes (laidOut (lastOpcode (versionOf p)) (blockCount p) (instructionOf p i)) 8 _ tt (u .1) in
+        let w = ask-yes (same (endsBlock (instructionOf p i .opcode)) (lastInBlock (programOf p) i)) 9 0 tt (v .1) in
         let x = alike .instruction i h in
-        let l : laidOut (blockCount q) (instructionOf q i) ≡ true = sym (ap₂ laidOut (alike .blocks) x) ∙ v .0 in
-        let s : same (leb 13 (instructionOf q i .opcode)) (lastInBlock (programOf q) i) ≡ true =
-        sym (ap₂ (λ (y : Instruction) (t : Bool). same (leb 13 (y .opcode)) t) x (last-same i)) ∙ w .0 in
-        rw (le-leb (770 + 5 * i + 5) (length q) (omega arith), l, s)
+        let l : laidOut (lastOpcode (versionOf q)) (blockCount q) (instructionOf q i) ≡ true =
+        sym (ap₂ (laidOut (lastOpcode (versionOf p))) (alike .blocks) x ∙ ap (λ (v : ℕ). laidOut (lastOpcode v) (blockCount q) (instructionOf q i)) (alike .version)) ∙ v .0 in
+        let s : same (endsBlock (instructionOf q i .opcode)) (lastInBlock (programOf q) i) ≡ true =
+        sym (ap₂ (λ (y : Instruction) (t : Bool). same (endsBlock (y .opcode)) t) x (last-same i)) ∙ w .0 in
+        rw (le-leb (instructionCell i + 5) (length q) (omega arith), l, s)
 
     pub records-yes : blockCount p ≤ 128 → instructionCount p ≤ 1024 → recordsNo p ≡ 0 → recordsNo q ≡ 0
     unfolding recordsNo

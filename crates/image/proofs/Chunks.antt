@@ -8,7 +8,7 @@ use lib.ListN.{length, getD, take, drop}
 use lib.Seq.{take-add, drop-drop, take-all}
 use Rattle.int64.specs.Little.{little, bytesOf}
 use Rattle.int64.proofs.Little.{bytesOf-little}
-use Rattle.image.specs.Layout.{rows, blockIn, blockBytes, instructionIn, instructionBytes}
+use Rattle.image.specs.Layout.{rows, mostPairs, blockSize, blockIn, blockBytes, instructionIn, instructionBytes}
 
 module _ (bytes : List ℕ) where
   -- n bytes from an offset on
@@ -43,14 +43,16 @@ module _ (bytes : List ℕ) where
     pub byte-chunk : (at : ℕ) → at + 1 ≤ length bytes → bytesOf 1 (getD bytes at 0) ≡ chunk at 1
     byte-chunk at h = ap (bytesOf 1) (sym (one-byte at)) ∙ number-chunk 1 at h
 
-    pub block-chunk : (at : ℕ) → at + 10 ≤ length bytes → blockBytes (blockIn bytes at) ≡ chunk at 10
-    block-chunk at h =
-        let pairs = number-chunk 4 (at + 6) (omega arith) in
-        let count = ap₂ _++_ (byte-chunk (at + 5) (omega arith)) refl ∙ chunk-then (at + 5) 1 4 (at + 6) (omega arith) pairs in
-        let label = ap₂ _++_ (byte-chunk (at + 4) (omega arith)) refl ∙ chunk-then (at + 4) 1 5 (at + 5) (omega arith) count in
-        let policy = ap₂ _++_ (byte-chunk (at + 3) (omega arith)) refl ∙ chunk-then (at + 3) 1 6 (at + 4) (omega arith) label in
-        let annotation = ap₂ _++_ (byte-chunk (at + 2) (omega arith)) refl ∙ chunk-then (at + 2) 1 7 (at + 3) (omega arith) policy in
-        ap₂ _++_ (number-chunk 2 at (omega arith)) refl ∙ chunk-then at 2 8 (at + 2) refl annotation
+    pub block-chunk : (version at : ℕ) → at + blockSize version ≤ length bytes → blockBytes version (blockIn version bytes at) ≡ chunk at (blockSize version)
+    block-chunk version at h =
+        let n = mostPairs version in
+        let pairs = number-chunk n (at + 6) (omega arith) in
+        let count = ap₂ _++_ (byte-chunk (at + 5) (omega arith)) refl ∙ chunk-then (at + 5) 1 n (at + 6) (omega arith) pairs in
+        let label = ap₂ _++_ (byte-chunk (at + 4) (omega arith)) refl ∙ chunk-then (at + 4) 1 (1 + n) (at + 5) (omega arith) count in
+        let policy = ap₂ _++_ (byte-chunk (at + 3) (omega arith)) refl ∙ chunk-then (at + 3) 1 (1 + (1 + n)) (at + 4) (omega arith) label in
+        let annotation = ap₂ _++_ (byte-chunk (at + 2) (omega arith)) refl ∙ chunk-then (at + 2) 1 (1 + (1 + (1 + n))) (at + 3) (omega arith) policy in
+        let all : 2 + (1 + (1 + (1 + (1 + n)))) ≡ blockSize version = omega arith in
+        ap₂ _++_ (number-chunk 2 at (omega arith)) refl ∙ chunk-then at 2 (1 + (1 + (1 + (1 + n)))) (at + 2) refl annotation ∙ ap (chunk at) all
 
     pub instruction-chunk : (at : ℕ) → at + 12 ≤ length bytes → instructionBytes (instructionIn bytes at) ≡ chunk at 12
     instruction-chunk at h =

@@ -1,4 +1,5 @@
 pub mod Asked
+pub mod Versions
 pub mod Counts
 pub mod Pairs
 pub mod Marking

@@ -1,19 +1,20 @@
 -- Question 8 by limits: a field is as laid out when it does not pass its limit.
 use mathlib.Core.Path.{_≡_, refl, sym, ap, ap₂, _∙_, subst}
 use mathlib.Core.Bool.{Bool, true, false}
-use mathlib.Core.List.{List, [], _∷_}
+use mathlib.Core.List.{List, [], _∷_, _++_}
 use Prim.Native.Nat.{ℕ, zero, suc, _+_, _-_, _*_, _/_, _%_, _<_, _≤_}
 use native.Mathlib.Omega.{arith}
 use lib.ListN.{length, getD, set}
-use lib.Seq.{sets}
+use lib.Seq.{sets, getD-append-add}
 use lib.Dec.{eqb, ltb, leb}
 use borrow.Author.Tests.{le-leb, lt-leb, ne-eqb, ltb-true, ltb-false}
+use Rattle.facts.proofs.Tests.{by-below}
 use Rattle.image.specs.declared.Instruction.{Instruction}
-use Rattle.image.specs.Layout.{rows, blockCount, instructionCount, instructionOf, programOf}
-use Rattle.image.specs.Questions.{fields, hasR, hasS, hasV, has, register, operandFits, laidOut, lastInBlock, instructionNo}
+use Rattle.image.specs.Layout.{rows, instructionCell, versionOf, blockCount, instructionCount, instructionOf, programOf}
+use Rattle.image.specs.Questions.{lastOpcode, fields, hasR, hasS, hasV, has, register, operandFits, laidOut, lastInBlock, instructionNo}
 use Rattle.image.specs.Records.{instructionRecordNo}
 use Rattle.image.specs.Marks.{Ended}
-use Rattle.image.specs.Limits.{limitRow, limitsAt, limitRows, largestOf, Limited, blocksBy}
+use Rattle.image.specs.Limits.{limitRow, limitsAt, noOpcode, limitRows, largestOf, Limited, blocksBy}
 use Rattle.image.proofs.Rows.{placed, length-rows, getD-rows, row-placed}
 use Rattle.image.proofs.Marking.{mark-told}
 use Rattle.image.proofs.Written.{sets-whole}
@@ -78,130 +79,154 @@ row-put l at flags r s v p q e =
     let three = placed l _ _ at (at + 2) (a ∷ b ∷ []) (d ∷ []) two refl refl in
     rw (p, q, e) (placed l _ _ at (at + 3) (a ∷ b ∷ d ∷ []) (3 * d ∷ []) three refl refl)
 
-pub row-filled : (table l l₁ l₂ : List ℕ) (n : ℕ) → table ≡ fields → l₁ ≡ sets l 0 (rows limitsAt n)
-    → l₂ ≡ sets l₁ (4 * n) (limitRow (getD table n 0)) → l₂ ≡ sets l 0 (rows limitsAt (n + 1))
+pub row-filled : (table l l₁ l₂ : List ℕ) (n : ℕ) → table ≡ fields → l₁ ≡ sets l 4 (rows limitsAt n)
+    → l₂ ≡ sets l₁ (4 + 4 * n) (limitRow (getD table n 0)) → l₂ ≡ sets l 4 (rows limitsAt (n + 1))
 row-filled table l l₁ l₂ n e p q =
-    let z : 4 * n ≡ 0 + 4 * n = omega arith in
-    row-placed limitsAt 4 (λ b. refl) l l₁ l₂ 0 n p
-    (q ∙ ap (λ (t : List ℕ). sets l₁ (4 * n) (limitRow (getD t n 0))) e ∙ ap (λ (k : ℕ). sets l₁ k (limitRow (getD fields n 0))) z)
+    row-placed limitsAt 4 (λ b. refl) l l₁ l₂ 4 n p (q ∙ ap (λ (t : List ℕ). sets l₁ (4 + 4 * n) (limitRow (getD t n 0))) e)
 
-pub limits-length : length limitRows ≡ 60
+pub limits-length : length limitRows ≡ 72
 unfolding limitRows
-limits-length = length-rows limitsAt 4 (λ b. refl) 15
+limits-length = omega (arith, length-rows limitsAt 4 (λ b. refl) 17)
 
-pub limits-filled : (l l′ : List ℕ) → length l ≡ 60 → l′ ≡ sets l 0 (rows limitsAt 15) → l′ ≡ limitRows
+pub limits-filled : (l l₁ l₂ : List ℕ) → length l ≡ 72 → l₁ ≡ sets l 0 noOpcode → l₂ ≡ sets l₁ 4 (rows limitsAt 17) → l₂ ≡ limitRows
 unfolding limitRows
-limits-filled l l′ e p = p ∙ sets-whole l (rows limitsAt 15) (limits-length ∙ sym e)
+limits-filled l l₁ l₂ e p q =
+    placed l l₁ l₂ 0 4 noOpcode (rows limitsAt 17) p q refl ∙ sets-whole l (noOpcode ++ rows limitsAt 17) (limits-length ∙ sym e)
 
 -- the largest label tells the number of blocks
-pub blocks-told : (blocks : ℕ) (limits largest : List ℕ) → Limited blocks limits largest → blocksBy largest ≡ blocks
-blocks-told blocks limits largest L = ap (λ (l : List ℕ). blocksBy l) (L .largest-are) ∙ omega (arith, L .some-block)
+pub blocks-told : (opcodes blocks : ℕ) (limits largest : List ℕ) → Limited opcodes blocks limits largest → blocksBy largest ≡ blocks
+blocks-told opcodes blocks limits largest L = ap (λ (l : List ℕ). blocksBy l) (L .largest-are) ∙ omega (arith, L .some-block)
 
 -- ---- an instruction
 
 -- one that a short buffer lacks
-pub not-held : (cells : List ℕ) (i : ℕ) → length cells < 770 + 5 * i + 5 → instructionNo cells i ≡ 8
+pub not-held : (cells : List ℕ) (i : ℕ) → length cells < instructionCell i + 5 → instructionNo cells i ≡ 8
 unfolding instructionNo
-not-held cells i h = rw (lt-leb (770 + 5 * i + 5) (length cells) h)
+not-held cells i h = rw (lt-leb (instructionCell i + 5) (length cells) h)
 
-pub no-opcode : (blocks : ℕ) (x : Instruction) → x .opcode < 1 → laidOut blocks x ≡ false
+pub no-opcode : (opcodes blocks : ℕ) (x : Instruction) → x .opcode < 1 → laidOut opcodes blocks x ≡ false
 unfolding laidOut
-no-opcode blocks x h = rw (lt-leb 1 (x .opcode) h)
+no-opcode opcodes blocks x h = rw (lt-leb 1 (x .opcode) h)
 
-pub past-opcodes : (blocks : ℕ) (x : Instruction) → 15 < x .opcode → laidOut blocks x ≡ false
+pub past-opcodes : (opcodes blocks : ℕ) (x : Instruction) → opcodes < x .opcode → laidOut opcodes blocks x ≡ false
 unfolding laidOut
-past-opcodes blocks x h = rw (le-leb 1 (x .opcode) (omega arith), lt-leb (x .opcode) 15 h)
+past-opcodes opcodes blocks x h = rw (le-leb 1 (x .opcode) (omega arith), lt-leb (x .opcode) opcodes h)
 
-module _ (B : ℕ) (limits largest : List ℕ) (L : Limited B limits largest) (x : Instruction) (least : 1 ≤ x .opcode) (most : x .opcode ≤ 15) where
+module _ (N B : ℕ) (limits largest : List ℕ) (L : Limited N B limits largest) (x : Instruction) (most : x .opcode ≤ N) where
   abbrev row : ℕ
-  row = 4 * (x .opcode - 1)
-
-  at-limit : (k j : ℕ) → k ≡ row + j → j < 4 → getD limits k 0 ≡ getD (limitRow (getD fields (x .opcode - 1) 0)) j 0
-  unfolding limitRows
-  at-limit k j e q =
-      ap (λ (l : List ℕ). getD l k 0) (L .limits-are) ∙ ap (λ (n : ℕ). getD limitRows n 0) e
-      ∙ getD-rows limitsAt 4 (λ b. refl) 15 (x .opcode - 1) j (omega arith) q
-
-  most-r : getD limits row 0 ≡ 15 * has (x .opcode) hasR
-  most-r = at-limit row 0 (omega arith) (omega arith)
-
-  most-s : getD limits (row + 1) 0 ≡ 15 * has (x .opcode) hasS
-  most-s = at-limit (row + 1) 1 refl (omega arith)
-
-  least-kind : getD limits (row + 2) 0 ≡ has (x .opcode) hasV
-  least-kind = at-limit (row + 2) 2 refl (omega arith)
-
-  most-kind : getD limits (row + 3) 0 ≡ 3 * has (x .opcode) hasV
-  most-kind = at-limit (row + 3) 3 refl (omega arith)
+  row = 4 * x .opcode
 
   pub row-inside : row + 3 < length limits
-  row-inside = omega (arith, ap (λ (l : List ℕ). length l) (L .limits-are), limits-length)
+  row-inside = omega (arith, ap (λ (l : List ℕ). length l) (L .limits-are), limits-length, L .few-opcodes)
 
   pub four-largest : length largest ≡ 4
   four-largest = ap (λ (l : List ℕ). length l) (L .largest-are)
 
-  pub beyond-r : getD limits row 0 < x .r → laidOut B x ≡ false
-  unfolding laidOut
-  beyond-r h = rw (
-    le-leb 1 (x .opcode) least,
-    le-leb (x .opcode) 15 most,
-    register-limit (has (x .opcode) hasR) (x .r) (omega arith),
-    lt-leb (x .r)
-        (15 * has (x .opcode) hasR) (omega (arith, most-r)),
-  )
+  -- opcode 0 has the first row
+  none-limit : (k j : ℕ) → x .opcode < 1 → k ≡ row + j → getD limits k 0 ≡ getD limitRows j 0
+  none-limit k j none e =
+      let z : k ≡ j = omega arith in
+      ap (λ (l : List ℕ). getD l k 0) (L .limits-are) ∙ ap (λ (n : ℕ). getD limitRows n 0) z
 
-  module _ (r-fits : x .r ≤ getD limits row 0) where
-    r-tested : register (has (x .opcode) hasR) (x .r) ≡ true
-    r-tested = register-limit (has (x .opcode) hasR) (x .r) (omega arith) ∙ le-leb (x .r) (15 * has (x .opcode) hasR) (omega (arith, most-r))
+  no-kind : x .opcode < 1 → (getD limits (row + 2) 0 ≡ 1) × (getD limits (row + 3) 0 ≡ 0)
+  unfolding limitRows
+  no-kind none = (none-limit (row + 2) 2 none refl, none-limit (row + 3) 3 none refl)
 
-    pub beyond-s : getD limits (row + 1) 0 < x .s → laidOut B x ≡ false
+  -- 1 to 17 have the table's
+  module _ (least : 1 ≤ x .opcode) where
+    at-limit : (k j : ℕ) → k ≡ row + j → j < 4 → getD limits k 0 ≡ getD (limitRow (getD fields (x .opcode - 1) 0)) j 0
+    unfolding limitRows
+    at-limit k j e q =
+        let z : k ≡ 4 + (4 * (x .opcode - 1) + j) = omega (arith, least) in
+        ap (λ (l : List ℕ). getD l k 0) (L .limits-are) ∙ ap (λ (n : ℕ). getD limitRows n 0) z
+        ∙ getD-append-add noOpcode (rows limitsAt 17) (4 * (x .opcode - 1) + j) 0
+        ∙ getD-rows limitsAt 4 (λ b. refl) 17 (x .opcode - 1) j (omega (arith, L .few-opcodes)) q
+
+    most-r : getD limits row 0 ≡ 15 * has (x .opcode) hasR
+    most-r = at-limit row 0 (omega arith) (omega arith)
+
+    most-s : getD limits (row + 1) 0 ≡ 15 * has (x .opcode) hasS
+    most-s = at-limit (row + 1) 1 refl (omega arith)
+
+    least-kind : getD limits (row + 2) 0 ≡ has (x .opcode) hasV
+    least-kind = at-limit (row + 2) 2 refl (omega arith)
+
+    most-kind : getD limits (row + 3) 0 ≡ 3 * has (x .opcode) hasV
+    most-kind = at-limit (row + 3) 3 refl (omega arith)
+
+    some-beyond-r : getD limits row 0 < x .r → laidOut N B x ≡ false
     unfolding laidOut
-    beyond-s h = rw (
+    some-beyond-r h = rw (
       le-leb 1 (x .opcode) least,
-      le-leb (x .opcode) 15 most,
-      r-tested,
+      le-leb (x .opcode) N most,
+      register-limit (has (x .opcode) hasR) (x .r) (omega arith),
+      lt-leb (x .r) (15 * has (x .opcode) hasR) (omega (arith, most-r)),
+    )
+
+    r-tested : x .r ≤ getD limits row 0 → register (has (x .opcode) hasR) (x .r) ≡ true
+    r-tested fits = register-limit (has (x .opcode) hasR) (x .r) (omega arith) ∙ le-leb (x .r) (15 * has (x .opcode) hasR) (omega (arith, most-r))
+
+    some-beyond-s : x .r ≤ getD limits row 0 → getD limits (row + 1) 0 < x .s → laidOut N B x ≡ false
+    unfolding laidOut
+    some-beyond-s fits h = rw (
+      le-leb 1 (x .opcode) least,
+      le-leb (x .opcode) N most,
+      r-tested fits,
       register-limit (has (x .opcode) hasS) (x .s) (omega arith),
       lt-leb (x .s) (15 * has (x .opcode) hasS) (omega (arith, most-s)),
     )
 
+    s-tested : x .s ≤ getD limits (row + 1) 0 → register (has (x .opcode) hasS) (x .s) ≡ true
+    s-tested fits = register-limit (has (x .opcode) hasS) (x .s) (omega arith) ∙ le-leb (x .s) (15 * has (x .opcode) hasS) (omega (arith, most-s))
+
+    operand-left : x .r ≤ getD limits row 0 → x .s ≤ getD limits (row + 1) 0 → laidOut N B x ≡ operandFits B (has (x .opcode) hasV) (x .kind) (x .operand)
+    unfolding laidOut
+    operand-left r s = rw (le-leb 1 (x .opcode) least, le-leb (x .opcode) N most, r-tested r, s-tested s)
+
+  -- ---- either way
+
+  by-opcode : {A : Type 0} → (x .opcode < 1 → A) → (1 ≤ x .opcode → A) → A
+  by-opcode none some = by-below (x .opcode) 1 none some
+
+  pub beyond-r : getD limits row 0 < x .r → laidOut N B x ≡ false
+  beyond-r h = by-opcode (no-opcode N B x) (λ least. some-beyond-r least h)
+
+  module _ (r-fits : x .r ≤ getD limits row 0) where
+    pub beyond-s : getD limits (row + 1) 0 < x .s → laidOut N B x ≡ false
+    beyond-s h = by-opcode (no-opcode N B x) (λ least. some-beyond-s least r-fits h)
+
     module _ (s-fits : x .s ≤ getD limits (row + 1) 0) where
-      s-tested : register (has (x .opcode) hasS) (x .s) ≡ true
-      s-tested = register-limit (has (x .opcode) hasS) (x .s) (omega arith) ∙ le-leb (x .s) (15 * has (x .opcode) hasS) (omega (arith, most-s))
+      pub below-kind : x .kind < getD limits (row + 2) 0 → laidOut N B x ≡ false
+      below-kind h = by-opcode (no-opcode N B x) (λ least. operand-left least r-fits s-fits
+          ∙ kind-below B (has (x .opcode) hasV) (x .kind) (x .operand) (omega arith) (omega (arith, least-kind least)))
 
-      operand-left : laidOut B x ≡ operandFits B (has (x .opcode) hasV) (x .kind) (x .operand)
-      unfolding laidOut
-      operand-left = rw (le-leb 1 (x .opcode) least, le-leb (x .opcode) 15 most, r-tested, s-tested)
-
-      pub below-kind : x .kind < getD limits (row + 2) 0 → laidOut B x ≡ false
-      below-kind h = operand-left ∙ kind-below B (has (x .opcode) hasV) (x .kind) (x .operand) (omega arith) (omega (arith, least-kind))
-
-      pub beyond-kind : getD limits (row + 3) 0 < x .kind → laidOut B x ≡ false
-      beyond-kind h = operand-left ∙ kind-beyond B (has (x .opcode) hasV) (x .kind) (x .operand) (omega arith) (omega (arith, most-kind))
+      pub beyond-kind : getD limits (row + 3) 0 < x .kind → laidOut N B x ≡ false
+      beyond-kind h = by-opcode (no-opcode N B x) (λ least. operand-left least r-fits s-fits
+          ∙ kind-beyond B (has (x .opcode) hasV) (x .kind) (x .operand) (omega arith) (omega (arith, most-kind least)))
 
       pub operand-decides : getD limits (row + 2) 0 ≤ x .kind → x .kind ≤ getD limits (row + 3) 0 → x .operand ≤ 18446744073709551615
-          → laidOut B x ≡ leb (x .operand) (getD largest (x .kind) 0)
-      operand-decides h k w =
-          operand-left
-          ∙ operand-limit B (has (x .opcode) hasV) (x .kind) (x .operand) (L .some-block) w (omega arith) (omega (arith, least-kind)) (omega (arith, most-kind))
-          ∙ ap (λ (l : List ℕ). leb (x .operand) (getD l (x .kind) 0)) (sym (L .largest-are))
+          → laidOut N B x ≡ leb (x .operand) (getD largest (x .kind) 0)
+      operand-decides h k w = by-opcode (λ none. absurd (omega (arith, no-kind none))) (λ least. operand-left least r-fits s-fits
+          ∙ operand-limit B (has (x .opcode) hasV) (x .kind) (x .operand) (L .some-block) w (omega arith) (omega (arith, least-kind least)) (omega (arith, most-kind least))
+          ∙ ap (λ (l : List ℕ). leb (x .operand) (getD l (x .kind) 0)) (sym (L .largest-are)))
 
   pub kind-known : x .kind ≤ getD limits (row + 3) 0 → x .kind < 4
-  kind-known h = omega (arith, most-kind)
+  kind-known h = by-opcode (λ none. omega (arith, no-kind none)) (λ least. omega (arith, most-kind least))
 
 -- ---- an instruction asked with lent limits and marks
 
-pub limited-by : (blocks : ℕ) (limits largest : List ℕ) → Limited blocks limits largest → Limited (blocksBy largest) limits largest
-limited-by blocks limits largest L = subst (λ (n : ℕ). Limited n limits largest) (sym (blocks-told blocks limits largest L)) L
+pub limited-by : (opcodes blocks : ℕ) (limits largest : List ℕ) → Limited opcodes blocks limits largest → Limited opcodes (blocksBy largest) limits largest
+limited-by opcodes blocks limits largest L = subst (λ (n : ℕ). Limited opcodes n limits largest) (sym (blocks-told opcodes blocks limits largest L)) L
 
-pub asked-by : (cells marks : List ℕ) (blocks : ℕ) (limits largest : List ℕ) → Limited blocks limits largest → Ended cells marks
+pub asked-by : (cells marks : List ℕ) (opcodes blocks : ℕ) (limits largest : List ℕ) → Limited opcodes blocks limits largest → Ended cells marks
     → (i : ℕ) → i < instructionCount cells → (x : Instruction)
-    → instructionRecordNo (blocksBy largest) (eqb (getD marks (i + 1) 0) 1) x ≡ instructionRecordNo blocks (lastInBlock (programOf cells) i) x
-asked-by cells marks blocks limits largest L E i h x =
-    ap₂ (λ (n : ℕ) (t : Bool). instructionRecordNo n t x) (blocks-told blocks limits largest L)
+    → instructionRecordNo opcodes (blocksBy largest) (eqb (getD marks (i + 1) 0) 1) x ≡ instructionRecordNo opcodes blocks (lastInBlock (programOf cells) i) x
+asked-by cells marks opcodes blocks limits largest L E i h x =
+    ap₂ (λ (n : ℕ) (t : Bool). instructionRecordNo opcodes n t x) (blocks-told opcodes blocks limits largest L)
     (mark-told (lastInBlock (programOf cells) i) (getD marks (i + 1) 0) (E .ended i h) .0)
 
 -- one that the buffer has
-pub asked-held : (cells : List ℕ) (i : ℕ) → 770 + 5 * i + 5 ≤ length cells
-    → instructionRecordNo (blockCount cells) (lastInBlock (programOf cells) i) (instructionOf cells i) ≡ instructionNo cells i
+pub asked-held : (cells : List ℕ) (opcodes i : ℕ) → opcodes ≡ lastOpcode (versionOf cells) → instructionCell i + 5 ≤ length cells
+    → instructionRecordNo opcodes (blockCount cells) (lastInBlock (programOf cells) i) (instructionOf cells i) ≡ instructionNo cells i
 unfolding instructionNo
-asked-held cells i h = rw (le-leb (770 + 5 * i + 5) (length cells) h)
+asked-held cells opcodes i e h = rw (e, le-leb (instructionCell i + 5) (length cells) h)

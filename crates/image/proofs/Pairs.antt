@@ -45,5 +45,5 @@ rising-below (suc (suc n)) x h =
     let e : 256 ^ suc (suc n) ≡ 256 ^ suc n * 256 = pow-suc 256 (suc n) in
     omega arith
 
-pub rising-fits : (n x : ℕ) → n ≤ 4 → rising n x ≡ true → x < 256 ^ 4
-rising-fits n x h k = lt-of-lt-of-le (rising-below n x k) (pow-le-pow-right {n = 256} (omega arith) h)
+pub rising-fits : (most n x : ℕ) → n ≤ most → rising n x ≡ true → x < 256 ^ most
+rising-fits most n x h k = lt-of-lt-of-le (rising-below n x k) (pow-le-pow-right {n = 256} (omega arith) h)

@@ -6,7 +6,7 @@ use Prim.Native.Nat.{ℕ}
 use lib.ListN.{replicate}
 use lib.Seq.{sets}
 use borrow.Author.Tests.{eq-eqb, ne-eqb}
-use Rattle.image.specs.Layout.{blocksIn, instructionsIn, programCells, cellsIn}
+use Rattle.image.specs.Layout.{versionIn, blocksIn, instructionsIn, programCells, cellsIn}
 use Rattle.image.specs.Questions.{firstNo, blockNo, instructionNo, recordsNo}
 use Rattle.image.specs.Doors.{unlessRefused, headerNo, imageNo}
 use Rattle.image.specs.Walked.{blocksWalked, instructionsWalked, recordsWalked, scanned}
@@ -16,8 +16,8 @@ use Rattle.image.proofs.Walking.{passed-all, as-lent, laid-then}
 use Rattle.image.proofs.Offset.{records-no}
 
 module _ (bytes : List ℕ) where
-  abbrev counts : List ℕ
-  counts = blocksIn bytes ∷ instructionsIn bytes ∷ []
+  abbrev head : List ℕ
+  head = versionIn bytes ∷ blocksIn bytes ∷ instructionsIn bytes ∷ []
 
   abbrev blocksNo : ℕ
   blocksNo = firstNo (blockNo (cellsIn bytes)) (blocksIn bytes) 0
@@ -38,18 +38,18 @@ module _ (bytes : List ℕ) where
     walked-past-blocks between after e p q =
         rw (eq-eqb blocksNo 0 e) (laid-then lays (instructionsWalked bytes) cells between after (blocksWalked bytes cells) p q)
 
-  -- a refused header leaves the cleared buffer, an accepted one has the counts laid and the records walked
+  -- a refused header leaves the cleared buffer, an accepted one has the head laid and the records walked
   module _ (lays : Bool) (cells : List ℕ) (clear : lays ≡ true → cells ≡ replicate programCells 0) where
     pub scanned-none : (headerNo bytes ≡ 0 → ⊥) → cells ≡ cond lays (scanned bytes) cells
     unfolding scanned unlessRefused
     scanned-none e = rw (ne-eqb (headerNo bytes) 0 e) (as-lent lays cells (replicate programCells 0) clear)
 
-    pub scanned-records : (between after : List ℕ) → headerNo bytes ≡ 0 → between ≡ cond lays (sets cells 0 counts) cells
+    pub scanned-records : (between after : List ℕ) → headerNo bytes ≡ 0 → between ≡ cond lays (sets cells 0 head) cells
         → after ≡ cond lays (recordsWalked bytes between) between → after ≡ cond lays (scanned bytes) cells
     unfolding scanned unlessRefused
     scanned-records between after e p q =
         let zeros : List ℕ = replicate programCells 0 in
-        let laid : List ℕ → List ℕ = λ m. sets m 0 counts in
+        let laid : List ℕ → List ℕ = λ m. sets m 0 head in
         let first = laid-then lays laid cells cells between zeros (as-lent lays cells zeros clear) p in
         rw (eq-eqb (headerNo bytes) 0 e) (laid-then lays (recordsWalked bytes) cells between after (laid zeros) first q)
 

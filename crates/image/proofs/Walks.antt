@@ -2,18 +2,19 @@
 use mathlib.Core.Path.{_≡_, refl, sym, ap, _∙_, subst}
 use mathlib.Core.Bool.{Bool, cond}
 use mathlib.Core.List.{List}
-use Prim.Native.Nat.{ℕ, _+_, _-_, _*_, _<_, _≤_}
+use Prim.Native.Nat.{ℕ, _+_, _-_, _<_, _≤_}
 use native.Mathlib.Omega.{arith}
 use lib.ListN.{length, set}
 use lib.Seq.{sets}
 use Rattle.image.specs.declared.Block.{Block}
-use Rattle.image.specs.Layout.{blockPlace, instructionPlace, blocksIn, instructionsIn, blockCell, instructionCell, blockOf}
+use Rattle.image.specs.Layout.{blockSize, blockPlace, instructionPlace, versionIn, blocksIn, instructionsIn, blockCell, instructionCell, blockOf}
 use Rattle.image.specs.Layout.{blockIn, instructionIn, blockCells, instructionCells, blockCellsIn, instructionCellsIn, cellsIn}
 use Rattle.image.specs.Questions.{firstNo, blockNo, instructionNo}
 use Rattle.image.specs.Marks.{Marked, Ended}
 use Rattle.image.specs.Doors.{headerNo}
 use Rattle.image.specs.Offset.{blocksPassed, instructionsPassed, blocksOffset, instructionsOffset}
 use Rattle.image.specs.Walked.{blocksWalked, instructionsWalked}
+use Rattle.image.proofs.Versions.{places-most, block-inside}
 use Rattle.image.proofs.Counts.{Counted, counted}
 use Rattle.image.proofs.Header.{Header, header, block-read, cells-in-blocks, cells-in-instructions}
 use Rattle.image.proofs.Accepted.{block-is}
@@ -24,22 +25,25 @@ use Rattle.image.proofs.Walking.{Walking, walk-begins, walk-goes-on, wa
 -- at block b: the offset is its place
 pub record AtBlock (bytes : List ℕ) (lays : Bool) (lent marks cells : List ℕ) (at to before b : ℕ) : Type 0 where
   pub below : b ≤ blocksIn bytes
-  pub offset : at ≡ blockPlace b
-  pub target : to ≡ 2 + 6 * b
+  pub offset : at ≡ blockPlace (versionIn bytes) b
+  pub target : to ≡ blockCell b
   pub walking : Walking (blockNo (cellsIn bytes)) (blocksIn bytes) b
-  pub predecessor : 0 < b → before ≡ blockIn bytes (blockPlace (b - 1)) .first
+  pub predecessor : 0 < b → before ≡ blockIn (versionIn bytes) bytes (blockPlace (versionIn bytes) (b - 1)) .first
   pub marking : Marked (cellsIn bytes) b marks
-  pub laid : cells ≡ cond lays (sets lent 2 (blockCellsIn bytes b)) lent
+  pub laid : cells ≡ cond lays (sets lent (blockCell 0) (blockCellsIn bytes b)) lent
 
 -- at instruction i likewise
 pub record AtInstruction (bytes : List ℕ) (lays : Bool) (lent cells : List ℕ) (at to i : ℕ) : Type 0 where
   pub below : i ≤ instructionsIn bytes
-  pub offset : at ≡ instructionPlace (blocksIn bytes) i
-  pub target : to ≡ 770 + 5 * i
+  pub offset : at ≡ instructionPlace (versionIn bytes) (blocksIn bytes) i
+  pub target : to ≡ instructionCell i
   pub walking : Walking (instructionNo (cellsIn bytes)) (instructionsIn bytes) i
-  pub laid : cells ≡ cond lays (sets lent 770 (instructionCellsIn bytes i)) lent
+  pub laid : cells ≡ cond lays (sets lent (instructionCell 0) (instructionCellsIn bytes i)) lent
 
 module _ (bytes : List ℕ) (ok : headerNo bytes ≡ 0) where
+  abbrev Ver : ℕ
+  Ver = versionIn bytes
+
   abbrev B : ℕ
   B = blocksIn bytes
 
@@ -54,11 +58,17 @@ module _ (bytes : List ℕ) (ok : headerNo bytes ≡ 0) where
 
   -- ---- blocks
 
+  -- a block's record ends inside the image, and early
+  pub block-within : (b : ℕ) → b < B → (blockPlace Ver b + blockSize Ver ≤ length bytes) × (blockPlace Ver b + blockSize Ver ≤ 1800)
+  block-within b q =
+      let i = block-inside Ver b B q in
+      (omega (arith, i, h .size), omega (arith, i, places-most Ver B (count .blocks-fit)))
+
   -- where an accepted block starts
-  pub first-below : (b : ℕ) → b < B → blockNo (cellsIn bytes) b ≡ 0 → blockIn bytes (blockPlace b) .first < I
+  pub first-below : (b : ℕ) → b < B → blockNo (cellsIn bytes) b ≡ 0 → blockIn Ver bytes (blockPlace Ver b) .first < I
   first-below b q e =
       let below = block-is (cellsIn bytes) b (omega (arith, cells-in-blocks bytes, count .some-block)) e .first-below in
-      let same : blockOf (cellsIn bytes) b .first ≡ blockIn bytes (blockPlace b) .first = ap (λ (k : Block). k .first) (block-read bytes h b q) in
+      let same : blockOf (cellsIn bytes) b .first ≡ blockIn Ver bytes (blockPlace Ver b) .first = ap (λ (k : Block). k .first) (block-read bytes h b q) in
       omega (arith, below, same, cells-in-instructions bytes)
 
   -- all blocks passed: with the program's end marked behind their starts
@@ -71,7 +81,7 @@ module _ (bytes : List ℕ) (ok : headerNo bytes ≡ 0) where
       (ended (cellsIn bytes) marks (subst (λ (b : ℕ). Marked (cellsIn bytes) b marks) every m) (omega (arith, n, count .instructions-fit)))
 
   module _ (lays : Bool) (lent : List ℕ) where
-    pub blocks-begin : (marks : List ℕ) → Marked (cellsIn bytes) 0 marks → AtBlock bytes lays lent marks lent 8 2 0 0
+    pub blocks-begin : (marks : List ℕ) → Marked (cellsIn bytes) 0 marks → AtBlock bytes lays lent marks lent 8 (blockCell 0) 0 0
     blocks-begin marks m = record {
       below = omega arith;
       offset = omega arith;
@@ -79,28 +89,27 @@ module _ (bytes : List ℕ) (ok : headerNo bytes ≡ 0) where
       walking = walk-begins (blockNo (cellsIn bytes)) B;
       predecessor = λ q. absurd (omega arith);
       marking = m;
-      laid = laid-none (λ b. blockCells (blockIn bytes (blockPlace b))) 6 (λ b. refl) lays lent 2;
+      laid = laid-none (λ b. blockCells (blockIn Ver bytes (blockPlace Ver b))) 6 (λ b. refl) lays lent (blockCell 0);
     }
 
     module _ (marks cells : List ℕ) (at to before b : ℕ) (w : AtBlock bytes lays lent marks cells at to before b) where
       -- the block after an accepted one
-      pub next-block : (after : List ℕ) (first : ℕ) → b < B → blockNo (cellsIn bytes) b ≡ 0 → first ≡ blockIn bytes at .first
-          → after ≡ cond lays (sets cells to (blockCells (blockIn bytes at))) cells
-          → AtBlock bytes lays lent (set marks first 1) after (at + 10) (to + 6) first (b + 1)
-      next-block after first q e p stored =
-          let here : blockIn bytes at ≡ blockIn bytes (blockPlace b) = ap (blockIn bytes) (w .offset) in
-          let starts : first ≡ blockIn bytes (blockPlace b) .first = p ∙ ap (λ (k : Block). k .first) here in
-          let held : blockOf (cellsIn bytes) b .first ≡ first = ap (λ (k : Block). k .first) (block-read bytes h b q) ∙ sym starts in
+      pub next-block : (after : List ℕ) (k : Block) (next : ℕ) → b < B → blockNo (cellsIn bytes) b ≡ 0 → k ≡ blockIn Ver bytes (blockPlace Ver b)
+          → after ≡ cond lays (sets cells to (blockCells k)) cells → next ≡ at + blockSize Ver
+          → AtBlock bytes lays lent (set marks (k .first) 1) after next (to + 6) (k .first) (b + 1)
+      next-block after k next q e here stored on =
+          let starts : k .first ≡ blockIn Ver bytes (blockPlace Ver b) .first = ap (λ (k : Block). k .first) here in
+          let held : blockOf (cellsIn bytes) b .first ≡ k .first = ap (λ (k : Block). k .first) (block-read bytes h b q) ∙ sym starts in
           let back : b + 1 - 1 ≡ b = omega arith in
           record {
             below = omega arith;
-            offset = omega (arith, w .offset);
+            offset = omega (arith, w .offset, on);
             target = omega (arith, w .target);
             walking = walk-goes-on (blockNo (cellsIn bytes)) B b (w .walking) q e;
-            predecessor = λ _. starts ∙ ap (λ (n : ℕ). blockIn bytes (blockPlace n) .first) (sym back);
+            predecessor = λ _. starts ∙ ap (λ (n : ℕ). blockIn Ver bytes (blockPlace Ver n) .first) (sym back);
             marking = subst (λ (n : ℕ). Marked (cellsIn bytes) (b + 1) (set marks n 1)) held
                 (marked-more (cellsIn bytes) b marks (w .marking) (omega (arith, held, starts, first-below b q e, count .instructions-fit)));
-            laid = laid-more (λ b. blockCells (blockIn bytes (blockPlace b))) 6 (λ b. refl) lays lent cells after 2 to b (w .laid)
+            laid = laid-more (λ b. blockCells (blockIn Ver bytes (blockPlace Ver b))) 6 (λ b. refl) lays lent cells after (blockCell 0) to b (w .laid)
                 (stored ∙ ap (λ (k : Block). cond lays (sets cells to (blockCells k)) cells) here) (w .target);
           }
 
@@ -131,17 +140,17 @@ module _ (bytes : List ℕ) (ok : headerNo bytes ≡ 0) where
           (s .0, blocks-stopped (s .1))
 
       pub block-length : length cells ≡ length lent
-      block-length = laid-length lays lent cells (blockCellsIn bytes b) 2 (w .laid)
+      block-length = laid-length lays lent cells (blockCellsIn bytes b) (blockCell 0) (w .laid)
 
     -- ---- instructions
 
-    pub instructions-begin : (start : ℕ) → start ≡ blockPlace B → AtInstruction bytes lays lent lent start 770 0
+    pub instructions-begin : (start : ℕ) → start ≡ blockPlace Ver B → AtInstruction bytes lays lent lent start (instructionCell 0) 0
     instructions-begin start e = record {
       below = omega arith;
       offset = omega (arith, e);
       target = omega arith;
       walking = walk-begins (instructionNo (cellsIn bytes)) I;
-      laid = laid-none (λ i. instructionCells (instructionIn bytes (instructionPlace B i))) 5 (λ i. refl) lays lent 770;
+      laid = laid-none (λ i. instructionCells (instructionIn bytes (instructionPlace Ver B i))) 5 (λ i. refl) lays lent (instructionCell 0);
     }
 
     module _ (cells : List ℕ) (at to i : ℕ) (w : AtInstruction bytes lays lent cells at to i) where
@@ -153,7 +162,7 @@ module _ (bytes : List ℕ) (ok : headerNo bytes ≡ 0) where
         offset = omega (arith, w .offset);
         target = omega (arith, w .target);
         walking = walk-goes-on (instructionNo (cellsIn bytes)) I i (w .walking) q e;
-        laid = laid-more (λ i. instructionCells (instructionIn bytes (instructionPlace B i))) 5 (λ i. refl) lays lent cells after 770 to i (w .laid)
+        laid = laid-more (λ i. instructionCells (instructionIn bytes (instructionPlace Ver B i))) 5 (λ i. refl) lays lent cells after (instructionCell 0) to i (w .laid)
             (stored ∙ ap (λ (n : ℕ). cond lays (sets cells to (instructionCells (instructionIn bytes n))) cells) (w .offset)) (w .target);
       }
 
@@ -178,4 +187,4 @@ module _ (bytes : List ℕ) (ok : headerNo bytes ≡ 0) where
           (s .0, instructions-stopped (s .1))
 
       pub instruction-length : length cells ≡ length lent
-      instruction-length = laid-length lays lent cells (instructionCellsIn bytes i) 770 (w .laid)
+      instruction-length = laid-length lays lent cells (instructionCellsIn bytes i) (instructionCell 0) (w .laid)

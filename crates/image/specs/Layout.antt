@@ -1,8 +1,10 @@
 -- A program in its two forms: the bytes of an image, and the cells of a program buffer.
+use mathlib.Core.Bool.{cond}
 use mathlib.Core.List.{List, [], _∷_, _++_}
 use Prim.Native.Nat.{ℕ, zero, suc, _+_, _*_}
 use lib.ListN.{getD, replicate}
 use lib.Seq.{sets}
+use lib.Dec.{eqb}
 use Rattle.int64.specs.Little.{little, bytesOf}
 use Rattle.image.specs.declared.Block.{Block}
 use Rattle.image.specs.declared.Instruction.{Instruction}
@@ -18,39 +20,50 @@ rows f (suc n) = rows f n ++ f n
 abbrev pub mark : List ℕ
 mark = 84 ∷ 80 ∷ 66 ∷ []
 
+abbrev pub versionIn : List ℕ → ℕ
+versionIn bytes = little 2 bytes 3
+
 abbrev pub blocksIn : List ℕ → ℕ
 blocksIn bytes = getD bytes 5 0
 
 abbrev pub instructionsIn : List ℕ → ℕ
 instructionsIn bytes = little 2 bytes 6
 
--- where the records stand: 8 bytes, then B block records of 10 bytes and I instruction records of 12
-abbrev pub blockPlace : ℕ → ℕ
-blockPlace b = 8 + 10 * b
+-- how many pairs a block has at most, and its record has pair bytes: four in version 1, eight in version 2
+abbrev pub mostPairs : ℕ → ℕ
+mostPairs version = cond (eqb version 2) 8 4
 
-abbrev pub instructionPlace : ℕ → ℕ → ℕ
-instructionPlace blocks i = blockPlace blocks + 12 * i
+-- so a block record is 10 bytes in version 1, 14 in version 2
+abbrev pub blockSize : ℕ → ℕ
+blockSize version = 6 + mostPairs version
+
+-- where the records of a version stand: 8 bytes, then B block records and I instruction records of 12
+abbrev pub blockPlace : ℕ → ℕ → ℕ
+blockPlace version b = 8 + blockSize version * b
+
+abbrev pub instructionPlace : ℕ → ℕ → ℕ → ℕ
+instructionPlace version blocks i = blockPlace version blocks + 12 * i
 
 -- the image ends where the next instruction's record would stand
-abbrev pub imageLength : ℕ → ℕ → ℕ
-imageLength blocks instructions = instructionPlace blocks instructions
+abbrev pub imageLength : ℕ → ℕ → ℕ → ℕ
+imageLength version blocks instructions = instructionPlace version blocks instructions
 
--- the block record at an offset: first instruction (16 bits), annotation, policy, label, number of pairs, four pair bytes
-abbrev pub blockIn : List ℕ → ℕ → Block
-blockIn bytes at = record {
+-- the block record at an offset: first instruction (16 bits), annotation, policy, label, number of pairs, four or eight pair bytes
+abbrev pub blockIn : ℕ → List ℕ → ℕ → Block
+blockIn version bytes at = record {
   first = little 2 bytes at;
   annotation = getD bytes (at + 2) 0;
   policy = getD bytes (at + 3) 0;
   label = getD bytes (at + 4) 0;
   pairs = getD bytes (at + 5) 0;
-  packed = little 4 bytes (at + 6);
+  packed = little (mostPairs version) bytes (at + 6);
 }
 
-abbrev pub blockBytes : Block → List ℕ
-blockBytes k =
+abbrev pub blockBytes : ℕ → Block → List ℕ
+blockBytes version k =
     bytesOf 2 (k .first)
     ++ (bytesOf 1 (k .annotation)
-    ++ (bytesOf 1 (k .policy) ++ (bytesOf 1 (k .label) ++ (bytesOf 1 (k .pairs) ++ bytesOf 4 (k .packed)))))
+    ++ (bytesOf 1 (k .policy) ++ (bytesOf 1 (k .label) ++ (bytesOf 1 (k .pairs) ++ bytesOf (mostPairs version) (k .packed)))))
 
 -- the instruction record at an offset: opcode, r, s, operand kind, operand (64 bits)
 abbrev pub instructionIn : List ℕ → ℕ → Instruction
@@ -67,17 +80,17 @@ instructionBytes x =
     bytesOf 1 (x .opcode)
     ++ (bytesOf 1 (x .r) ++ (bytesOf 1 (x .s) ++ (bytesOf 1 (x .kind) ++ bytesOf 8 (x .operand))))
 
--- ---- The program buffer: cell 0 the number of blocks, 1 the number of instructions, then room for 128 blocks and 1,024 instructions
+-- ---- The program buffer: cell 0 the version, 1 the number of blocks, 2 of instructions, then room for 128 blocks and 1,024 instructions
 
 abbrev pub programCells : ℕ
-programCells = 5890
+programCells = 5891
 
 -- where the six cells of block b begin, and the five of instruction i
 abbrev pub blockCell : ℕ → ℕ
-blockCell b = 2 + 6 * b
+blockCell b = 3 + 6 * b
 
 abbrev pub instructionCell : ℕ → ℕ
-instructionCell i = 770 + 5 * i
+instructionCell i = 771 + 5 * i
 
 -- the six cells of a block
 abbrev pub blockFrom : List ℕ → ℕ → Block
@@ -106,16 +119,20 @@ instructionFrom cells at = record {
 abbrev pub instructionCells : Instruction → List ℕ
 instructionCells x = x .opcode ∷ x .r ∷ x .s ∷ x .kind ∷ x .operand ∷ []
 
--- the program that a buffer holds
+-- the program that a buffer holds: one that lacks cell 0 has no version
 abbrev pub programOf : List ℕ → Program
 programOf cells = record {
-  blocks = getD cells 0 0;
-  instructions = getD cells 1 0;
+  version = getD cells 0 0;
+  blocks = getD cells 1 0;
+  instructions = getD cells 2 0;
   block = λ b. blockFrom cells (blockCell b);
   instruction = λ i. instructionFrom cells (instructionCell i);
 }
 
 -- its parts
+abbrev pub versionOf : List ℕ → ℕ
+versionOf cells = programOf cells .version
+
 abbrev pub blockCount : List ℕ → ℕ
 blockCount cells = programOf cells .blocks
 
@@ -128,11 +145,11 @@ blockOf cells b = programOf cells .block b
 abbrev pub instructionOf : List ℕ → ℕ → Instruction
 instructionOf cells i = programOf cells .instruction i
 
--- the buffer of a program that has these blocks and instructions: every unused cell is 0
-unfoldable pub buffer : ℕ → ℕ → (ℕ → Block) → (ℕ → Instruction) → List ℕ
-buffer blocks instructions block instruction =
+-- the buffer of a program of a version that has these blocks and instructions: every unused cell is 0
+unfoldable pub buffer : ℕ → ℕ → ℕ → (ℕ → Block) → (ℕ → Instruction) → List ℕ
+buffer version blocks instructions block instruction =
     sets
-    (sets (replicate programCells 0) 0 (blocks ∷ instructions ∷ rows (λ b. blockCells (block b)) blocks))
+    (sets (replicate programCells 0) 0 (version ∷ blocks ∷ instructions ∷ rows (λ b. blockCells (block b)) blocks))
     (instructionCell 0)
     (rows (λ i. instructionCells (instruction i)) instructions)
 
@@ -140,28 +157,28 @@ buffer blocks instructions block instruction =
 
 -- the cells of an image's first n blocks, and of its first n instructions
 abbrev pub blockCellsIn : List ℕ → ℕ → List ℕ
-blockCellsIn bytes n = rows (λ b. blockCells (blockIn bytes (blockPlace b))) n
+blockCellsIn bytes n = rows (λ b. blockCells (blockIn (versionIn bytes) bytes (blockPlace (versionIn bytes) b))) n
 
 abbrev pub instructionCellsIn : List ℕ → ℕ → List ℕ
-instructionCellsIn bytes n = rows (λ i. instructionCells (instructionIn bytes (instructionPlace (blocksIn bytes) i))) n
+instructionCellsIn bytes n = rows (λ i. instructionCells (instructionIn bytes (instructionPlace (versionIn bytes) (blocksIn bytes) i))) n
 
 -- the buffer that an image is read into
 unfoldable pub cellsIn : List ℕ → List ℕ
 cellsIn bytes =
-    buffer (blocksIn bytes) (instructionsIn bytes)
-    (λ b. blockIn bytes (blockPlace b))
-    (λ i. instructionIn bytes (instructionPlace (blocksIn bytes) i))
+    buffer (versionIn bytes) (blocksIn bytes) (instructionsIn bytes)
+    (λ b. blockIn (versionIn bytes) bytes (blockPlace (versionIn bytes) b))
+    (λ i. instructionIn bytes (instructionPlace (versionIn bytes) (blocksIn bytes) i))
 
 -- the image that a program buffer is written to
 abbrev pub headerOf : List ℕ → List ℕ
-headerOf cells = mark ++ (bytesOf 2 1 ++ (bytesOf 1 (blockCount cells) ++ bytesOf 2 (instructionCount cells)))
+headerOf cells = mark ++ (bytesOf 2 (versionOf cells) ++ (bytesOf 1 (blockCount cells) ++ bytesOf 2 (instructionCount cells)))
 
 unfoldable pub imageOf : List ℕ → List ℕ
 imageOf cells =
     headerOf cells
-    ++ (rows (λ b. blockBytes (blockOf cells b)) (blockCount cells)
+    ++ (rows (λ b. blockBytes (versionOf cells) (blockOf cells b)) (blockCount cells)
     ++ rows (λ i. instructionBytes (instructionOf cells i)) (instructionCount cells))
 
 -- the same program with nothing in its unused cells: two buffers hold one program when these are equal
 unfoldable pub trimmed : List ℕ → List ℕ
-trimmed cells = buffer (blockCount cells) (instructionCount cells) (blockOf cells) (instructionOf cells)
+trimmed cells = buffer (versionOf cells) (blockCount cells) (instructionCount cells) (blockOf cells) (instructionOf cells)

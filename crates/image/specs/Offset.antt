@@ -5,7 +5,7 @@ use mathlib.Core.List.{List}
 use Prim.Native.Nat.{ℕ, zero, suc, _+_, _<_}
 use lib.ListN.{length}
 use lib.Dec.{eqb}
-use Rattle.image.specs.Layout.{blockPlace, instructionPlace, blocksIn, instructionsIn, cellsIn}
+use Rattle.image.specs.Layout.{blockSize, blockPlace, instructionPlace, versionIn, blocksIn, instructionsIn, cellsIn}
 use Rattle.image.specs.Questions.{firstNo, blockNo, instructionNo}
 use Rattle.image.specs.Doors.{headerNo, imageNo}
 
@@ -23,11 +23,11 @@ instructionsPassed bytes = passed (instructionNo (cellsIn bytes)) (instructionsI
 
 -- after the blocks: the place of the first one that is refused, else the end of the last
 unfoldable pub blocksOffset : List ℕ → ℕ
-blocksOffset bytes = blockPlace (blocksPassed bytes)
+blocksOffset bytes = blockPlace (versionIn bytes) (blocksPassed bytes)
 
 -- after the instructions likewise
 unfoldable pub instructionsOffset : List ℕ → ℕ
-instructionsOffset bytes = instructionPlace (blocksIn bytes) (instructionsPassed bytes)
+instructionsOffset bytes = instructionPlace (versionIn bytes) (blocksIn bytes) (instructionsPassed bytes)
 
 -- after the walk: a refused header has none
 unfoldable pub offsetIn : List ℕ → ℕ
@@ -38,17 +38,20 @@ offsetIn bytes =
 
 -- what is shown of it; `proofs/Offset.antt` proves it
 pub record KeepsOffset : Type 0 where
+  -- a block record is 10 bytes in version 1, 14 in version 2
+  pub size-one : blockSize 1 ≡ 10
+  pub size-two : blockSize 2 ≡ 14
   -- it begins at 8, and each record moves it on to the next one's place
-  pub first-block : blockPlace 0 ≡ 8
-  pub next-block : (b : ℕ) → blockPlace (b + 1) ≡ blockPlace b + 10
-  pub first-instruction : (blocks : ℕ) → instructionPlace blocks 0 ≡ blockPlace blocks
-  pub next-instruction : (blocks i : ℕ) → instructionPlace blocks (i + 1) ≡ instructionPlace blocks i + 12
+  pub first-block : (version : ℕ) → blockPlace version 0 ≡ 8
+  pub next-block : (version b : ℕ) → blockPlace version (b + 1) ≡ blockPlace version b + blockSize version
+  pub first-instruction : (version blocks : ℕ) → instructionPlace version blocks 0 ≡ blockPlace version blocks
+  pub next-instruction : (version blocks i : ℕ) → instructionPlace version blocks (i + 1) ≡ instructionPlace version blocks i + 12
   -- at the first record that is refused, it is that record's place
   pub at-block : (bytes : List ℕ) (b : ℕ) → headerNo bytes ≡ 0 → b < blocksIn bytes
-      → ((j : ℕ) → j < b → blockNo (cellsIn bytes) j ≡ 0) → (blockNo (cellsIn bytes) b ≡ 0 → ⊥) → offsetIn bytes ≡ blockPlace b
+      → ((j : ℕ) → j < b → blockNo (cellsIn bytes) j ≡ 0) → (blockNo (cellsIn bytes) b ≡ 0 → ⊥) → offsetIn bytes ≡ blockPlace (versionIn bytes) b
   pub at-instruction : (bytes : List ℕ) (i : ℕ) → headerNo bytes ≡ 0 → i < instructionsIn bytes
       → ((j : ℕ) → j < blocksIn bytes → blockNo (cellsIn bytes) j ≡ 0)
       → ((j : ℕ) → j < i → instructionNo (cellsIn bytes) j ≡ 0) → (instructionNo (cellsIn bytes) i ≡ 0 → ⊥)
-      → offsetIn bytes ≡ instructionPlace (blocksIn bytes) i
+      → offsetIn bytes ≡ instructionPlace (versionIn bytes) (blocksIn bytes) i
   -- after an accepted image's last record, it is the image's length
   pub after-last : (bytes : List ℕ) → imageNo bytes ≡ 0 → offsetIn bytes ≡ length bytes

@@ -1,4 +1,4 @@
--- The questions put to a program, 4 and 6 to 9: the first no decides. An answer is 0, or the number of the question that was answered with no.
+-- The questions put to a program, 3, 4 and 6 to 9: the first no decides. An answer is 0, or the number of the question that was answered with no.
 use mathlib.Core.Bool.{Bool, true, false, not, cond, _&&_, _||_}
 use mathlib.Core.List.{List, [], _∷_}
 use Prim.Native.Nat.{ℕ, zero, suc, _+_, _-_, _*_, _/_, _%_}
@@ -7,7 +7,7 @@ use lib.Dec.{eqb, ltb, leb}
 use Rattle.image.specs.declared.Block.{Block}
 use Rattle.image.specs.declared.Instruction.{Instruction}
 use Rattle.image.specs.Program.{Program}
-use Rattle.image.specs.Layout.{blockCell, instructionCell, programOf}
+use Rattle.image.specs.Layout.{mostPairs, blockCell, instructionCell, programOf}
 
 -- the answer n where the test fails, else the answer after it
 abbrev pub ask : Bool → ℕ → ℕ → ℕ
@@ -22,6 +22,10 @@ orElse a b = cond (eqb a 0) b a
 unfoldable pub firstNo : (ℕ → ℕ) → ℕ → ℕ → ℕ
 firstNo f zero i = 0
 firstNo f (suc n) i = orElse (f i) (firstNo f n (i + 1))
+
+-- version 1 or 2? (3)
+unfoldable pub versionNo : ℕ → ℕ
+versionNo version = ask (leb 1 version && leb version 2) 3 0
 
 abbrev pub mostBlocks : ℕ
 mostBlocks = 128
@@ -50,20 +54,21 @@ rising (suc (suc n)) bytes = ltb (bytes % 16) (bytes / 256 % 16) && rising (suc 
 unfoldable pub unjoined : Block → Bool
 unjoined k = eqb (k .policy) 0 && (eqb (k .pairs) 0 && eqb (k .packed) 0)
 
--- policy 0 or 1, up to four pairs
-unfoldable pub joined : Block → Bool
-joined k = leb (k .policy) 1 && (leb (k .pairs) 4 && rising (k .pairs) (k .packed))
+-- policy 0 or 1, no more pairs than the version has
+unfoldable pub joined : ℕ → Block → Bool
+joined version k = leb (k .policy) 1 && (leb (k .pairs) (mostPairs version) && rising (k .pairs) (k .packed))
 
 -- is the annotation as laid out, label below B? (7) Annotation 0 none, 1 promotion-ready, 2 join target
-unfoldable pub annotated : ℕ → Block → Bool
-annotated blocks k =
+unfoldable pub annotated : ℕ → ℕ → Block → Bool
+annotated version blocks k =
     cond (eqb (k .annotation) 0) (eqb (k .label) 0 && unjoined k)
-    (ltb (k .label) blocks && cond (eqb (k .annotation) 1) (unjoined k) (eqb (k .annotation) 2 && joined k))
+    (ltb (k .label) blocks && cond (eqb (k .annotation) 1) (unjoined k) (eqb (k .annotation) 2 && joined version k))
 
 -- block b of a program: 6, then 7
 abbrev pub programBlockNo : Program → ℕ → ℕ
 programBlockNo p b =
-    ask (inOrder (p .instructions) b (p .block (b - 1) .first) (p .block b .first)) 6 (ask (annotated (p .blocks) (p .block b)) 7 0)
+    ask (inOrder (p .instructions) b (p .block (b - 1) .first) (p .block b .first)) 6
+    (ask (annotated (p .version) (p .blocks) (p .block b)) 7 0)
 
 -- a block that a short buffer lacks is a no to 6
 unfoldable pub blockNo : List ℕ → ℕ → ℕ
@@ -71,7 +76,15 @@ blockNo cells b = ask (leb (blockCell b + 6) (length cells)) 6 (programBlockNo (
 
 -- ---- instructions
 
--- which fields each opcode has: fifteen rows of three flags
+-- the last opcode: 16 and 17 are version 2's
+abbrev pub lastOpcode : ℕ → ℕ
+lastOpcode version = cond (eqb version 2) 17 15
+
+-- 13, 14 and 15 end a block
+abbrev pub endsBlock : ℕ → Bool
+endsBlock opcode = leb 13 opcode && leb opcode 15
+
+-- which fields each opcode has: seventeen rows of three flags
 abbrev pub hasR : ℕ
 hasR = 4
 
@@ -98,6 +111,8 @@ fields =
     ∷ hasV  -- 13 jump v
     ∷ 0  -- 14 halt
     ∷ hasV  -- 15 join v
+    ∷ hasV  -- 16 push v
+    ∷ hasR  -- 17 pop r
     ∷ []
 
 abbrev pub has : ℕ → ℕ → ℕ
@@ -113,11 +128,11 @@ operandFits blocks has kind operand =
     cond (eqb has 0) (eqb kind 0 && eqb operand 0)
     (cond (eqb kind 1) (leb operand 15) (cond (eqb kind 2) (ltb operand blocks) (eqb kind 3)))
 
--- are opcode, registers, labels and zeros as laid out? (8)
-unfoldable pub laidOut : ℕ → Instruction → Bool
-laidOut blocks x =
+-- are opcode, registers, labels and zeros as laid out? (8) The opcodes are 1 to the version's last
+unfoldable pub laidOut : ℕ → ℕ → Instruction → Bool
+laidOut opcodes blocks x =
     leb 1 (x .opcode)
-    && (leb (x .opcode) 15
+    && (leb (x .opcode) opcodes
     && (register (has (x .opcode) hasR) (x .r)
     && (register (has (x .opcode) hasS) (x .s) && operandFits blocks (has (x .opcode) hasV) (x .kind) (x .operand))))
 
@@ -137,7 +152,8 @@ same false b = not b
 -- instruction i of a program: 8, then is it opcode 13, 14 or 15 exactly when last in its block? (9)
 abbrev pub programInstructionNo : Program → ℕ → ℕ
 programInstructionNo p i =
-    ask (laidOut (p .blocks) (p .instruction i)) 8 (ask (same (leb 13 (p .instruction i .opcode)) (lastInBlock p i)) 9 0)
+    ask (laidOut (lastOpcode (p .version)) (p .blocks) (p .instruction i)) 8
+    (ask (same (endsBlock (p .instruction i .opcode)) (lastInBlock p i)) 9 0)
 
 -- an instruction that a short buffer lacks is a no to 8
 unfoldable pub instructionNo : List ℕ → ℕ → ℕ
@@ -150,6 +166,8 @@ unfoldable pub recordsNo : List ℕ → ℕ
 recordsNo cells =
     orElse (firstNo (blockNo cells) (programOf cells .blocks) 0) (firstNo (instructionNo cells) (programOf cells .instructions) 0)
 
--- 4 and 6 to 9
+-- 3, 4 and 6 to 9
 unfoldable pub programNo : List ℕ → ℕ
-programNo cells = orElse (countsNo (programOf cells .blocks) (programOf cells .instructions)) (recordsNo cells)
+programNo cells =
+    orElse (versionNo (programOf cells .version))
+    (orElse (countsNo (programOf cells .blocks) (programOf cells .instructions)) (recordsNo cells))

@@ -3,7 +3,7 @@ use mathlib.Core.Path.{_≡_}
 use mathlib.Core.List.{List}
 use Prim.Native.Nat.{ℕ, _^_, _<_}
 use lib.ListN.{length, getD}
-use Rattle.image.specs.Layout.{imageLength, programCells, blockCount, instructionCount, cellsIn, imageOf, trimmed}
+use Rattle.image.specs.Layout.{imageLength, programCells, versionOf, blockCount, instructionCount, cellsIn, imageOf, trimmed}
 use Rattle.image.specs.Doors.{imageNo, writeNo}
 
 -- a list of bytes, and one of cells of 64 bits: what slices hold
@@ -15,7 +15,7 @@ Cells cells = (i : ℕ) → getD cells i 0 < 2 ^ 64
 
 -- the writer accepts the program, given a buffer of its image's length
 abbrev pub Writes : List ℕ → Type 0
-Writes cells = writeNo cells (imageLength (blockCount cells) (instructionCount cells)) ≡ 0
+Writes cells = writeNo cells (imageLength (versionOf cells) (blockCount cells) (instructionCount cells)) ≡ 0
 
 pub record RoundTrip : Type 0 where
   -- an accepted image is a program that the writer accepts, and is written back byte for byte

@@ -4,7 +4,7 @@ use mathlib.Core.List.{List, [], _∷_}
 use Prim.Native.Nat.{ℕ}
 use lib.ListN.{replicate}
 use lib.Seq.{sets}
-use Rattle.image.specs.Layout.{blocksIn, instructionsIn, programCells, blockCell, instructionCell}
+use Rattle.image.specs.Layout.{versionIn, blocksIn, instructionsIn, programCells, blockCell, instructionCell}
 use Rattle.image.specs.Layout.{blockCellsIn, instructionCellsIn, cellsIn}
 use Rattle.image.specs.Questions.{firstNo, blockNo}
 use Rattle.image.specs.Doors.{unlessRefused, headerNo}
@@ -24,10 +24,10 @@ recordsWalked bytes cells =
     (instructionsWalked bytes (blocksWalked bytes cells))
     (blocksWalked bytes cells)
 
--- a cleared buffer after reading: the two counts and the records, or nothing where the header is refused. `proofs/Walked.antt` proves
+-- a cleared buffer after reading: the version, the two counts and the records, or nothing where the header is refused. `proofs/Walked.antt` proves
 -- that of an accepted image it is `cellsIn`
 unfoldable pub scanned : List ℕ → List ℕ
 scanned bytes =
     unlessRefused (headerNo bytes)
-    (recordsWalked bytes (sets (replicate programCells 0) 0 (blocksIn bytes ∷ instructionsIn bytes ∷ [])))
+    (recordsWalked bytes (sets (replicate programCells 0) 0 (versionIn bytes ∷ blocksIn bytes ∷ instructionsIn bytes ∷ [])))
     (replicate programCells 0)

@@ -6,23 +6,27 @@ ghost use mathlib.Core.List.{_++_};
 ghost use Prim.Native.Nat.{_+_, _<_, _≤_};
 ghost use lib.ListN.{length};
 ghost use lib.Seq.{sets};
-ghost use Rattle.int64.specs.Little.{bytesOf};
-ghost use Rattle.image.specs.Layout.{blockCount, instructionCount, blockIn, blockBytes, blockFrom, blockCell, blockOf, blockCells, instructionIn, instructionBytes, instructionFrom, instructionCell, instructionOf, instructionCells};
+ghost use Rattle.int64.specs.Little.{little, bytesOf};
+ghost use Rattle.image.specs.Layout.{mostPairs, blockSize, imageLength, versionOf, blockCount, instructionCount, blockIn, blockBytes, blockFrom, blockCell, blockOf, blockCells};
+ghost use Rattle.image.specs.Layout.{instructionIn, instructionBytes, instructionFrom, instructionCell, instructionOf, instructionCells};
+ghost use Rattle.image.specs.Questions.{mostBlocks, mostInstructions};
 
-// A program buffer: the numbers of blocks and of instructions, then the blocks' cells, then the instructions'.
-pub const BLOCK_COUNT: usize = 0;
+// A program buffer: the version, the numbers of blocks and of instructions, then the blocks' cells, then the instructions'.
+pub const VERSION: usize = 0;
 
-pub const INSTRUCTION_COUNT: usize = 1;
+pub const BLOCK_COUNT: usize = 1;
 
-pub const FIRST_BLOCK: usize = 2;
+pub const INSTRUCTION_COUNT: usize = 2;
+
+pub const FIRST_BLOCK: usize = 3;
 
 pub const BLOCK_CELLS: usize = 6;
 
-pub const FIRST_INSTRUCTION: usize = 770;
+pub const FIRST_INSTRUCTION: usize = 771;
 
 pub const INSTRUCTION_CELLS: usize = 5;
 
-pub const PROGRAM_CELLS: usize = 5890;
+pub const PROGRAM_CELLS: usize = 5891;
 
 // The most that it has room for (question 4).
 pub const MOST_BLOCKS: u64 = 128;
@@ -52,9 +56,17 @@ pub fn block_of(cells: &[u64], b: usize) -> Block
     block_from(cells, FIRST_BLOCK + BLOCK_CELLS * b)
 }
 
-// The numbers of blocks and of instructions. Our crates alone call them, with the buffer of an accepted program.
+// The version, and the numbers of blocks and of instructions. Our crates alone call them, with the buffer of an accepted program.
+pub fn version_of(cells: &[u64]) -> u64
+    requires { ⌜ 0 < length (now cells) ⌝ }
+    ensures { λ r. ⌜ r ≡ versionOf (now (cells .entry)) ⌝ }
+{
+    cells[VERSION]
+}
+
+// As above.
 pub fn block_count(cells: &[u64]) -> u64
-    requires { ⌜ 1 < length (now cells) ⌝ }
+    requires { ⌜ 2 < length (now cells) ⌝ }
     ensures { λ r. ⌜ r ≡ blockCount (now (cells .entry)) ⌝ }
 {
     cells[BLOCK_COUNT]
@@ -62,7 +74,7 @@ pub fn block_count(cells: &[u64]) -> u64
 
 // As above.
 pub fn instruction_count(cells: &[u64]) -> u64
-    requires { ⌜ 1 < length (now cells) ⌝ }
+    requires { ⌜ 2 < length (now cells) ⌝ }
     ensures { λ r. ⌜ r ≡ instructionCount (now (cells .entry)) ⌝ }
 {
     cells[INSTRUCTION_COUNT]
@@ -145,13 +157,42 @@ pub fn wide(x: u8) -> u64
     x as u64
 }
 
-// The reader alone calls it, after the image's length was found to be that of its counts.
-pub fn block_in(image: &[u8], at: usize) -> Block
-    requires { ⌜ at + 10 ≤ length (now image) ⌝ }
-    ensures { λ r. ⌜ r ≡ blockIn (now (image .entry)) at ⌝ }
+// How many bytes a block record of the version has. Reader and writer work it out once.
+pub fn block_size(version: u64) -> usize
+    ensures { λ r. ⌜ r ≡ blockSize version ⌝ }
+{
+    if version == 2 {
+        return 14;
+    }
+    10
+}
+
+// The length of an image of the version with these counts, by which question 4 was answered with yes. Reader and writer alone call it.
+pub fn image_length(version: u64, blocks: u64, instructions: u64) -> u64
+    requires { ⌜ (blocks ≤ mostBlocks) × (instructions ≤ mostInstructions) ⌝ }
+    ensures { λ r. ⌜ r ≡ imageLength version blocks instructions ⌝ }
+{
+    8 + block_size(version) as u64 * blocks + 12 * instructions
+}
+
+// The pair bytes of a block record of the version, as one number. The reader alone calls it, as below.
+fn pairs_in(version: u64, image: &[u8], at: usize) -> u64
+    requires { ⌜ at + mostPairs version ≤ length (now image) ⌝ }
+    ensures { λ r. ⌜ r ≡ little (mostPairs version) (now (image .entry)) at ⌝ }
+{
+    if version == 2 {
+        return int64::read_u64(image, at);
+    }
+    int64::read_u32(image, at)
+}
+
+// The reader alone calls it, after the image's length was found to be that of its version and counts.
+pub fn block_in(version: u64, image: &[u8], at: usize) -> Block
+    requires { ⌜ at + blockSize version ≤ length (now image) ⌝ }
+    ensures { λ r. ⌜ r ≡ blockIn version (now (image .entry)) at ⌝ }
 {
     let first = int64::read_u16(image, at);
-    let packed = int64::read_u32(image, at + 6);
+    let packed = pairs_in(version, image, at + 6);
     let annotation = wide(image[at + 2]);
     let policy = wide(image[at + 3]);
     let label = wide(image[at + 4]);
@@ -192,15 +233,27 @@ fn four_bytes(a: u64, b: u64, c: u64, d: u64) -> u64
     a % 256 + 256 * (b % 256 + 256 * (c % 256 + 256 * (d % 256)))
 }
 
-// The writer alone calls it, with an image of the length of the program's counts.
-pub fn put_block_bytes(image: &mut [u8], at: usize, k: Block)
-    requires { ⌜ at + 10 ≤ length (now image) ⌝ }
-    ensures { λ _. ⌜ now (image .exit) ≡ sets (now (image .entry)) at (blockBytes k) ⌝ }
+// The pair bytes of a block record of the version. The writer alone calls it, as below.
+fn put_pairs(version: u64, image: &mut [u8], at: usize, packed: u64)
+    requires { ⌜ at + mostPairs version ≤ length (now image) ⌝ }
+    ensures { λ _. ⌜ now (image .exit) ≡ sets (now (image .entry)) at (bytesOf (mostPairs version) packed) ⌝ }
+{
+    if version == 2 {
+        int64::write_u64(image, at, packed);
+    } else {
+        int64::write_u32(image, at, packed);
+    }
+}
+
+// The writer alone calls it, with an image of the length of the program's version and counts.
+pub fn put_block_bytes(version: u64, image: &mut [u8], at: usize, k: Block)
+    requires { ⌜ at + blockSize version ≤ length (now image) ⌝ }
+    ensures { λ _. ⌜ now (image .exit) ≡ sets (now (image .entry)) at (blockBytes version k) ⌝ }
 {
     let middle = four_bytes(k.annotation, k.policy, k.label, k.pairs);
     int64::write_u16(image, at, k.first);
     int64::write_u32(image, at + 2, middle);
-    int64::write_u32(image, at + 6, k.packed);
+    put_pairs(version, image, at + 6, k.packed);
 }
 
 // The writer alone calls it, as above.

@@ -9,7 +9,7 @@ pub mod reader;
 mod walk;
 pub mod writer;
 
-// A block record. `packed` has the four pair bytes, the first in its low eight bits.
+// A block record. `packed` has the pair bytes, four or eight by the version, the first in its low eight bits.
 pub struct Block {
     pub first: u64,
     pub annotation: u64,

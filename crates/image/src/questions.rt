@@ -4,14 +4,15 @@ use crate::Instruction;
 use crate::layout;
 ghost use mathlib.Core.Path.{_≡_};
 ghost use Prim.Native.Nat.{ℕ, _+_, _-_, _*_, _<_, _≤_};
-ghost use lib.Dec.{eqb, leb};
+ghost use lib.Dec.{eqb};
 ghost use lib.ListN.{length};
 ghost use lib.Seq.{sets};
-ghost use Rattle.image.specs.Layout.{blockCount, instructionCount, blockCell, instructionCell, blockOf};
-ghost use Rattle.image.specs.Questions.{mostBlocks, mostInstructions, countsNo, inOrder, rising, unjoined, joined, annotated, blockNo, firstNo, fields, laidOut, instructionNo, recordsNo, programNo};
+ghost use Rattle.image.specs.Layout.{rows, mostPairs, versionOf, blockCount, instructionCount, blockCell, instructionCell, blockOf};
+ghost use Rattle.image.specs.Questions.{versionNo, mostBlocks, mostInstructions, countsNo, inOrder, rising, unjoined, joined, annotated, blockNo, firstNo};
+ghost use Rattle.image.specs.Questions.{lastOpcode, endsBlock, fields, laidOut, instructionNo, recordsNo, programNo};
 ghost use Rattle.image.specs.Records.{blockRecordNo, instructionRecordNo};
 ghost use Rattle.image.specs.Marks.{flag, Marked, Ended};
-ghost use Rattle.image.specs.Limits.{limitRow, limitRows, largestOf, Limited, blocksBy};
+ghost use Rattle.image.specs.Limits.{limitRow, limitsAt, limitRows, largestOf, Limited, blocksBy};
 
 // The flags of the table's rows: an opcode has r, s, v.
 const R: u8 = 4;
@@ -21,7 +22,7 @@ const S: u8 = 2;
 const V: u8 = 1;
 
 // Which fields each opcode has.
-const FIELDS: [u8; 15] = [
+const FIELDS: [u8; 17] = [
     R + V, // 1 r := v
     R + S + V, // 2 r := s + v
     R + S + V, // 3 r := s - v
@@ -37,7 +38,22 @@ const FIELDS: [u8; 15] = [
     V, // 13 jump v
     0, // 14 halt
     V, // 15 join v
+    V, // 16 push v
+    R, // 17 pop r
 ];
+
+// Question 3.
+pub fn ask_version(version: u64) -> u8
+    ensures { λ r. ⌜ r ≡ versionNo version ⌝ }
+{
+    if version < 1 {
+        return 3;
+    }
+    if 2 < version {
+        return 3;
+    }
+    0
+}
 
 // Question 4.
 pub fn ask_counts(blocks: u64, instructions: u64) -> u8
@@ -102,21 +118,31 @@ fn is_unjoined(k: Block) -> bool
     k.packed == 0
 }
 
-fn is_joined(k: Block) -> bool
-    ensures { λ r. ⌜ r ≡ joined k ⌝ }
+// How many pairs a block of the version has at most.
+fn most_pairs(version: u64) -> u64
+    ensures { λ r. ⌜ r ≡ mostPairs version ⌝ }
+{
+    if version == 2 {
+        return 8;
+    }
+    4
+}
+
+fn is_joined(version: u64, k: Block) -> bool
+    ensures { λ r. ⌜ r ≡ joined version k ⌝ }
 {
     if 1 < k.policy {
         return false;
     }
-    if 4 < k.pairs {
+    if most_pairs(version) < k.pairs {
         return false;
     }
     is_rising(k.pairs, k.packed)
 }
 
 // Question 7.
-fn is_annotated(blocks: u64, k: Block) -> bool
-    ensures { λ r. ⌜ r ≡ annotated blocks k ⌝ }
+fn is_annotated(version: u64, blocks: u64, k: Block) -> bool
+    ensures { λ r. ⌜ r ≡ annotated version blocks k ⌝ }
 {
     if k.annotation == 0 {
         if k.label != 0 {
@@ -133,17 +159,24 @@ fn is_annotated(blocks: u64, k: Block) -> bool
     if k.annotation != 2 {
         return false;
     }
-    is_joined(k)
+    is_joined(version, k)
 }
 
 // Questions 6 and 7 of a block's record, wherever it stands.
-pub fn ask_block_record(blocks: u64, instructions: u64, b: usize, before: u64, k: Block) -> u8
-    ensures { λ r. ⌜ r ≡ blockRecordNo blocks instructions b before k ⌝ }
+pub fn ask_block_record(
+    version: u64,
+    blocks: u64,
+    instructions: u64,
+    b: usize,
+    before: u64,
+    k: Block,
+) -> u8
+    ensures { λ r. ⌜ r ≡ blockRecordNo version blocks instructions b before k ⌝ }
 {
     if !starts_in_order(instructions, b, before, k.first) {
         return 6;
     }
-    if !is_annotated(blocks, k) {
+    if !is_annotated(version, blocks, k) {
         return 7;
     }
     0
@@ -171,6 +204,7 @@ fn ask_block(cells: &[u64], b: usize) -> u8
     let before = first_before(cells, b);
     let k = layout::block_of(cells, b);
     ask_block_record(
+        cells[layout::VERSION],
         cells[layout::BLOCK_COUNT],
         cells[layout::INSTRUCTION_COUNT],
         b,
@@ -193,23 +227,27 @@ fn put_limits(limits: &mut [u64], at: usize, flags: u8)
     limits[at + 3] = 3 * v;
 }
 
-// The limits of all opcodes. The table is lent, since a constant is built anew where it is used.
+// The limits of the opcodes 1 to 17, behind the row of 0. The table is lent, since a constant is built anew where it is used.
 fn fill_limits(table: &[u8], limits: &mut [u64])
-    requires { ⌜ (now table ≡ fields) × (length (now limits) ≡ 60) ⌝ }
-    ensures { λ _. ⌜ now (limits .exit) ≡ limitRows ⌝ }
+    requires { ⌜ (now table ≡ fields) × (length (now limits) ≡ 72) ⌝ }
+    ensures { λ _. ⌜ now (limits .exit) ≡ sets (now (limits .entry)) 4 (rows limitsAt 17) ⌝ }
 {
     let mut row = 0;
-    while row < 15 {
-        put_limits(limits, 4 * row, table[row]);
+    while row < 17 {
+        put_limits(limits, 4 + 4 * row, table[row]);
         row = row + 1;
     }
 }
 
-// The limits of all opcodes, by the table. The crate itself calls it, with four numbers for each of the fifteen.
+// The limits of all opcodes, by the table: four numbers for each of 0, which is none, to 17. The crate itself calls it.
 pub fn all_limits(limits: &mut [u64])
-    requires { ⌜ length (now limits) ≡ 60 ⌝ }
+    requires { ⌜ length (now limits) ≡ 72 ⌝ }
     ensures { λ _. ⌜ now (limits .exit) ≡ limitRows ⌝ }
 {
+    limits[0] = 0;
+    limits[1] = 0;
+    limits[2] = 1;
+    limits[3] = 0;
     let table = FIELDS;
     fill_limits(&table, limits);
 }
@@ -222,19 +260,27 @@ pub fn largest_operands(blocks: u64) -> [u64; 4]
     [0, 15, blocks - 1, u64::MAX]
 }
 
-// Question 8, by comparing each field with its limit: no branch depends on which opcode it is.
-fn is_laid_out(limits: &[u64], largest: &[u64], x: Instruction) -> bool
-    requires { ⌜ Limited (blocksBy (now largest)) (now limits) (now largest) ⌝ }
-    ensures { λ r. ⌜ r ≡ laidOut (blocksBy (now (largest .entry))) x ⌝ }
+// The version's last opcode: how many it has.
+pub fn last_opcode(version: u64) -> u64
+    ensures { λ r. ⌜ r ≡ lastOpcode version ⌝ }
+{
+    if version == 2 {
+        return 17;
+    }
+    15
+}
+
+// Question 8 where there are this many opcodes, by comparing each field with its limit: no branch depends on which opcode it is, and 0, which
+// is none, has limits that nothing meets.
+fn is_laid_out(opcodes: u64, limits: &[u64], largest: &[u64], x: Instruction) -> bool
+    requires { ⌜ Limited opcodes (blocksBy (now largest)) (now limits) (now largest) ⌝ }
+    ensures { λ r. ⌜ r ≡ laidOut opcodes (blocksBy (now (largest .entry))) x ⌝ }
 {
     let opcode = x.opcode;
-    if opcode < 1 {
+    if opcodes < opcode {
         return false;
     }
-    if 15 < opcode {
-        return false;
-    }
-    let row = 4 * (opcode - 1) as usize;
+    let row = 4 * opcode as usize;
     if limits[row] < x.r {
         return false;
     }
@@ -253,7 +299,7 @@ fn is_laid_out(limits: &[u64], largest: &[u64], x: Instruction) -> bool
 
 // Questions 6 and 7 of all blocks. Where all are answered with yes, marks the instructions that start a block.
 fn ask_blocks(cells: &[u64], marks: &mut [u8]) -> u8
-    requires { ⌜ (1 < length (now cells)) × (blockCount (now cells) ≤ mostBlocks) × (instructionCount (now cells) ≤ mostInstructions) × Marked (now cells) 0 (now marks) ⌝ }
+    requires { ⌜ (2 < length (now cells)) × (blockCount (now cells) ≤ mostBlocks) × (instructionCount (now cells) ≤ mostInstructions) × Marked (now cells) 0 (now marks) ⌝ }
     ensures { λ r. ⌜ r ≡ firstNo (blockNo (now (cells .entry))) (blockCount (now (cells .entry))) 0 ⌝ }
     ensures { λ r. ⌜ (r ≡ 0 → Marked (now (cells .entry)) (blockCount (now (cells .entry))) (now (marks .exit))) ⌝ }
 {
@@ -273,9 +319,12 @@ fn ask_blocks(cells: &[u64], marks: &mut [u8]) -> u8
 
 // Whether an opcode ends a block, as a mark.
 fn end_mark(opcode: u64) -> u8
-    ensures { λ r. ⌜ r ≡ flag (leb 13 opcode) ⌝ }
+    ensures { λ r. ⌜ r ≡ flag (endsBlock opcode) ⌝ }
 {
     if opcode < 13 {
+        return 0;
+    }
+    if 15 < opcode {
         return 0;
     }
     1
@@ -283,11 +332,17 @@ fn end_mark(opcode: u64) -> u8
 
 // Questions 8 and 9 of an instruction's record, wherever it stands; `last` marks the last of a block. The crate itself calls it, with the
 // limits of a program that has a block.
-pub fn ask_instruction(limits: &[u64], largest: &[u64], x: Instruction, last: u8) -> u8
-    requires { ⌜ Limited (blocksBy (now largest)) (now limits) (now largest) × (last ≡ flag (eqb last 1)) ⌝ }
-    ensures { λ r. ⌜ r ≡ instructionRecordNo (blocksBy (now (largest .entry))) (eqb last 1) x ⌝ }
+pub fn ask_instruction(
+    opcodes: u64,
+    limits: &[u64],
+    largest: &[u64],
+    x: Instruction,
+    last: u8,
+) -> u8
+    requires { ⌜ Limited opcodes (blocksBy (now largest)) (now limits) (now largest) × (last ≡ flag (eqb last 1)) ⌝ }
+    ensures { λ r. ⌜ r ≡ instructionRecordNo opcodes (blocksBy (now (largest .entry))) (eqb last 1) x ⌝ }
 {
-    if !is_laid_out(limits, largest, x) {
+    if !is_laid_out(opcodes, limits, largest, x) {
         return 8;
     }
     if end_mark(x.opcode) != last {
@@ -298,7 +353,7 @@ pub fn ask_instruction(limits: &[u64], largest: &[u64], x: Instruction, last: u8
 
 // How many of its instructions the buffer has, so that the loop need not ask at each.
 fn instructions_held(cells: &[u64]) -> usize
-    requires { ⌜ (1 < length (now cells)) × (instructionCount (now cells) ≤ mostInstructions) ⌝ }
+    requires { ⌜ (2 < length (now cells)) × (instructionCount (now cells) ≤ mostInstructions) ⌝ }
     ensures { λ r. ⌜ (r ≤ instructionCount (now (cells .entry))) × ((i : ℕ) → i < r → instructionCell i + 5 ≤ length (now (cells .entry)))
         × (r < instructionCount (now (cells .entry)) → length (now (cells .entry)) < instructionCell r + 5) ⌝ }
 {
@@ -313,15 +368,22 @@ fn instructions_held(cells: &[u64]) -> usize
 }
 
 // Questions 8 and 9 of all instructions.
-fn ask_instructions(limits: &[u64], largest: &[u64], cells: &[u64], marks: &[u8]) -> u8
-    requires { ⌜ Limited (blockCount (now cells)) (now limits) (now largest) × (1 < length (now cells)) × (instructionCount (now cells) ≤ mostInstructions) × Ended (now cells) (now marks) ⌝ }
+fn ask_instructions(
+    opcodes: u64,
+    limits: &[u64],
+    largest: &[u64],
+    cells: &[u64],
+    marks: &[u8],
+) -> u8
+    requires { ⌜ (opcodes ≡ lastOpcode (versionOf (now cells))) × Limited opcodes (blockCount (now cells)) (now limits) (now largest)
+        × (2 < length (now cells)) × (instructionCount (now cells) ≤ mostInstructions) × Ended (now cells) (now marks) ⌝ }
     ensures { λ r. ⌜ r ≡ firstNo (instructionNo (now (cells .entry))) (instructionCount (now (cells .entry))) 0 ⌝ }
 {
     let held = instructions_held(cells);
     let mut i = 0;
     while i < held {
         let x = layout::instruction_of(cells, i);
-        let no = ask_instruction(limits, largest, x, marks[i + 1]);
+        let no = ask_instruction(opcodes, limits, largest, x, marks[i + 1]);
         if no != 0 {
             return no;
         }
@@ -345,17 +407,25 @@ pub fn ask_records(cells: &[u64]) -> u8
     }
     let end = cells[layout::INSTRUCTION_COUNT] as usize;
     marks[end] = 1;
-    let mut limits = [0u64; 60];
+    let mut limits = [0u64; 72];
     all_limits(&mut limits);
     let largest = largest_operands(cells[layout::BLOCK_COUNT]);
-    ask_instructions(&limits, &largest, cells, &marks)
+    let opcodes = last_opcode(cells[layout::VERSION]);
+    ask_instructions(opcodes, &limits, &largest, cells, &marks)
 }
 
-// Questions 4 and 6 to 9: what the writer, start, pick and run put to their program.
+// Questions 3, 4 and 6 to 9: what the writer, start, pick and run put to their program.
 pub fn ask_program(cells: &[u64]) -> u8
     ensures { λ r. ⌜ r ≡ programNo (now (cells .entry)) ⌝ }
 {
-    if cells.len() < 2 {
+    if cells.len() < 1 {
+        return 3;
+    }
+    let unknown = ask_version(cells[layout::VERSION]);
+    if unknown != 0 {
+        return unknown;
+    }
+    if cells.len() < 3 {
         return 4;
     }
     let no = ask_counts(cells[layout::BLOCK_COUNT], cells[layout::INSTRUCTION_COUNT]);

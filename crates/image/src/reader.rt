@@ -36,8 +36,10 @@ fn ask_header(image: &[u8]) -> u8
     if !is_marked(image) {
         return 2;
     }
-    if int64::read_u16(image, 3) != 1 {
-        return 3;
+    let version = int64::read_u16(image, 3);
+    let unknown = questions::ask_version(version);
+    if unknown != 0 {
+        return unknown;
     }
     let blocks = layout::wide(image[5]);
     let instructions = int64::read_u16(image, 6);
@@ -45,7 +47,7 @@ fn ask_header(image: &[u8]) -> u8
     if no != 0 {
         return no;
     }
-    if image.len() as u64 != 8 + 10 * blocks + 12 * instructions {
+    if image.len() as u64 != layout::image_length(version, blocks, instructions) {
         return 5;
     }
     0
@@ -62,7 +64,7 @@ fn walk_image(image: &[u8], lays: bool, cells: &mut [u64]) -> walk::Walked
     if no != 0 {
         return walk::Walked { no, at: 0 };
     }
-    walk::lay_counts(image, lays, cells);
+    walk::lay_head(image, lays, cells);
     walk::walk_records(image, lays, cells)
 }
 

@@ -1,5 +1,6 @@
 // The walk over an image's records, blocks and then instructions, with one offset that each record moves on. Reader and image check both
 // take it: it puts the questions to each record and, where `lays` says that cells are wanted, lays the record into a program buffer.
+use crate::Block;
 use crate::layout;
 use crate::questions;
 ghost use mathlib.Core.Path.{_≡_};
@@ -8,9 +9,9 @@ ghost use mathlib.Core.List.{[], _∷_};
 ghost use Prim.Native.Nat.{_+_, _-_, _<_, _≤_};
 ghost use lib.ListN.{length};
 ghost use lib.Seq.{sets};
-ghost use Rattle.image.specs.Layout.{blockPlace, instructionPlace, blocksIn, instructionsIn, programCells};
+ghost use Rattle.image.specs.Layout.{blockPlace, instructionPlace, versionIn, blocksIn, instructionsIn, programCells};
 ghost use Rattle.image.specs.Layout.{blockIn, instructionIn, blockCells, instructionCells, cellsIn};
-ghost use Rattle.image.specs.Questions.{firstNo, blockNo, instructionNo, recordsNo};
+ghost use Rattle.image.specs.Questions.{firstNo, blockNo, lastOpcode, instructionNo, recordsNo};
 ghost use Rattle.image.specs.Marks.{Marked, Ended};
 ghost use Rattle.image.specs.Limits.{Limited};
 ghost use Rattle.image.specs.Doors.{headerNo};
@@ -23,24 +24,24 @@ pub struct Walked {
     pub at: usize,
 }
 
-// Questions 6 and 7 of block b, whose record is at `at`; its predecessor starts at `before`.
-fn ask_block_in(image: &[u8], b: usize, at: usize, before: u64) -> u8
-    requires { ⌜ (headerNo (now image) ≡ 0) × (b < blocksIn (now image)) × (at ≡ blockPlace b) × (0 < b → before ≡ blockIn (now image) (blockPlace (b - 1)) .first) ⌝ }
+// Questions 6 and 7 of block b, whose record was read; its predecessor starts at `before`.
+fn ask_block_in(version: u64, image: &[u8], b: usize, before: u64, k: Block) -> u8
+    requires { ⌜ (headerNo (now image) ≡ 0) × (version ≡ versionIn (now image)) × (b < blocksIn (now image))
+        × (k ≡ blockIn (versionIn (now image)) (now image) (blockPlace (versionIn (now image)) b))
+        × (0 < b → before ≡ blockIn (versionIn (now image)) (now image) (blockPlace (versionIn (now image)) (b - 1)) .first) ⌝ }
     ensures { λ r. ⌜ r ≡ blockNo (cellsIn (now (image .entry))) b ⌝ }
 {
     let blocks = layout::wide(image[5]);
     let instructions = int64::read_u16(image, 6);
-    let k = layout::block_in(image, at);
-    questions::ask_block_record(blocks, instructions, b, before, k)
+    questions::ask_block_record(version, blocks, instructions, b, before, k)
 }
 
-// Lays the block record at `at` into the cells from `to` on.
-fn lay_block(image: &[u8], at: usize, lays: bool, cells: &mut [u64], to: usize)
-    requires { ⌜ (at + 10 ≤ length (now image)) × (lays ≡ true → to + 6 ≤ length (now cells)) ⌝ }
-    ensures { λ _. ⌜ now (cells .exit) ≡ cond lays (sets (now (cells .entry)) to (blockCells (blockIn (now (image .entry)) at))) (now (cells .entry)) ⌝ }
+// Lays a block into the cells from `to` on, where that is wanted.
+fn lay_block(lays: bool, cells: &mut [u64], to: usize, k: Block)
+    requires { ⌜ (lays ≡ true → to + 6 ≤ length (now cells)) ⌝ }
+    ensures { λ _. ⌜ now (cells .exit) ≡ cond lays (sets (now (cells .entry)) to (blockCells k)) (now (cells .entry)) ⌝ }
 {
     if lays {
-        let k = layout::block_in(image, at);
         layout::put_block(cells, to, k);
     }
 }
@@ -53,20 +54,23 @@ fn walk_blocks(image: &[u8], marks: &mut [u8], lays: bool, cells: &mut [u64]) ->
     ensures { λ _. ⌜ Marked (cellsIn (now (image .entry))) (blocksPassed (now (image .entry))) (now (marks .exit)) ⌝ }
     ensures { λ _. ⌜ now (cells .exit) ≡ cond lays (blocksWalked (now (image .entry)) (now (cells .entry))) (now (cells .entry)) ⌝ }
 {
+    let version = int64::read_u16(image, 3);
+    let size = layout::block_size(version);
     let blocks = layout::wide(image[5]) as usize;
     let mut at = 8;
     let mut to = layout::FIRST_BLOCK;
     let mut before = 0;
     let mut b = 0;
     while b < blocks {
-        let no = ask_block_in(image, b, at, before);
+        let k = layout::block_in(version, image, at);
+        let no = ask_block_in(version, image, b, before, k);
         if no != 0 {
             return Walked { no, at };
         }
-        before = int64::read_u16(image, at);
+        before = k.first;
         marks[before as usize] = 1;
-        lay_block(image, at, lays, cells, to);
-        at = at + 10;
+        lay_block(lays, cells, to, k);
+        at = at + size;
         to = to + 6;
         b = b + 1;
     }
@@ -75,6 +79,7 @@ fn walk_blocks(image: &[u8], marks: &mut [u8], lays: bool, cells: &mut [u64]) ->
 
 // Questions 8 and 9 of instruction i, whose record is at `at`.
 fn ask_instruction_in(
+    opcodes: u64,
     limits: &[u64],
     largest: &[u64],
     image: &[u8],
@@ -82,12 +87,12 @@ fn ask_instruction_in(
     i: usize,
     at: usize,
 ) -> u8
-    requires { ⌜ (headerNo (now image) ≡ 0) × Limited (blocksIn (now image)) (now limits) (now largest) × Ended (cellsIn (now image)) (now marks)
-        × (i < instructionsIn (now image)) × (at ≡ instructionPlace (blocksIn (now image)) i) ⌝ }
+    requires { ⌜ (headerNo (now image) ≡ 0) × (opcodes ≡ lastOpcode (versionIn (now image))) × Limited opcodes (blocksIn (now image)) (now limits) (now largest)
+        × Ended (cellsIn (now image)) (now marks) × (i < instructionsIn (now image)) × (at ≡ instructionPlace (versionIn (now image)) (blocksIn (now image)) i) ⌝ }
     ensures { λ r. ⌜ r ≡ instructionNo (cellsIn (now (image .entry))) i ⌝ }
 {
     let x = layout::instruction_in(image, at);
-    questions::ask_instruction(limits, largest, x, marks[i + 1])
+    questions::ask_instruction(opcodes, limits, largest, x, marks[i + 1])
 }
 
 // Lays the instruction record at `at` into the cells from `to` on.
@@ -103,6 +108,7 @@ fn lay_instruction(image: &[u8], at: usize, lays: bool, cells: &mut [u64], to: u
 
 // Questions 8 and 9 of all instructions, whose records begin at `start`, the last block's end.
 fn walk_instructions(
+    opcodes: u64,
     limits: &[u64],
     largest: &[u64],
     image: &[u8],
@@ -111,8 +117,8 @@ fn walk_instructions(
     lays: bool,
     cells: &mut [u64],
 ) -> Walked
-    requires { ⌜ (headerNo (now image) ≡ 0) × Limited (blocksIn (now image)) (now limits) (now largest) × Ended (cellsIn (now image)) (now marks)
-        × (start ≡ blockPlace (blocksIn (now image))) × (lays ≡ true → length (now cells) ≡ programCells) ⌝ }
+    requires { ⌜ (headerNo (now image) ≡ 0) × (opcodes ≡ lastOpcode (versionIn (now image))) × Limited opcodes (blocksIn (now image)) (now limits) (now largest)
+        × Ended (cellsIn (now image)) (now marks) × (start ≡ blockPlace (versionIn (now image)) (blocksIn (now image))) × (lays ≡ true → length (now cells) ≡ programCells) ⌝ }
     ensures { λ r. ⌜ r .no ≡ firstNo (instructionNo (cellsIn (now (image .entry)))) (instructionsIn (now (image .entry))) 0 ⌝ }
     ensures { λ r. ⌜ r .at ≡ instructionsOffset (now (image .entry)) ⌝ }
     ensures { λ _. ⌜ now (cells .exit) ≡ cond lays (instructionsWalked (now (image .entry)) (now (cells .entry))) (now (cells .entry)) ⌝ }
@@ -122,7 +128,7 @@ fn walk_instructions(
     let mut to = layout::FIRST_INSTRUCTION;
     let mut i = 0;
     while i < instructions {
-        let no = ask_instruction_in(limits, largest, image, marks, i, at);
+        let no = ask_instruction_in(opcodes, limits, largest, image, marks, i, at);
         if no != 0 {
             return Walked { no, at };
         }
@@ -148,18 +154,30 @@ pub fn walk_records(image: &[u8], lays: bool, cells: &mut [u64]) -> Walked
     }
     let end = int64::read_u16(image, 6) as usize;
     marks[end] = 1;
-    let mut limits = [0u64; 60];
+    let mut limits = [0u64; 72];
     questions::all_limits(&mut limits);
     let largest = questions::largest_operands(layout::wide(image[5]));
-    walk_instructions(&limits, &largest, image, &marks, walked.at, lays, cells)
+    let opcodes = questions::last_opcode(int64::read_u16(image, 3));
+    walk_instructions(
+        opcodes,
+        &limits,
+        &largest,
+        image,
+        &marks,
+        walked.at,
+        lays,
+        cells,
+    )
 }
 
-// Lays the two counts into the first cells. The reader alone calls it, with an image that has a header.
-pub fn lay_counts(image: &[u8], lays: bool, cells: &mut [u64])
-    requires { ⌜ (8 ≤ length (now image)) × (lays ≡ true → 1 < length (now cells)) ⌝ }
-    ensures { λ _. ⌜ now (cells .exit) ≡ cond lays (sets (now (cells .entry)) 0 (blocksIn (now (image .entry)) ∷ instructionsIn (now (image .entry)) ∷ [])) (now (cells .entry)) ⌝ }
+// Lays the version and the two counts into the first cells. The reader alone calls it, with an image that has a header.
+pub fn lay_head(image: &[u8], lays: bool, cells: &mut [u64])
+    requires { ⌜ (8 ≤ length (now image)) × (lays ≡ true → 2 < length (now cells)) ⌝ }
+    ensures { λ _. ⌜ now (cells .exit) ≡ cond lays (sets (now (cells .entry)) 0
+        (versionIn (now (image .entry)) ∷ blocksIn (now (image .entry)) ∷ instructionsIn (now (image .entry)) ∷ [])) (now (cells .entry)) ⌝ }
 {
     if lays {
+        cells[layout::VERSION] = int64::read_u16(image, 3);
         cells[layout::BLOCK_COUNT] = layout::wide(image[5]);
         cells[layout::INSTRUCTION_COUNT] = int64::read_u16(image, 6);
     }

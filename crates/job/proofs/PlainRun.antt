@@ -29,7 +29,7 @@ use Rattle.task.specs.Formed.{valueFits}
 use Rattle.evaluator.specs.declared.Finished.{Finished}
 use Rattle.arms.specs.Registers.{valueOf, registersOf, Sized, inRegister}
 use Rattle.arms.specs.Code.{Decodes}
-use Rattle.arms.specs.Turns.{rules}
+use Rattle.arms.specs.Turns.{Stacked, rules}
 use Rattle.evaluator.specs.Hands.{outcomeFrom, finishedOf, CanEvaluate, Closes}
 use Rattle.arms.proofs.RegisterLaws.{label-at}
 use Rattle.drive.specs.declared.End.the-variants.{NotEnded, Halt, Fault}
@@ -155,19 +155,19 @@ left-within n (ran e w) = by (leb w n)
     by true = omega arith
     by false = omega arith
 
-left-by : (w places span left : ℕ) (l : List Register) (n : ℕ) (x : Ran Frame) → (w ≡ 0 → left ≡ 0)
-    → outcomeFrom w places span left l ≡ withinBudget n x → left ≤ n
-left-by zero places span left l n x z e = omega (arith, z refl)
-left-by (suc w) places span left l n x z e =
+left-by : (w places span left : ℕ) (u : Stacked) (l : List Register) (n : ℕ) (x : Ran Frame) → (w ≡ 0 → left ≡ 0)
+    → outcomeFrom w places span left u l ≡ withinBudget n x → left ≤ n
+left-by zero places span left u l n x z e = omega (arith, z refl)
+left-by (suc w) places span left u l n x z e =
     let q : left ≡ leftIn (withinBudget n x) = ap leftIn e in
     omega (arith, q, left-within n x)
 
-pub can-report : (cells : List ℕ) (n : ℕ) (z : Finished) (nums kinds : List ℕ) (x : Ran Frame) → programNo cells ≡ 0 → n ≤ workLimit
-    → finishedOf z nums kinds ≡ withinBudget n x → (z .what ≡ 0 → z .left ≡ 0) → Closes cells z nums kinds → CanReport n z nums kinds
-can-report cells n z nums kinds x ok limited e none closes = record {
+pub can-report : (cells : List ℕ) (n : ℕ) (z : Finished) (u : Stacked) (nums kinds : List ℕ) (x : Ran Frame) → programNo cells ≡ 0 → n ≤ workLimit
+    → finishedOf z u nums kinds ≡ withinBudget n x → (z .what ≡ 0 → z .left ≡ 0) → Closes cells z nums kinds → CanReport n z nums kinds
+can-report cells n z u nums kinds x ok limited e none closes = record {
   sized = closes .last-sized;
   limited = limited;
-  left-most = left-by (z .what) (z .places) (z .span) (z .left) (registersOf nums kinds) n x none e;
+  left-most = left-by (z .what) (z .places) (z .span) (z .left) u (registersOf nums kinds) n x none e;
   span-most = closes .span-most;
   fault-listed = closes .fault-listed;
   labels-fit = λ h i l k.
@@ -177,17 +177,17 @@ can-report cells n z nums kinds x ok limited e none closes = record {
 
 -- ---- The report
 
-module _ (n : ℕ) (z : Finished) (nums kinds : List ℕ) where
+module _ (n : ℕ) (z : Finished) (nums kinds : List ℕ) (u : Stacked) where
   abbrev by-what : ℕ → Report
-  by-what w = reportFrom n (outcomeFrom w (z .places) (z .span) (z .left) (registersOf nums kinds))
+  by-what w = reportFrom n (outcomeFrom w (z .places) (z .span) (z .left) u (registersOf nums kinds))
 
   pub reports-halt : z .what ≡ 1 → {l : List Register} → l ≡ registersOf nums kinds
-      → _≡_ {A = Report} (record { end = Halt; picks = n - z .left; work = n - z .left; span = z .span; registers = l }) (reportFrom n (finishedOf z nums kinds))
+      → _≡_ {A = Report} (record { end = Halt; picks = n - z .left; work = n - z .left; span = z .span; registers = l }) (reportFrom n (finishedOf z u nums kinds))
   reports-halt e q =
       (λ i. record { end = Halt; picks = n - z .left; work = n - z .left; span = z .span; registers = q i }) ∙ ap by-what (sym e)
 
   pub reports-spent : z .what ≡ 0
-      → _≡_ {A = Report} (record { end = NotEnded; picks = n; work = n; span = 0; registers = zeros }) (reportFrom n (finishedOf z nums kinds))
+      → _≡_ {A = Report} (record { end = NotEnded; picks = n; work = n; span = 0; registers = zeros }) (reportFrom n (finishedOf z u nums kinds))
   reports-spent e = ap by-what (sym e)
 
   fault-by : (w : ℕ) → 31 ≤ w
@@ -199,7 +199,7 @@ module _ (n : ℕ) (z : Finished) (nums kinds : List ℕ) where
 
   pub reports-fault : 31 ≤ z .what
       → _≡_ {A = Report} (record { end = Fault (z .what); picks = n - z .left; work = n - z .left; span = z .span; registers = zeros })
-      (reportFrom n (finishedOf z nums kinds))
+      (reportFrom n (finishedOf z u nums kinds))
   reports-fault h = fault-by (z .what) h
 
 -- ---- An accepted job
@@ -219,7 +219,7 @@ module _ (bytes : List ℕ) (accepted-job : jobNo bytes ≡ 0) where
     pub its-program : programNo cells ≡ 0
     its-program = ap programNo p ∙ start .allowed .program
 
-    pub cells-stored : 1 < length cells
+    pub cells-stored : 2 < length cells
     cells-stored =
         let k = accepted cells its-program in
         omega (arith, k .instruction 0 (omega (arith, k .some-instruction)) .is-stored)

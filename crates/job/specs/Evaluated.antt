@@ -29,7 +29,7 @@ pub record CanReport (n : ℕ) (z : Finished) (nums kinds : List ℕ) : Type 0 w
   pub limited : n ≤ workLimit
   pub left-most : z .left ≤ n
   pub span-most : z .span ≤ workLimit
-  pub fault-listed : (z .what ≡ 0 → ⊥) → (z .what ≡ 1 → ⊥) → (31 ≤ z .what) × (z .what ≤ 38)
+  pub fault-listed : (z .what ≡ 0 → ⊥) → (z .what ≡ 1 → ⊥) → (31 ≤ z .what) × (z .what ≤ 43)
   pub labels-fit : z .what ≡ 1 → LabelsFit nums kinds
 
 -- what the evaluation of a job within n instructions rests on, with this room for the decoded program

@@ -13,6 +13,7 @@ ghost use Rattle.serial.specs.Serial.{withinBudget};
 ghost use Rattle.task.specs.Frames.{workLimit};
 ghost use Rattle.task.specs.Choices.{chosen};
 ghost use Rattle.arms.specs.Registers.{registersOf, Sized};
+ghost use Rattle.arms.specs.Turns.{Stacked};
 ghost use Rattle.evaluator.specs.Hands.{finishedOf};
 ghost use Rattle.orders.specs.Demand.{evaluationOf};
 ghost use Rattle.outcomes.specs.Outcomes.{allowance, reportFrom};
@@ -60,10 +61,10 @@ fn registers_of(nums: &[u64], kinds: &[u8]) -> [Register; 16]
     out
 }
 
-// The report of what an evaluation came to within n instructions. `evaluate_job` alone calls it.
+// The report of what an evaluation came to within n instructions, whatever the last task's stack. `evaluate_job` alone calls it.
 fn report_from(n: u64, z: Finished, nums: &[u64], kinds: &[u8]) -> Report
     requires { ⌜ CanReport n z (now nums) (now kinds) ⌝ }
-    ensures { λ r. ⌜ r ≡ reportFrom n (finishedOf z (now (nums .entry)) (now (kinds .entry))) ⌝ }
+    ensures { λ r. ⌜ ((u : Stacked) → r ≡ reportFrom n (finishedOf z u (now (nums .entry)) (now (kinds .entry)))) ⌝ }
 {
     if z.what == 0 {
         return Report {

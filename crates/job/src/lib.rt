@@ -69,7 +69,7 @@ fn carry_out(job: &[u8], cells: &[u64], words: &mut [i64], order: &[u8]) -> Stat
 }
 
 // Starts a job, given by its bytes, and carries out one pick for each byte of the order; then writes the whole state into `state`, which
-// has 34,328 bytes (15). A refusal leaves `state` as it was.
+// has 83,992 bytes (15). A refusal leaves `state` as it was.
 #[no_mangle]
 pub extern "C" fn tpal_replay(job: &[u8], order: &[u8], state: &mut [u8]) -> u8
     ensures { λ r. ⌜ r ≡ replayNo (now (job .entry)) (length (now (state .entry))) ⌝ }
@@ -225,7 +225,7 @@ pub extern "C" fn tpal_job_text(job: &[u8], budget: u64, out: &mut [u8]) -> u64
 
 // ---- A job in steps
 
-// Reads an image into a program buffer of 47,120 bytes (15). A refusal leaves `program` as it was.
+// Reads an image into a program buffer of 47,128 bytes (15). A refusal leaves `program` as it was.
 #[no_mangle]
 pub extern "C" fn tpal_program_read(image: &[u8], program: &mut [u8]) -> u8
     ensures { λ r. ⌜ r ≡ readNo (now (image .entry)) (length (now (program .entry))) ⌝ }
@@ -243,7 +243,7 @@ pub extern "C" fn tpal_program_write(program: &[u8], image: &mut [u8]) -> u8
     steps::program::write_program(program, image)
 }
 
-// Starts a job: `state`, 34,328 bytes (15), then holds its state. A refusal leaves `state` as it was.
+// Starts a job: `state`, 83,992 bytes (15), then holds its state. A refusal leaves `state` as it was.
 #[no_mangle]
 pub extern "C" fn tpal_start(
     program: &[u8],

@@ -9,7 +9,7 @@ use borrow.Author.Tests.{lt-ltb, le-ltb}
 use Rattle.image.specs.Layout.{programOf}
 use Rattle.task.specs.Frames.{zeroRegister}
 use Rattle.task.specs.Stretches.{reads}
-use Rattle.shape.specs.Codes.{GradedSlots, codeOf, CodedTasks, tree}
+use Rattle.shape.specs.Codes.{GradedSlots, ReachedSlots, codeOf, CodedTasks, tree}
 use Rattle.shape.proofs.TiledLaws.{power-small}
 use Rattle.drive.specs.declared.State.{State}
 use Rattle.drive.specs.Slots.{at}
@@ -28,10 +28,11 @@ module _ (cells : List ℕ) (m : State) (D : ℕ) (ranked : D ≡ rank (m .place
     unfolding shape
     interval-refused i = rw (← ranked, lt-ltb D 7 (omega arith), i)
 
-    module _ (allowed : intervalAllowed (m .interval) ≡ true) (grades codes : List ℕ) (graded : GradedSlots (programOf cells) (m .bank) grades)
-        (coded : CodedTasks (programOf cells) D (m .tasks) grades codes) where
+    module _ (allowed : intervalAllowed (m .interval) ≡ true) (grades reaches codes : List ℕ)
+        (graded : GradedSlots (programOf cells) (m .bank) grades) (reached : ReachedSlots (programOf cells) (m .stacks) reaches)
+        (coded : CodedTasks (programOf cells) D (m .tasks) grades reaches codes) where
       each : (k : ℕ) → k < 64 → getD codes k 0 ≡ codeOf (programOf cells) D (at m k)
-      each k h = coded k h (reads zeroRegister (m .bank) (16 * k) 16) (graded k h)
+      each k h = coded k h (reads zeroRegister (m .bank) (16 * k) 16) (reads zeroRegister (m .stacks) (32 * k) 32) (graded k h) (reached k h)
 
       by-codes : shape (programOf cells) m ≡ tree codes D && countsFit m
       unfolding shape

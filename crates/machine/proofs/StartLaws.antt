@@ -16,7 +16,7 @@ use Rattle.image.specs.Questions.{programNo}
 use Rattle.image.specs.Doors.{unlessRefused}
 use Rattle.image.proofs.Asked.{ask-yes, or-else-both}
 use Rattle.image.proofs.Accepted.{accepted}
-use Rattle.task.specs.Frames.{zeroRegister, zeros, vacantTask, vacant, noTask, integers, startFrame}
+use Rattle.task.specs.Frames.{zeroRegister, zeros, emptyStack, vacantTask, vacant, noTask, integers, startFrame}
 use Rattle.task.proofs.Facts.{constant-at}
 use Rattle.task.proofs.Formation.{Formed}
 use Rattle.task.proofs.Start.{length-integers, start-formed}
@@ -68,13 +68,14 @@ reads-constant d n b zero = refl
 reads-constant d n b (suc k) = rw (constant-at n b d, reads-constant d n (suc b) k)
 
 empty-sized : (places interval : ℕ) → Sized (empty places interval)
-empty-sized places interval = record { of-bank = length-replicate 1024 zeroRegister; of-tasks = length-replicate 64 vacantTask }
+empty-sized places interval = record { of-bank = length-replicate 1024 zeroRegister; of-stacks = length-replicate 2048 zeroRegister; of-tasks = length-replicate 64 vacantTask }
 
 empty-at : (places interval i : ℕ) → i < 64 → at (empty places interval) i ≡ vacant
 empty-at places interval i h =
     let t : getD (replicate 64 vacantTask) i noTask ≡ vacantTask = getD-replicate 64 i vacantTask noTask h in
     let r : reads zeroRegister (replicate 1024 zeroRegister) (16 * i) 16 ≡ zeros = reads-constant zeroRegister 1024 (16 * i) 16 in
-    λ j. record { task = t j; registers = r j }
+    let s : reads zeroRegister (replicate 2048 zeroRegister) (32 * i) 32 ≡ emptyStack = reads-constant zeroRegister 2048 (32 * i) 32 in
+    λ j. record { task = t j; registers = r j; stack = s j }
 
 empty-within : (n i : ℕ) → Within 0 (getD (replicate n vacantTask) i noTask)
 empty-within zero i = record { counter-most = omega arith; span-most = omega arith }
@@ -96,7 +97,7 @@ module _ (places interval : ℕ) (registers : List ℤ) where
   unfolding fresh
   fresh-first n =
       put-same (empty places interval) 0 (startFrame places (integers registers)) (empty-sized places interval)
-      (length-integers registers ∙ n) (omega arith)
+      (length-integers registers ∙ n, refl) (omega arith)
 
   pub fresh-others : (i : ℕ) → 0 < i → i < 64 → at (fresh places interval registers) i ≡ vacant
   unfolding fresh

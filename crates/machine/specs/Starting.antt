@@ -7,7 +7,7 @@ use lib.ListN.{length, replicate}
 use Rattle.image.specs.Layout.{programCells}
 use Rattle.image.specs.Questions.{ask, orElse, programNo}
 use Rattle.image.specs.Doors.{unlessRefused}
-use Rattle.task.specs.Frames.{bankLength, zeroRegister, vacantTask, integers, startFrame}
+use Rattle.task.specs.Frames.{bankLength, stacksLength, zeroRegister, vacantTask, integers, startFrame}
 use Rattle.drive.specs.declared.State.{State}
 use Rattle.drive.specs.Slots.{put}
 use Rattle.drive.specs.Settings.{placesAllowed, intervalAllowed}
@@ -40,6 +40,7 @@ empty places interval = record {
   interval = interval;
   work = 0;
   bank = replicate bankLength zeroRegister;
+  stacks = replicate stacksLength zeroRegister;
   tasks = replicate 64 vacantTask;
 }
 

@@ -7,6 +7,7 @@ use drive::ending;
 use drive::picks;
 use shape::registers;
 use shape::slots;
+use shape::stacks;
 use shape::tasks;
 use shape::tiling;
 use task::Task;
@@ -16,7 +17,7 @@ ghost use mathlib.Core.Path.{_≡_};
 ghost use Prim.Native.Nat.{_%_};
 ghost use lib.ListN.{length, getD};
 ghost use Rattle.image.specs.Layout.{programCells, programOf};
-ghost use Rattle.image.specs.Questions.{orElse, programNo};
+ghost use Rattle.image.specs.Questions.{ask, programNo};
 ghost use Rattle.task.specs.Frames.{noTask};
 ghost use Rattle.drive.specs.Shape.{shape};
 ghost use Rattle.drive.specs.Issue.{slotNo};
@@ -62,8 +63,11 @@ pub fn meets_shape(cells: &[u64], m: State) -> bool
     }
     let bank = m.bank;
     let grades = registers::grade_slots(cells, bank);
+    let entries = m.stacks;
+    let reaches = stacks::reach_slots(cells, entries);
     let tasks = m.tasks;
-    let codes = slots::code_slots(cells, rank, tasks, grades);
+    let version = image::layout::version_of(cells);
+    let codes = slots::code_slots(cells, version, rank, tasks, grades, reaches);
     if !tiling::is_tree(&codes, rank) {
         return false;
     }
@@ -101,15 +105,13 @@ pub fn ask_state(cells: &[u64], words: usize, m: State) -> u8
     0
 }
 
-// The questions of a pick. Pick alone calls it, and reads t, the task at slot % 64, out of the state where it stands: read here, it
-// would cost a copy of the state.
-pub fn ask_pick(cells: &[u64], words: usize, m: State, t: Task, slot: u64) -> u8
+// Questions 20 to 24, where those before them are answered; t is the task at slot % 64, and `met` says whether the state meets the shape test.
+fn ask_issue(met: bool, m: State, t: Task, slot: u64) -> u8
     requires { ⌜ t ≡ getD (m .tasks) (slot % 64) noTask ⌝ }
-    ensures { λ r. ⌜ r ≡ orElse (stateNoBy (now (cells .entry)) words m) (slotNo m slot) ⌝ }
+    ensures { λ r. ⌜ r ≡ ask met 20 (slotNo m slot) ⌝ }
 {
-    let no = ask_state(cells, words, m);
-    if no != 0 {
-        return no;
+    if !met {
+        return 20;
     }
     ask_slot(m, t, slot)
 }
@@ -120,8 +122,17 @@ impl Machine {
         ensures { λ r. ⌜ (r .no ≡ pickNo (now (cells .entry)) (now (words .entry)) (self .state) slot) × (r .machine .state ≡ picked (now (cells .entry)) (now (words .entry)) (self .state) slot) ⌝ }
     {
         let old = self.state;
+        let call = ask_call(cells, words.len());
+        if call != 0 {
+            return Answered {
+                no: call,
+                machine: self,
+            };
+        }
+        // asked here, where the state stands: a function between would copy it
+        let met = meets_shape(cells, old);
         let t = old.tasks[(slot % 64) as usize];
-        let no = ask_pick(cells, words.len(), old, t, slot);
+        let no = ask_issue(met, old, t, slot);
         if no != 0 {
             return Answered { no, machine: self };
         }

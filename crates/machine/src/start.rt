@@ -98,12 +98,14 @@ fn empty_state(places: u64, interval: u16) -> State
     };
     let vacant = vacant_task();
     let bank = [zero; task::BANK];
+    let stacks = [zero; task::STACKS];
     let tasks = [vacant; 64];
     State {
         places,
         interval,
         work: 0,
         bank,
+        stacks,
         tasks,
     }
 }
@@ -128,11 +130,13 @@ pub fn fresh_state(places: u64, interval: u16, registers: &[i64]) -> State
         };
         i = i + 1;
     }
+    let stacks = [zero; task::STACKS];
     State {
         places,
         interval,
         work: 0,
         bank,
+        stacks,
         tasks,
     }
 }

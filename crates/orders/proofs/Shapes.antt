@@ -9,7 +9,7 @@ use lib.Dec.{eqb}
 use lib.IntN.{ℤ}
 use borrow.Author.Tests.{eqb-true}
 use Rattle.facts.proofs.Tests.{clash, by-test}
-use Rattle.image.specs.Layout.{programOf}
+use Rattle.image.specs.Layout.{programOf, versionOf}
 use Rattle.agreement.specs.Picks.{play}
 use Rattle.agreement.proofs.PlacesLaws.{places-add-up}
 use Rattle.agreement.proofs.HoldsLaws.{open-runs, ended-idle}
@@ -39,15 +39,15 @@ use Rattle.orders.proofs.Plays.{modelOfJob, freshJob, JobAccepted, job-
 abbrev held : Frame → ℕ
 held f = heldAs (f .task .status) (f .task .places)
 
-live-held : (f : Frame) (s : Status) (n : ℕ) → statusFits f s ≡ true → heldAs s n ≡ n
-live-held f Vacant n e = clash e refl
-live-held f Running n e = refl
-live-held f Waiting n e = refl
-live-held f Halted n e = refl
-live-held f (Faulted k) n e = refl
+live-held : (version : ℕ) (f : Frame) (s : Status) (n : ℕ) → statusFits version f s ≡ true → heldAs s n ≡ n
+live-held version f Vacant n e = clash e refl
+live-held version f Running n e = refl
+live-held version f Waiting n e = refl
+live-held version f Halted n e = refl
+live-held version f (Faulted k) n e = refl
 
 held-formed : (cells : List ℕ) (D h : ℕ) (f : Frame) → Formed (programOf cells) D h f → held f ≡ 2 ^ h
-held-formed cells D h f x = live-held f (f .task .status) (f .task .places) (x .status-fits) ∙ x .has-places
+held-formed cells D h f x = live-held (versionOf cells) f (f .task .status) (f .task .places) (x .status-fits) ∙ x .has-places
 
 -- ---- a state of the shape
 

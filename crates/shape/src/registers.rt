@@ -20,8 +20,8 @@ pub fn is_target(cells: &[u64], b: u32) -> bool
     layout::annotation_of(cells, b as usize) == 2
 }
 
-// Every label below B, every record's continuation a join target.
-fn value_fits(cells: &[u64], v: Value) -> bool
+// Every label below B, every record's continuation a join target. This crate alone calls it; `Stored`: as above.
+pub fn value_fits(cells: &[u64], v: Value) -> bool
     requires { ⌜ Stored (now cells) ⌝ }
     ensures { λ r. ⌜ r ≡ valueFits (programOf (now (cells .entry))) v ⌝ }
 {
@@ -32,7 +32,7 @@ fn value_fits(cells: &[u64], v: Value) -> bool
     }
 }
 
-fn is_zero(v: Value) -> bool
+pub fn is_zero(v: Value) -> bool
     ensures { λ r. ⌜ r ≡ isZero v ⌝ }
 {
     match v {
@@ -56,7 +56,7 @@ fn grade_of(cells: &[u64], v: Value) -> u8
     2
 }
 
-fn larger(a: u8, b: u8) -> u8
+pub fn larger(a: u8, b: u8) -> u8
     ensures { λ r. ⌜ (a ≤ r) × (b ≤ r) × ((n : ℕ) → a ≤ n → b ≤ n → r ≤ n) ⌝ }
 {
     if a < b {

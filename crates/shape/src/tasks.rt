@@ -11,7 +11,7 @@ ghost use lib.Dec.{ltb};
 ghost use lib.ListN.{length, getD};
 ghost use Rattle.image.specs.Layout.{programOf};
 ghost use Rattle.task.specs.Frames.{zeroFork, noTask};
-ghost use Rattle.task.specs.Formed.{every, within, registersZero, forkFits, atRest, isVacantStatus, statusFits};
+ghost use Rattle.task.specs.Formed.{every, within, registersZero, forkFits, atRest, isVacantStatus, faultListed, statusFits};
 ghost use Rattle.shape.specs.Codes.{Stored, framed};
 
 // ---- Forks
@@ -71,25 +71,44 @@ pub fn is_at_rest(t: Task) -> bool
     t.counter == 0
 }
 
-// Faulted with a number of the fault list and 16 integers 0; blank says whether the registers are that.
-fn fault_fits(t: Task, n: u8, blank: bool) -> bool
-    ensures { λ r. ⌜ ((registers : List Register) → registersZero (framed t registers) ≡ blank → r ≡ statusFits (framed t registers) (Status.Faulted n)) ⌝ }
+// The fault list of a version: 31 to 38, and of version 2 also 42 and 43.
+fn is_listed(version: u64, n: u8) -> bool
+    ensures { λ r. ⌜ r ≡ faultListed version n ⌝ }
 {
     if n < 31 {
         return false;
     }
-    if 38 < n {
+    if n <= 38 {
+        return true;
+    }
+    if version != 2 {
+        return false;
+    }
+    if n == 42 {
+        return true;
+    }
+    n == 43
+}
+
+// Faulted with a number of the version's fault list, height 0 and 16 integers 0; blank says whether the registers are that.
+fn fault_fits(version: u64, t: Task, n: u8, blank: bool) -> bool
+    ensures { λ r. ⌜ ((registers stack : List Register) → registersZero (framed t registers stack) ≡ blank → r ≡ statusFits version (framed t registers stack) (Status.Faulted n)) ⌝ }
+{
+    if !is_listed(version, n) {
         return false;
     }
     if !is_at_rest(t) {
+        return false;
+    }
+    if t.height != 0 {
         return false;
     }
     blank
 }
 
 // Waiting only below depth 0, Halted only at depth 0.
-pub fn status_fits(t: Task, blank: bool) -> bool
-    ensures { λ r. ⌜ ((registers : List Register) → registersZero (framed t registers) ≡ blank → r ≡ statusFits (framed t registers) (t .status)) ⌝ }
+pub fn status_fits(version: u64, t: Task, blank: bool) -> bool
+    ensures { λ r. ⌜ ((registers stack : List Register) → registersZero (framed t registers stack) ≡ blank → r ≡ statusFits version (framed t registers stack) (t .status)) ⌝ }
 {
     let s = t.status;
     match s {
@@ -107,14 +126,14 @@ pub fn status_fits(t: Task, blank: bool) -> bool
             }
             is_at_rest(t)
         }
-        Status::Faulted(n) => fault_fits(t, n, blank),
+        Status::Faulted(n) => fault_fits(version, t, n, blank),
     }
 }
 
 // ---- Counts
 
 fn task_counts_fit(work: u32, t: Task) -> bool
-    ensures { λ r. ⌜ ((registers : List Register) → r ≡ within work (framed t registers)) ⌝ }
+    ensures { λ r. ⌜ ((registers stack : List Register) → r ≡ within work (framed t registers stack)) ⌝ }
 {
     if work < t.counter {
         return false;
@@ -124,7 +143,7 @@ fn task_counts_fit(work: u32, t: Task) -> bool
 
 // Whether each slot's counter and span are at most the work.
 pub fn counts_fit(work: u32, tasks: [Task; 64]) -> bool
-    ensures { λ r. ⌜ ((registers : ℕ → List Register) → r ≡ every (λ i. within work (framed (getD tasks i noTask) (registers i))) 64 0) ⌝ }
+    ensures { λ r. ⌜ ((registers stack : ℕ → List Register) → r ≡ every (λ i. within work (framed (getD tasks i noTask) (registers i) (stack i))) 64 0) ⌝ }
 {
     let mut i: usize = 0;
     while i < 64 {

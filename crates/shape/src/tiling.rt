@@ -3,7 +3,7 @@ ghost use mathlib.Core.Path.{_≡_};
 ghost use Prim.Native.Nat.{_+_, _-_, _^_, _≤_};
 ghost use Rattle.shape.specs.Codes.{stands, clear, tiled, tree};
 
-// 2 ^ h, the places of a task of height h. This crate alone calls it, with a height up to the rank.
+// 2 ^ h, the places of a task. This crate alone calls it, with an h up to the rank.
 pub fn power(h: usize) -> u64
     requires { ⌜ h ≤ 6 ⌝ }
     ensures { λ r. ⌜ r ≡ 2 ^ h ⌝ }

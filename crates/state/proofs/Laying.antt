@@ -1,18 +1,18 @@
--- Numbers of 64 bits laid one after the other, the three of a value, and a list that is overwritten whole.
+-- Numbers of 64 bits laid one after the other, the three of a value, a list that is overwritten whole, and rows that are laid one by one.
 use mathlib.Core.Path.{_≡_, refl, sym, ap, _∙_}
 use mathlib.Core.List.{List, [], _∷_, _++_, append-nil, append-assoc}
-use Prim.Native.Nat.{ℕ, zero, suc, _+_, _*_}
+use Prim.Native.Nat.{ℕ, zero, suc, _+_, _*_, _<_, _≤_}
 use native.Mathlib.Omega.{arith}
 use mir.Syntax.{w64}
 use mir.Val.{ofZ, toZ, SFits}
 use mir.ValLaws.{toZ-ofZ}
 use lib.IntN.{ℤ}
 use lib.ListN.{length, length-append, drop-of-length-le}
-use lib.Seq.{sets, sets-eq}
+use lib.Seq.{sets, sets-eq, length-sets}
 use Rattle.int64.specs.Little.{bytesOf}
 use Rattle.int64.proofs.Little.{length-bytesOf}
 use Rattle.image.specs.Layout.{rows}
-use Rattle.image.proofs.Rows.{placed}
+use Rattle.image.proofs.Rows.{placed, row-placed}
 use Rattle.task.specs.declared.Value.{Value}
 use Rattle.task.specs.declared.Value.the-variants.{Int, Label, Record}
 use Rattle.state.specs.Numbers.{valueNumbers, inBytes}
@@ -69,3 +69,26 @@ int-placed v z l l₁ at u e f b p =
     p
     ∙ ap (λ (n : ℕ). sets l at (inBytes (0 ∷ n ∷ 0 ∷ []))) (b ∙ ap (ofZ w64) (toZ-ofZ w64 z f))
     ∙ ap (λ (w : Value). sets l at (inBytes (valueNumbers w))) (sym e)
+
+-- ---- rows laid one by one
+
+-- so far: the first i of n rows, from `at` on
+pub record Laid (f : ℕ → List ℕ) (n : ℕ) (l : List ℕ) (at i : ℕ) (l′ : List ℕ) : Type 0 where
+  pub at-most : i ≤ n
+  pub rows-there : l′ ≡ sets l at (rows f i)
+
+module _ (f : ℕ → List ℕ) (n : ℕ) (l : List ℕ) (at : ℕ) where
+  pub laid-none : Laid f n l at 0 l
+  unfolding rows
+  laid-none = record { at-most = omega arith; rows-there = refl }
+
+  pub laid-more : (width : ℕ) → ((i : ℕ) → length (f i) ≡ width) → (i : ℕ) (l₁ l₂ : List ℕ) → Laid f n l at i l₁ → i < n
+      → l₂ ≡ sets l₁ (at + width * i) (f i) → Laid f n l at (i + 1) l₂
+  laid-more width even i l₁ l₂ x h e = record { at-most = omega arith; rows-there = row-placed f width even l l₁ l₂ at i (x .rows-there) e }
+
+  pub laid-all : (i : ℕ) (l′ : List ℕ) → Laid f n l at i l′ → n ≤ i → l′ ≡ sets l at (rows f n)
+  laid-all i l′ x h = let e : i ≡ n = omega (arith, x .at-most) in x .rows-there ∙ ap (λ (k : ℕ). sets l at (rows f k)) e
+
+  -- the buffer keeps its length
+  pub laid-length : (i : ℕ) (l′ : List ℕ) → Laid f n l at i l′ → length l′ ≡ length l
+  laid-length i l′ x = ap length (x .rows-there) ∙ length-sets l at (rows f i)

@@ -4,8 +4,10 @@ pub mod StateLaws
 pub mod Tables
 pub mod Rooms
 pub mod Filling
+pub mod Zeros
 pub mod NumbersAt
 pub mod Alternatives
 pub mod TaskTrip
+pub mod ValuesTrip
 pub mod StateTrip
 pub mod RoundTrip

@@ -39,6 +39,11 @@ module _ (bytes : List ℕ) (at : ℕ) where
   unfolding table
   three-from = ap (λ (n : ℕ). numberAt bytes n ∷ numberAt bytes (at + 8) ∷ numberAt bytes (at + 16) ∷ []) (add-zero at)
 
+-- a single number
+pub one-there : (bytes : List ℕ) (at x : ℕ) → numberAt bytes at ≡ x → NumbersAt bytes at (x ∷ [])
+one-there bytes at x e zero q = ap (numberAt bytes) (add-zero at) ∙ e
+one-there bytes at x e (suc j) q = absurd (omega arith)
+
 -- ---- parts
 
 module _ (bytes : List ℕ) (at : ℕ) where
@@ -114,8 +119,7 @@ numbers-written before (x ∷ xs) small =
     (numbers-written (before ++ bytesOf 8 x) xs (λ i. small (suc i))))
   where
     first : NumbersAt (before ++ (bytesOf 8 x ++ inBytes xs)) (length before) (x ∷ [])
-    first zero q = ap (numberAt (before ++ (bytesOf 8 x ++ inBytes xs))) (add-zero (length before)) ∙ little-written 8 x before (inBytes xs) (small 0)
-    first (suc j) q = absurd (omega arith)
+    first = one-there (before ++ (bytesOf 8 x ++ inBytes xs)) (length before) x (little-written 8 x before (inBytes xs) (small 0))
 
 -- ---- lists of numbers of 64 bits
 

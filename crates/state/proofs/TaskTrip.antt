@@ -19,6 +19,7 @@ use Rattle.task.specs.Frames.{zeroFork}
 use Rattle.task.proofs.EveryLaws.{every-at, every-from}
 use Rattle.state.specs.Numbers.{valueNumbers}
 use Rattle.state.specs.State.{statusNumber, faultNumber, forkNumbers, taskNumbers}
+use Rattle.state.specs.Places.{heightAt}
 use Rattle.state.specs.Reading.{table, numberAt, isStatus, statusOf, standsValue, registerIn, standsFork, forkIn, standsTask, taskIn}
 use Rattle.state.specs.Fields.{ValueInField, ForkInField, TaskInFields}
 use Rattle.state.proofs.Tables.{length-table, getD-table, list-table, table-same, table-list, table-keeps}
@@ -87,8 +88,8 @@ module _ (bytes : List ℕ) (at : ℕ) where
   unfolding table taskIn
   seven-from = ap (λ (n : ℕ). numberAt bytes n ∷ numberAt bytes (at + 8) ∷ drop 2 (head (taskIn bytes at))) (add-zero at)
 
-  -- read again
-  module _ (t : Task) (f : TaskInFields t) (h : NumbersAt bytes at (taskNumbers t)) where
+  -- read again; the stack's height stands beside the stack
+  module _ (t : Task) (f : TaskInFields t) (h : NumbersAt bytes at (taskNumbers t)) (top : numberAt bytes (at + heightAt) ≡ t .height) where
     fork-place : (i : ℕ) → i < 6 → NumbersAt bytes (at + 56 + 16 * i) (fork t i)
     fork-place = numbers-row bytes (at + 56) (fork t) 2 (λ i. refl) 6 (numbers-after bytes at (head t) (rows (fork t) 6) (at + 56) refl h)
 
@@ -109,7 +110,8 @@ module _ (bytes : List ℕ) (at : ℕ) where
         (true-both (has-room (number 4 (omega arith)) (f .counter))
         (true-both (has-room (number 5 (omega arith)) (f .span))
         (true-both (has-room (number 6 (omega arith)) (f .depth))
-        (every-from (λ i. standsFork bytes (at + 56 + 16 * i)) 6 0 (λ i p q. fork-read i q .0))))))
+        (true-both (has-room top (f .height))
+        (every-from (λ i. standsFork bytes (at + 56 + 16 * i)) 6 0 (λ i p q. fork-read i q .0)))))))
 
     status-read : statusOf (numberAt bytes at) (numberAt bytes (at + 8)) ≡ t .status
     status-read = ap₂ statusOf status-number (number 1 (omega arith)) ∙ status-again (t .status) (f .fault) .1
@@ -129,6 +131,7 @@ module _ (bytes : List ℕ) (at : ℕ) where
           counter = number 4 (omega arith) i;
           span = number 5 (omega arith) i;
           depth = number 6 (omega arith) i;
+          height = top i;
           forks = forks-again i;
         }
 
@@ -153,6 +156,7 @@ module _ (bytes : List ℕ) (at : ℕ) where
       counter = stood .counter;
       span = stood .span;
       depth = stood .depth;
+      height = stood .height;
       six-forks = length-table (λ i. forkIn bytes (at + 56 + 16 * i)) 6;
       forks = table-keeps ForkInField (λ i. forkIn bytes (at + 56 + 16 * i)) 6 zeroFork (λ i q. fork-stood i q .0) (omega arith);
     }

@@ -29,6 +29,7 @@ pub record TaskInFields (t : Task) : Type 0 where
   pub counter : t .counter < 2 ^ 32
   pub span : t .span < 2 ^ 32
   pub depth : t .depth < 2 ^ 32
+  pub height : t .height < 2 ^ 32
   pub six-forks : length (t .forks) ≡ 6
   pub forks : (i : ℕ) → ForkInField (getD (t .forks) i zeroFork)
 
@@ -38,4 +39,5 @@ pub record InFields (m : State) : Type 0 where
   pub work : m .work < 2 ^ 32
   pub sized : Sized m
   pub registers : (i : ℕ) → ValueInField (getD (m .bank) i zeroRegister .value)
+  pub entries : (i : ℕ) → ValueInField (getD (m .stacks) i zeroRegister .value)
   pub tasks : (k : ℕ) → k < 64 → TaskInFields (getD (m .tasks) k noTask)

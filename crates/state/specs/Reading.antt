@@ -1,13 +1,13 @@
 -- Which state a buffer of bytes stands for. A number that its field has no room for is never cut to size: such bytes stand for no state.
 use mathlib.Core.Bool.{Bool, cond, _&&_}
 use mathlib.Core.List.{List, [], _∷_, _++_}
-use Prim.Native.Nat.{ℕ, zero, suc, _+_, _*_, _/_, _%_, _^_}
+use Prim.Native.Nat.{ℕ, zero, suc, _+_, _*_, _^_}
 use mir.Syntax.{w64}
 use mir.Val.{toZ}
 use lib.Dec.{eqb, ltb, leb}
-use lib.ListN.{length}
+use lib.ListN.{length, getD}
 use Rattle.int64.specs.Little.{little}
-use Rattle.task.specs.Frames.{bankLength}
+use Rattle.task.specs.Frames.{bankLength, stackLength, stacksLength}
 use Rattle.task.specs.declared.Value.{Value}
 use Rattle.task.specs.declared.Value.the-variants.{Int, Label, Record}
 use Rattle.task.specs.declared.Register.{Register}
@@ -17,6 +17,7 @@ use Rattle.task.specs.declared.Fork.{Fork}
 use Rattle.task.specs.declared.Task.{Task}
 use Rattle.task.specs.Formed.{every}
 use Rattle.drive.specs.declared.State.{State}
+use Rattle.state.specs.Places.{registersAt, heightAt, stackAt, slotPlace, registerPlace, entryPlace}
 use Rattle.state.specs.State.{stateLength}
 
 -- f 0, f 1, .. (n of them)
@@ -27,6 +28,10 @@ table f (suc n) = table f n ++ (f n ∷ [])
 -- the number of 64 bits at this offset
 abbrev pub numberAt : List ℕ → ℕ → ℕ
 numberAt bytes at = little 8 bytes at
+
+-- n bytes from this offset on, all 0
+abbrev pub isClear : List ℕ → ℕ → ℕ → Bool
+isClear bytes at n = every (λ i. eqb (getD bytes (at + i) 0) 0) n 0
 
 -- room in a field
 abbrev pub in16 : ℕ → Bool
@@ -52,6 +57,10 @@ standsValue bytes at = isValue (numberAt bytes at) (numberAt bytes (at + 8)) (nu
 abbrev pub registerIn : List ℕ → ℕ → Register
 registerIn bytes at = record { value = valueOf (numberAt bytes at) (numberAt bytes (at + 8)) (numberAt bytes (at + 16)) }
 
+-- n values, the first at this offset
+abbrev pub standsValues : List ℕ → ℕ → ℕ → Bool
+standsValues bytes at n = every (λ i. standsValue bytes (at + 24 * i)) n 0
+
 -- ---- A status: its number and a fault number
 
 unfoldable pub isStatus : ℕ → ℕ → Bool
@@ -64,7 +73,7 @@ statusOf status fault =
     (cond (eqb status 2) Waiting
     (cond (eqb status 3) Halted (Faulted fault))))
 
--- ---- A fork, and a task record: 152 bytes
+-- ---- A fork, and the task record of a slot that begins at this offset
 
 abbrev pub standsFork : List ℕ → ℕ → Bool
 standsFork bytes at = in32 (numberAt bytes at) && in32 (numberAt bytes (at + 8))
@@ -78,7 +87,8 @@ standsTask bytes at =
     && (in16 (numberAt bytes (at + 24))
     && (in32 (numberAt bytes (at + 32))
     && (in32 (numberAt bytes (at + 40))
-    && (in32 (numberAt bytes (at + 48)) && every (λ i. standsFork bytes (at + 56 + 16 * i)) 6 0))))
+    && (in32 (numberAt bytes (at + 48))
+    && (in32 (numberAt bytes (at + heightAt)) && every (λ i. standsFork bytes (at + 56 + 16 * i)) 6 0)))))
 
 unfoldable pub taskIn : List ℕ → ℕ → Task
 taskIn bytes at = record {
@@ -88,25 +98,23 @@ taskIn bytes at = record {
   counter = numberAt bytes (at + 32);
   span = numberAt bytes (at + 40);
   depth = numberAt bytes (at + 48);
+  height = numberAt bytes (at + heightAt);
   forks = table (λ i. forkIn bytes (at + 56 + 16 * i)) 6;
 }
 
--- ---- The state: three numbers, then 64 slots of 536 bytes
+-- ---- A slot, and the state
 
-abbrev pub slotPlace : ℕ → ℕ
-slotPlace k = 24 + 536 * k
-
--- where the bank's register i stands: slot i / 16 has it as its register i % 16
-abbrev pub registerPlace : ℕ → ℕ
-registerPlace i = slotPlace (i / 16) + 152 + 24 * (i % 16)
+-- the task record, the registers, and the stack's values
+unfoldable pub standsSlot : List ℕ → ℕ → Bool
+standsSlot bytes at =
+    standsTask bytes at && (standsValues bytes (at + registersAt) 16 && standsValues bytes (at + stackAt) stackLength)
 
 -- the bytes stand for a state: a buffer of its length, whose numbers all are within their fields
 unfoldable pub standsState : List ℕ → Bool
 standsState bytes =
     eqb (length bytes) stateLength
     && (in16 (numberAt bytes 8)
-    && (in32 (numberAt bytes 16)
-    && (every (λ k. standsTask bytes (slotPlace k)) 64 0 && every (λ i. standsValue bytes (registerPlace i)) bankLength 0)))
+    && (in32 (numberAt bytes 16) && every (λ k. standsSlot bytes (slotPlace k)) 64 0))
 
 -- then this is it
 unfoldable pub stateIn : List ℕ → State
@@ -115,5 +123,6 @@ stateIn bytes = record {
   interval = numberAt bytes 8;
   work = numberAt bytes 16;
   bank = table (λ i. registerIn bytes (registerPlace i)) bankLength;
+  stacks = table (λ i. registerIn bytes (entryPlace i)) stacksLength;
   tasks = table (λ k. taskIn bytes (slotPlace k)) 64;
 }

@@ -1,4 +1,12 @@
 // The state's bytes read again: whether they stand for a state, and then the state. Each number is compared whole with its field's room.
+use crate::HEIGHT_AT;
+use crate::REGISTERS_AT;
+use crate::STACK_AT;
+use crate::clear::begins_clear;
+use crate::clear::is_clear;
+use crate::places::entry_place;
+use crate::places::register_place;
+use crate::places::slot_place;
 use drive::State;
 use task::Fork;
 use task::Register;
@@ -7,13 +15,14 @@ use task::Task;
 use task::Value;
 ghost use mathlib.Core.Path.{_≡_};
 ghost use mathlib.Core.Bool.{true};
-ghost use Prim.Native.Nat.{_+_, _*_, _≤_, _<_};
+ghost use Prim.Native.Nat.{_+_, _*_, _≤_};
 ghost use lib.ListN.{length};
 ghost use Rattle.task.specs.Formed.{every};
 ghost use Rattle.state.specs.State.{stateLength};
-ghost use Rattle.state.specs.Reading.{table, numberAt, in16, in32, isValue, standsValue, registerIn, isStatus, statusOf};
-ghost use Rattle.state.specs.Reading.{standsFork, forkIn, standsTask, taskIn, slotPlace, registerPlace, standsState, stateIn};
-ghost use Rattle.task.specs.Frames.{bankLength};
+ghost use Rattle.state.specs.Places.{slotBytes, slotPlace, registerPlace, entryPlace};
+ghost use Rattle.state.specs.Reading.{table, numberAt, in16, in32, isValue, standsValue, registerIn, standsValues, isStatus, statusOf};
+ghost use Rattle.state.specs.Reading.{standsFork, forkIn, standsTask, taskIn, standsSlot, standsState, stateIn};
+ghost use Rattle.task.specs.Frames.{bankLength, stacksLength};
 
 // ---- Whether the bytes stand for a state
 
@@ -69,6 +78,24 @@ fn stands_value(bytes: &[u8], at: usize) -> bool
     is_value(kind, a, b)
 }
 
+// Whether n values stand there, one after the other. Most are 0, and then no look at each is needed.
+fn stands_values(bytes: &[u8], at: usize, n: usize) -> bool
+    requires { ⌜ at + 24 * n ≤ length (now bytes) ⌝ }
+    ensures { λ r. ⌜ r ≡ standsValues (now (bytes .entry)) at n ⌝ }
+{
+    if is_clear(bytes, at, 24 * n) {
+        return true;
+    }
+    let mut i = 0;
+    while i < n {
+        if !stands_value(bytes, at + 24 * i) {
+            return false;
+        }
+        i = i + 1;
+    }
+    true
+}
+
 fn is_status(status: u64, fault: u64) -> bool
     ensures { λ r. ⌜ r ≡ isStatus status fault ⌝ }
 {
@@ -114,8 +141,9 @@ fn stands_forks(bytes: &[u8], at: usize) -> bool
     true
 }
 
+// The task record of the slot there.
 fn stands_task(bytes: &[u8], at: usize) -> bool
-    requires { ⌜ at + 152 ≤ length (now bytes) ⌝ }
+    requires { ⌜ at + slotBytes ≤ length (now bytes) ⌝ }
     ensures { λ r. ⌜ r ≡ standsTask (now (bytes .entry)) at ⌝ }
 {
     if !stands_status(bytes, at) {
@@ -133,41 +161,35 @@ fn stands_task(bytes: &[u8], at: usize) -> bool
     if !stands_32(bytes, at + 48) {
         return false;
     }
+    if !stands_32(bytes, at + HEIGHT_AT) {
+        return false;
+    }
     stands_forks(bytes, at + 56)
 }
 
-fn stands_tasks(bytes: &[u8]) -> bool
+fn stands_slot(bytes: &[u8], at: usize) -> bool
+    requires { ⌜ at + slotBytes ≤ length (now bytes) ⌝ }
+    ensures { λ r. ⌜ r ≡ standsSlot (now (bytes .entry)) at ⌝ }
+{
+    if !stands_task(bytes, at) {
+        return false;
+    }
+    if !stands_values(bytes, at + REGISTERS_AT, 16) {
+        return false;
+    }
+    stands_values(bytes, at + STACK_AT, task::STACK)
+}
+
+fn stands_slots(bytes: &[u8]) -> bool
     requires { ⌜ length (now bytes) ≡ stateLength ⌝ }
-    ensures { λ r. ⌜ r ≡ every (λ k. standsTask (now (bytes .entry)) (slotPlace k)) 64 0 ⌝ }
+    ensures { λ r. ⌜ r ≡ every (λ k. standsSlot (now (bytes .entry)) (slotPlace k)) 64 0 ⌝ }
 {
     let mut k = 0;
     while k < 64 {
-        if !stands_task(bytes, 24 + 536 * k) {
+        if !stands_slot(bytes, slot_place(k)) {
             return false;
         }
         k = k + 1;
-    }
-    true
-}
-
-// Where register i of the bank stands.
-fn register_place(i: usize) -> usize
-    requires { ⌜ i < bankLength ⌝ }
-    ensures { λ r. ⌜ (r ≡ registerPlace i) × (r + 24 ≤ stateLength) ⌝ }
-{
-    24 + 536 * (i / 16) + 152 + 24 * (i % 16)
-}
-
-fn stands_bank(bytes: &[u8]) -> bool
-    requires { ⌜ length (now bytes) ≡ stateLength ⌝ }
-    ensures { λ r. ⌜ r ≡ every (λ i. standsValue (now (bytes .entry)) (registerPlace i)) bankLength 0 ⌝ }
-{
-    let mut i = 0;
-    while i < task::BANK {
-        if !stands_value(bytes, register_place(i)) {
-            return false;
-        }
-        i = i + 1;
     }
     true
 }
@@ -184,10 +206,7 @@ pub fn stands_state(bytes: &[u8]) -> bool
     if !stands_32(bytes, 16) {
         return false;
     }
-    if !stands_tasks(bytes) {
-        return false;
-    }
-    stands_bank(bytes)
+    stands_slots(bytes)
 }
 
 // ---- The state that they stand for. `read_state` ensures what the others ask: the bytes stand for a state
@@ -262,7 +281,7 @@ fn read_forks(bytes: &[u8], at: usize) -> [Fork; 6]
 }
 
 fn read_task(bytes: &[u8], at: usize) -> Task
-    requires { ⌜ (at + 152 ≤ length (now bytes)) × (standsTask (now bytes) at ≡ true) ⌝ }
+    requires { ⌜ (at + slotBytes ≤ length (now bytes)) × (standsTask (now bytes) at ≡ true) ⌝ }
     ensures { λ r. ⌜ r ≡ taskIn (now (bytes .entry)) at ⌝ }
 {
     let status = status_of(int64::read_u64(bytes, at), int64::read_u64(bytes, at + 8));
@@ -271,6 +290,7 @@ fn read_task(bytes: &[u8], at: usize) -> Task
     let counter = int64::read_u64(bytes, at + 32);
     let span = int64::read_u64(bytes, at + 40);
     let depth = int64::read_u64(bytes, at + 48);
+    let height = int64::read_u64(bytes, at + HEIGHT_AT);
     let forks = read_forks(bytes, at + 56);
     Task {
         status,
@@ -279,25 +299,26 @@ fn read_task(bytes: &[u8], at: usize) -> Task
         counter: counter as u32,
         span: span as u32,
         depth: depth as u32,
+        height: height as u32,
         forks,
     }
 }
 
 fn read_tasks(bytes: &[u8]) -> [Task; 64]
-    requires { ⌜ (length (now bytes) ≡ stateLength) × (every (λ k. standsTask (now bytes) (slotPlace k)) 64 0 ≡ true) ⌝ }
+    requires { ⌜ standsState (now bytes) ≡ true ⌝ }
     ensures { λ r. ⌜ r ≡ table (λ k. taskIn (now (bytes .entry)) (slotPlace k)) 64 ⌝ }
 {
     let mut tasks = [drive::slots::vacant_task(); 64];
     let mut k = 0;
     while k < 64 {
-        tasks[k] = read_task(bytes, 24 + 536 * k);
+        tasks[k] = read_task(bytes, slot_place(k));
         k = k + 1;
     }
     tasks
 }
 
 fn read_bank(bytes: &[u8]) -> [Register; task::BANK]
-    requires { ⌜ (length (now bytes) ≡ stateLength) × (every (λ i. standsValue (now bytes) (registerPlace i)) bankLength 0 ≡ true) ⌝ }
+    requires { ⌜ standsState (now bytes) ≡ true ⌝ }
     ensures { λ r. ⌜ r ≡ table (λ i. registerIn (now (bytes .entry)) (registerPlace i)) bankLength ⌝ }
 {
     let mut bank = [Register {
@@ -305,10 +326,35 @@ fn read_bank(bytes: &[u8]) -> [Register; task::BANK]
     }; task::BANK];
     let mut i = 0;
     while i < task::BANK {
-        bank[i] = read_register(bytes, register_place(i));
+        let at = register_place(i);
+        if begins_clear(bytes, at, i % 16, 16) {
+            i = i + 16;
+            continue;
+        }
+        bank[i] = read_register(bytes, at);
         i = i + 1;
     }
     bank
+}
+
+fn read_stacks(bytes: &[u8]) -> [Register; task::STACKS]
+    requires { ⌜ standsState (now bytes) ≡ true ⌝ }
+    ensures { λ r. ⌜ r ≡ table (λ i. registerIn (now (bytes .entry)) (entryPlace i)) stacksLength ⌝ }
+{
+    let mut stacks = [Register {
+        value: Value::Int(0),
+    }; task::STACKS];
+    let mut i = 0;
+    while i < task::STACKS {
+        let at = entry_place(i);
+        if begins_clear(bytes, at, i % task::STACK, task::STACK) {
+            i = i + task::STACK;
+            continue;
+        }
+        stacks[i] = read_register(bytes, at);
+        i = i + 1;
+    }
+    stacks
 }
 
 // `steps` calls it, after `stands_state` has answered with yes.
@@ -320,12 +366,14 @@ pub fn read_state(bytes: &[u8]) -> State
     let interval = int64::read_u64(bytes, 8);
     let work = int64::read_u64(bytes, 16);
     let bank = read_bank(bytes);
+    let stacks = read_stacks(bytes);
     let tasks = read_tasks(bytes);
     State {
         places,
         interval: interval as u16,
         work: work as u32,
         bank,
+        stacks,
         tasks,
     }
 }

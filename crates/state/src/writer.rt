@@ -1,7 +1,11 @@
 // The state's bytes, written.
+use crate::HEIGHT_AT;
+use crate::REGISTERS_AT;
+use crate::STACK_AT;
 use crate::numbers::write_register;
 use crate::numbers::write_three;
 use crate::numbers::write_two;
+use crate::places::slot_place;
 use drive::State;
 use task::Fork;
 use task::Status;
@@ -51,6 +55,7 @@ fn write_forks(out: &mut [u8], at: usize, forks: [Fork; 6])
     }
 }
 
+// A task record; its stack's height stands beside the stack.
 fn write_task(out: &mut [u8], at: usize, t: Task)
     requires { ⌜ at + 152 ≤ length (now out) ⌝ }
     ensures { λ _. ⌜ now (out .exit) ≡ sets (now (out .entry)) at (inBytes (taskNumbers t)) ⌝ }
@@ -63,21 +68,28 @@ fn write_task(out: &mut [u8], at: usize, t: Task)
     write_forks(out, at + 56, forks);
 }
 
-// Both loops are here, and the state is not handed on, so that it is not copied for every slot.
+// All loops over the slots are here, and the state is not handed on, so that it is not copied for every slot.
 fn write_slots(m: State, out: &mut [u8])
     requires { ⌜ length (now out) ≡ stateLength ⌝ }
     ensures { λ _. ⌜ now (out .exit) ≡ sets (now (out .entry)) 24 (rows (λ k. inBytes (slotNumbers m k)) 64) ⌝ }
 {
     let mut k = 0;
     while k < 64 {
-        let at = 24 + 536 * k;
+        let at = slot_place(k);
         let t = m.tasks[k];
         write_task(out, at, t);
         let mut i = 0;
         while i < 16 {
             let r = m.bank[16 * k + i];
-            write_register(out, at + 152 + 24 * i, r);
+            write_register(out, at + REGISTERS_AT + 24 * i, r);
             i = i + 1;
+        }
+        int64::write_u64(out, at + HEIGHT_AT, t.height as u64);
+        let mut j = 0;
+        while j < task::STACK {
+            let v = m.stacks[32 * k + j];
+            write_register(out, at + STACK_AT + 24 * j, v);
+            j = j + 1;
         }
         k = k + 1;
     }

@@ -7,7 +7,7 @@ use native.Mathlib.Omega.{arith}
 use lib.Dec.{eqb}
 use lib.ListN.{length}
 use borrow.Author.Tests.{eq-eqb, ne-eqb, eqb-true}
-use Rattle.image.specs.Layout.{programCells, blockCount, instructionCount, imageLength, imageOf}
+use Rattle.image.specs.Layout.{programCells, versionOf, blockCount, instructionCount, imageLength, imageOf}
 use Rattle.image.specs.Questions.{ask, orElse, programNo}
 use Rattle.image.specs.Doors as doors
 use Rattle.image.specs.Doors.{imageNo, writeNo, unlessRefused}
@@ -73,7 +73,7 @@ module _ (program : List ℕ) (lent : ℕ) where
   cells = cellsOf program
 
   abbrev image : ℕ
-  image = imageLength (blockCount cells) (instructionCount cells)
+  image = imageLength (versionOf cells) (blockCount cells) (instructionCount cells)
 
   pub write-refused : (r : ℕ) → r ≡ programNo (cellsOf program) → (r ≡ 0 → ⊥) → r ≡ writtenNo program lent
   unfolding writtenNo doors.writeNo

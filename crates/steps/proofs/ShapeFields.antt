@@ -6,10 +6,10 @@ use mathlib.Core.List.{List}
 use Prim.Native.Nat.{ℕ, _+_, _*_, _/_, _%_, _^_, _≤_, _<_}
 use native.Mathlib.Omega.{arith}
 use native.Mathlib.Nat.{pow-le-pow-right}
-use lib.Dec.{eqb, ltb, leb}
+use lib.Dec.{eqb, ltb}
 use lib.ListN.{length, getD, List·getD-eq-default}
-use borrow.Author.Tests.{eqb-true, ltb-true, leb-true}
-use Rattle.facts.proofs.Tests.{by-below, both-true}
+use borrow.Author.Tests.{eqb-true, ltb-true}
+use Rattle.facts.proofs.Tests.{by-below, both-true, clash}
 use Rattle.image.specs.Layout.{blockCount, programOf}
 use Rattle.image.proofs.Accepted.{Accepted, accepted}
 use Rattle.task.specs.declared.Value.{Value}
@@ -19,11 +19,11 @@ use Rattle.task.specs.declared.Status.{Status}
 use Rattle.task.specs.declared.Status.the-variants.{Vacant, Running, Waiting, Halted, Faulted}
 use Rattle.task.specs.declared.Fork.{Fork}
 use Rattle.task.specs.declared.Frame.{Frame}
-use Rattle.task.specs.Frames.{zeroRegister, zeroFork, vacant, workLimit}
-use Rattle.task.specs.Step.{register}
-use Rattle.task.specs.Formed.{valueFits, forkFits, statusFits}
+use Rattle.task.specs.Frames.{stackLength, zeroRegister, zeroFork, vacant, workLimit}
+use Rattle.task.specs.Step.{register, entry}
+use Rattle.task.specs.Formed.{valueFits, entryFits, forkFits, faultListed, statusFits}
 use Rattle.task.proofs.Facts.{constant-at}
-use Rattle.task.proofs.Formation.{Formed, target-below}
+use Rattle.task.proofs.Formation.{Formed, target-below, listed-within}
 use Rattle.task.proofs.Counts.{Within}
 use Rattle.task.proofs.StretchLaws.{getD-reads}
 use Rattle.drive.specs.declared.State.{State}
@@ -41,15 +41,13 @@ use Rattle.steps.proofs.StepFields.{NarrowValue, NarrowFork, Narrow, ze
 
 -- ---- the parts of a live frame
 
-fault-small : (f : Frame) (s : Status) → statusFits f s ≡ true → faultNumber s < 256
-fault-small f Vacant e = omega arith
-fault-small f Running e = omega arith
-fault-small f Waiting e = omega arith
-fault-small f Halted e = omega arith
-fault-small f (Faulted n) e =
-    let p = both-true (leb 31 n) _ e in
-    let q = both-true (leb n 38) _ (p .1) in
-    omega (arith, leb-true n 38 (q .0))
+fault-small : (version : ℕ) (f : Frame) (s : Status) → statusFits version f s ≡ true → faultNumber s < 256
+fault-small version f Vacant e = omega arith
+fault-small version f Running e = omega arith
+fault-small version f Waiting e = omega arith
+fault-small version f Halted e = omega arith
+fault-small version f (Faulted n) e =
+    omega (arith, listed-within version n (both-true (faultListed version n) _ e .0) .1)
 
 -- past the sixth there is no fork
 all-forks : (l : List Fork) → length l ≡ 6 → ((i : ℕ) → i < 6 → ForkInField (getD l i zeroFork)) → (i : ℕ) → ForkInField (getD l i zeroFork)
@@ -61,11 +59,13 @@ RegisterInField r = ValueInField (r .value)
 
 record FrameInFields (f : Frame) : Type 0 where
   registers : (i : ℕ) → RegisterInField (getD (f .registers) i zeroRegister)
+  entries : (i : ℕ) → RegisterInField (getD (f .stack) i zeroRegister)
   task : TaskInFields (f .task)
 
 vacant-in-fields : FrameInFields vacant
 vacant-in-fields = record {
   registers = λ i. subst⁻¹ RegisterInField (constant-at 16 i zeroRegister) zero-narrow;
+  entries = λ i. subst⁻¹ RegisterInField (constant-at stackLength i zeroRegister) zero-narrow;
   task = record {
     fault = omega arith;
     places = omega arith;
@@ -73,6 +73,7 @@ vacant-in-fields = record {
     counter = omega arith;
     span = omega arith;
     depth = omega arith;
+    height = omega arith;
     six-forks = refl;
     forks = λ i. subst⁻¹ ForkInField (constant-at 6 i zeroFork) (omega arith, omega arith);
   };
@@ -83,6 +84,13 @@ module _ (cells : List ℕ) (ok : Accepted cells) where
   value-in-field (Int z) e x = x
   value-in-field (Label b) e x = omega (arith, ltb-true b (blockCount cells) e, ok .few-blocks)
   value-in-field (Record c d) e x = (omega (arith, target-below (programOf cells) c e, ok .few-blocks), x)
+
+  -- above the height there is integer 0
+  entry-in-field : (t : Bool) (v : Value) → entryFits (programOf cells) t v ≡ true → NarrowValue v → ValueInField v
+  entry-in-field true v e x = value-in-field v e x
+  entry-in-field false (Int z) e x = x
+  entry-in-field false (Label b) e x = clash e refl
+  entry-in-field false (Record c d) e x = clash e refl
 
   fork-in-field : (t : Bool) (k : Fork) → forkFits (programOf cells) t k ≡ true → NarrowFork k → ForkInField k
   fork-in-field true k e x = (omega (arith, target-below (programOf cells) (k .continuation) e, ok .few-blocks), x)
@@ -96,13 +104,15 @@ module _ (cells : List ℕ) (ok : Accepted cells) where
         let most : 2 ^ h ≤ 2 ^ 6 = pow-le-pow-right {n = 2} (omega arith) low in
         record {
           registers = λ i. value-in-field (register f i) (x .values-fit i) (n .values i);
+          entries = λ i. entry-in-field (ltb i (f .task .height)) (entry f i) (x .entries-fit i) (n .entries i);
           task = record {
-            fault = fault-small f (f .task .status) (x .status-fits);
+            fault = fault-small (programOf cells .version) f (f .task .status) (x .status-fits);
             places = omega (arith, x .has-places);
             pc = omega (arith, x .pc-below, ok .few-instructions);
             counter = omega (arith, w .counter-most);
             span = omega (arith, w .span-most);
             depth = omega (arith, x .has-depth);
+            height = omega (arith, x .height-most);
             six-forks = x .forks-full;
             forks = all-forks (f .task .forks) (x .forks-full)
                 (λ i b. fork-in-field (ltb i (f .task .depth)) (getD (f .task .forks) i zeroFork) (x .forks-fit i b) (n .forks i));
@@ -125,6 +135,13 @@ fits-in-fields {cells} {interval} {places} allowed m x limited n = record {
       (subst RegisterInField (getD-reads zeroRegister (m .bank) (16 * (j / 16)) 16 (j % 16) (omega arith))
       (framed (j / 16) (omega arith) .registers (j % 16))))
       (λ b. subst⁻¹ RegisterInField (List·getD-eq-default (m .bank) zeroRegister {n = j} (omega (arith, x .sized .of-bank))) zero-narrow);
+  entries = λ j.
+      by-below j 2048
+      (λ b. let e : 32 * (j / 32) + j % 32 ≡ j = omega arith in
+      subst (λ (i : ℕ). RegisterInField (getD (m .stacks) i zeroRegister)) e
+      (subst RegisterInField (getD-reads zeroRegister (m .stacks) (32 * (j / 32)) 32 (j % 32) (omega arith))
+      (framed (j / 32) (omega arith) .entries (j % 32))))
+      (λ b. subst⁻¹ RegisterInField (List·getD-eq-default (m .stacks) zeroRegister {n = j} (omega (arith, x .sized .of-stacks))) zero-narrow);
   tasks = λ k b. framed k b .task;
 }
   where

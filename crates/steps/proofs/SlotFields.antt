@@ -10,7 +10,7 @@ use Rattle.task.specs.declared.Value.{Value}
 use Rattle.task.specs.declared.Value.the-variants.{Int, Label, Record}
 use Rattle.task.specs.declared.Task.{Task}
 use Rattle.task.specs.declared.Frame.{Frame}
-use Rattle.task.specs.Frames.{zeroRegister, zeroFork, noTask}
+use Rattle.task.specs.Frames.{stackLength, zeroRegister, zeroFork, noTask}
 use Rattle.task.proofs.Facts.{set-keeps}
 use Rattle.task.specs.Stretches.{reads}
 use Rattle.task.proofs.StretchLaws.{length-reads, getD-reads}
@@ -41,6 +41,11 @@ put-narrow m k f i x y = record {
       (λ j h. sets-keep NarrowRegister zeroRegister (reads zeroRegister (f .registers) 0 16) (m .bank) (16 * k) (16 * i + j)
       (reads-each NarrowRegister zeroRegister (f .registers) zero-narrow 0 16 (λ j h. x .values (0 + j)))
       (subst NarrowRegister (getD-reads zeroRegister (m .bank) (16 * i) 16 j h) (y .values j)));
+  entries =
+      reads-each NarrowRegister zeroRegister (put m k f .stacks) zero-narrow (32 * i) stackLength
+      (λ j h. sets-keep NarrowRegister zeroRegister (reads zeroRegister (f .stack) 0 stackLength) (m .stacks) (32 * k) (32 * i + j)
+      (reads-each NarrowRegister zeroRegister (f .stack) zero-narrow 0 stackLength (λ j h. x .entries (0 + j)))
+      (subst NarrowRegister (getD-reads zeroRegister (m .stacks) (32 * i) stackLength j h) (y .entries j)));
   forks = λ j. put-tasks (λ (t : Task). NarrowFork (getD (t .forks) j zeroFork)) m k f i (x .forks j) (y .forks j);
 }
 
@@ -56,6 +61,9 @@ fields-narrow m x i = record {
   values =
       reads-each NarrowRegister zeroRegister (m .bank) zero-narrow (16 * i) 16
       (λ j h. value-narrow (getD (m .bank) (16 * i + j) zeroRegister .value) (x .registers (16 * i + j)));
+  entries =
+      reads-each NarrowRegister zeroRegister (m .stacks) zero-narrow (32 * i) stackLength
+      (λ j h. value-narrow (getD (m .stacks) (32 * i + j) zeroRegister .value) (x .entries (32 * i + j)));
   forks = λ j.
       by-below i 64
       (λ h. x .tasks i h .forks j .1)

@@ -26,14 +26,14 @@ use Rattle.task.specs.declared.Fork.{Fork}
 use Rattle.task.specs.declared.Active.{Active}
 use Rattle.task.specs.declared.Task.{Task}
 use Rattle.task.specs.declared.Frame.{Frame}
-use Rattle.task.specs.Frames.{zeroRegister, zeros, zeroFork, noForks, vacant, integers, startFrame, faultOf}
+use Rattle.task.specs.Frames.{stackLength, emptyStack, zeroRegister, zeros, zeroFork, noForks, vacant, integers, startFrame, faultOf}
 use Rattle.task.specs.Values.{truth}
 use Rattle.task.specs.Choices.{Choices, chosen}
-use Rattle.task.specs.Effect.{Effect, stores, continues, enters, forks, waits, halts, faults, asked, integer, label, effectOf}
-use Rattle.task.specs.Effect.{Op, move, plus, minus, times, divide, modulo, less, equal, word, ifJump, jralloc, fork, jump, halt, meet, unknown, opcodes}
-use Rattle.task.specs.Step.{register, operand, activeOf, counted, side, withTask, applied, step, copied, firstFault, joinedBy, join}
+use Rattle.task.specs.Effect.{Effect, stores, continues, pushes, pops, enters, forks, waits, halts, faults, asked, integer, label, effectOf}
+use Rattle.task.specs.Effect.{Op, move, plus, minus, times, divide, modulo, less, equal, word, ifJump, jralloc, fork, jump, halt, meet, push, pop, unknown, opcodes}
+use Rattle.task.specs.Step.{register, operand, activeOf, counted, side, withTask, emptied, faulted, hasPlace, hasValue, onward, pushed, popped, applied, step, copied, firstFault, joinedBy, join}
 use Rattle.task.proofs.Facts.{set-keeps, constant-at}
-use Rattle.task.proofs.Effects.{asked-keeps, integer-keeps, label-keeps, record-keeps, entered-keeps}
+use Rattle.task.proofs.Effects.{stack-keeps, asked-keeps, integer-keeps, label-keeps, record-keeps, entered-keeps}
 use Rattle.task.proofs.JoinKeeps.{copied-keeps}
 use Rattle.steps.specs.Fields.{IntegersInField}
 
@@ -51,6 +51,7 @@ NarrowFork k = k .depth < 2 ^ 32
 
 pub record Narrow (f : Frame) : Type 0 where
   pub values : (i : ℕ) → NarrowRegister (getD (f .registers) i zeroRegister)
+  pub entries : (i : ℕ) → NarrowRegister (getD (f .stack) i zeroRegister)
   pub forks : (i : ℕ) → NarrowFork (getD (f .task .forks) i zeroFork)
 
 -- ---- values
@@ -87,9 +88,36 @@ operand-narrow f x n = go (eqb (x .kind) 1) refl
 zeros-narrow : (i : ℕ) → NarrowRegister (getD zeros i zeroRegister)
 zeros-narrow i = rw (constant-at 16 i zeroRegister) zero-narrow
 
+empty-narrow : (i : ℕ) → NarrowRegister (getD emptyStack i zeroRegister)
+empty-narrow i = rw (constant-at stackLength i zeroRegister) zero-narrow
+
 -- the open forks stay, whatever else becomes of the task
 same-forks : (f : Frame) (t : Task) → Narrow f → t .forks ≡ f .task .forks → Narrow (withTask t f)
-same-forks f t n e = record { values = n .values; forks = λ i. rw e (n .forks i) }
+same-forks f t n e = record { values = n .values; entries = n .entries; forks = λ i. rw e (n .forks i) }
+
+emptied-narrow : (f : Frame) → Narrow f → Narrow (emptied f)
+emptied-narrow f n = record { values = n .values; entries = empty-narrow; forks = n .forks }
+
+faulted-narrow : (k : ℕ) (f : Frame) → Narrow f → Narrow (faulted k f)
+faulted-narrow k f n = record { values = zeros-narrow; entries = empty-narrow; forks = n .forks }
+
+pushed-narrow : (v : Value) (f : Frame) → NarrowValue v → Narrow f → Narrow (pushed v f)
+pushed-narrow v f x n = record {
+  values = n .values;
+  entries = λ i. set-keeps NarrowRegister (f .stack) (f .task .height) i (record { value = v }) zeroRegister x (n .entries i);
+  forks = n .forks;
+}
+
+-- the register gets an entry of the stack, whose place becomes integer 0
+popped-narrow : (r : ℕ) (f : Frame) → Narrow f → Narrow (popped r f)
+popped-narrow r f n = record {
+  values = λ i. set-keeps NarrowRegister (f .registers) r i (getD (f .stack) last zeroRegister) zeroRegister (n .entries last) (n .values i);
+  entries = λ i. set-keeps NarrowRegister (f .stack) last i zeroRegister zeroRegister zero-narrow (n .entries i);
+  forks = n .forks;
+}
+  where
+    last : ℕ
+    last = f .task .height - 1
 
 -- the task that goes on or ends, or the two sides of a fork
 abbrev pub AllNarrow : Stepped Frame → Type 0
@@ -100,6 +128,8 @@ AllNarrow (two p c) = Narrow p × Narrow c
 abbrev NarrowEffect : Effect → Type 0
 NarrowEffect (stores v) = NarrowValue v
 NarrowEffect continues = Unit {0}
+NarrowEffect (pushes v) = NarrowValue v
+NarrowEffect pops = Unit {0}
 NarrowEffect (enters b) = Unit {0}
 NarrowEffect (forks k b) = NarrowFork k
 NarrowEffect waits = Unit {0}
@@ -110,21 +140,29 @@ module _ (program : Program) (choices : Choices) (r : ℕ) (f : Frame) (n : Narr
   side-narrow : (k : Fork) (pc counter : ℕ) → NarrowFork k → Narrow (withTask (side k pc counter (f .task)) f)
   side-narrow k pc counter x = record {
     values = n .values;
+    entries = n .entries;
     forks = λ i. set-keeps NarrowFork (f .task .forks) (f .task .depth) i k zeroFork x (n .forks i);
   }
 
   applied-narrow : (e : Effect) → NarrowEffect e → AllNarrow (applied program choices r f e)
   applied-narrow (stores v) x = record {
     values = λ i. set-keeps NarrowRegister (f .registers) r i (record { value = v }) zeroRegister x (n .values i);
+    entries = n .entries;
     forks = n .forks;
   }
   applied-narrow continues x = same-forks f _ n refl
+  applied-narrow (pushes v) x =
+      stack-keeps Narrow (hasPlace (f .task)) (pushed v (onward f)) (faulted 42 f) (faulted-narrow 42 f n)
+      (λ e. pushed-narrow v (onward f) x (same-forks f _ n refl))
+  applied-narrow pops x =
+      stack-keeps Narrow (hasValue (f .task)) (popped r (onward f)) (faulted 43 f) (faulted-narrow 43 f n)
+      (λ e. popped-narrow r (onward f) (same-forks f _ n refl))
   applied-narrow (enters b) x =
       entered-keeps (λ t. Narrow (withTask t f)) program choices b (f .task) (same-forks f _ n refl) (same-forks f _ n refl)
-  applied-narrow (forks k b) x = (side-narrow k _ _ x, side-narrow k _ _ x)
+  applied-narrow (forks k b) x = (side-narrow k _ _ x, emptied-narrow _ (side-narrow k _ _ x))
   applied-narrow waits x = same-forks f _ n refl
   applied-narrow halts x = same-forks f _ n refl
-  applied-narrow (faults k) x = record { values = zeros-narrow; forks = n .forks }
+  applied-narrow (faults k) x = faulted-narrow k f n
 
 module _ (program : Program) (words : List ℤ) (interval : ℕ) (fit : IntegersInField words) (t : Active) (opened : List Fork) (shallow : t .depth < 2 ^ 32)
     (s v : Value) (ns : NarrowValue s) (nv : NarrowValue v) where
@@ -167,6 +205,8 @@ module _ (program : Program) (words : List ℤ) (interval : ℕ) (fit : Integers
   effect-narrow halt = asks _ _ _ tt
   effect-narrow meet =
       record-keeps NarrowEffect v 36 _ tt λ k e. asks _ _ _ (meet-narrow (eqb (k .depth) (t .depth)) (k .continuation))
+  effect-narrow push = nv
+  effect-narrow pop = tt
   effect-narrow unknown = tt
 
 pub step-narrow : (program : Program) (words : List ℤ) (interval : ℕ) (f : Frame) → IntegersInField words → f .task .depth < 2 ^ 32 → Narrow f
@@ -193,13 +233,17 @@ join-narrow program p c x y = go (firstFault (faultOf (p .task .status)) (faultO
     b = getD (p .task .forks) (p .task .depth - 1) zeroFork .continuation
 
     go : (o : Option ℕ) → Narrow (joinedBy o program b p c)
-    go none = record { values = copied-keeps NarrowRegister (c .registers) (y .values) _ _ (p .registers) (x .values); forks = closed }
-    go (some k) = record { values = zeros-narrow; forks = closed }
+    go none = record {
+      values = copied-keeps NarrowRegister (c .registers) (y .values) _ _ (p .registers) (x .values);
+      entries = x .entries;
+      forks = closed;
+    }
+    go (some k) = record { values = zeros-narrow; entries = empty-narrow; forks = closed }
 
 -- ---- the fixed frames
 
 pub vacant-narrow : Narrow vacant
-vacant-narrow = record { values = zeros-narrow; forks = no-forks-narrow }
+vacant-narrow = record { values = zeros-narrow; entries = empty-narrow; forks = no-forks-narrow }
   where
     no-forks-narrow : (i : ℕ) → NarrowFork (getD noForks i zeroFork)
     no-forks-narrow i = rw (constant-at 6 i zeroFork) (omega arith)
@@ -210,4 +254,4 @@ integers-narrow (z ∷ zs) fit zero = fit zero
 integers-narrow (z ∷ zs) fit (suc i) = integers-narrow zs (λ j. fit (suc j)) i
 
 pub start-narrow : (places : ℕ) (registers : List ℤ) → IntegersInField registers → Narrow (startFrame places (integers registers))
-start-narrow places registers fit = record { values = integers-narrow registers fit; forks = vacant-narrow .forks }
+start-narrow places registers fit = record { values = integers-narrow registers fit; entries = empty-narrow; forks = vacant-narrow .forks }

@@ -24,6 +24,6 @@ cellsOf bytes = table (λ i. numberAt bytes (8 * i)) (wholes bytes)
 abbrev pub integersOf : List ℕ → List ℤ
 integersOf bytes = integersIn bytes 0 (wholes bytes)
 
--- the length of a program buffer: 5,890 cells
+-- the length of a program buffer: 5,891 cells
 abbrev pub programBytes : ℕ
 programBytes = 8 * programCells

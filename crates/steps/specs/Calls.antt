@@ -27,14 +27,14 @@ readNo image lent = orElse (imageNo image) (ask (eqb lent programBytes) 15 0)
 abbrev pub programAfter : List ℕ → List ℕ → List ℕ
 programAfter image program = unlessRefused (readNo image (length program)) (inBytes (cellsIn image)) program
 
--- writing a program buffer to an image: 4 and 6 to 9, then 15
+-- writing a program buffer to an image: 3, 4 and 6 to 9, then 15
 unfoldable pub writtenNo : List ℕ → ℕ → ℕ
 writtenNo program lent = orElse (writeNo (cellsOf program) lent) (ask (isWhole program) 15 0)
 
 abbrev pub imageAfter : List ℕ → List ℕ → List ℕ
 imageAfter program image = unlessRefused (writtenNo program (length image)) (imageOf (cellsOf program)) image
 
--- ---- Start: 4 and 6 to 9, 11 to 14, then 15 of every buffer
+-- ---- Start: 3, 4 and 6 to 9, 11 to 14, then 15 of every buffer
 
 unfoldable pub startedNo : List ℕ → ℕ → ℕ → List ℕ → List ℕ → ℕ → ℕ
 startedNo program places interval registers words lent =

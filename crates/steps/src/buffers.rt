@@ -10,7 +10,7 @@ ghost use Rattle.state.specs.Reading.{table, numberAt};
 ghost use Rattle.steps.specs.Buffers.{cellsOf};
 
 // A program buffer's cells as bytes, eight of each.
-pub const PROGRAM_BYTES: usize = 47120;
+pub const PROGRAM_BYTES: usize = 47128;
 
 // As many cells as `out` has room for. This crate alone calls it, with no more room than the buffer has whole cells.
 pub fn read_cells(bytes: &[u8], out: &mut [u64])
@@ -55,7 +55,7 @@ fn ask_read(program: &[u8], cells: &mut [u64]) -> u8
     image::questions::ask_program(cells)
 }
 
-// The program's questions, 4 and 6 to 9, put to a buffer of any length: no question looks beyond the cells that a program has room for.
+// The program's questions, 3, 4 and 6 to 9, put to a buffer of any length: no question looks beyond the cells that a program has room for.
 pub fn ask_cells(program: &[u8]) -> u8
     ensures { λ r. ⌜ r ≡ programNo (cellsOf (now (program .entry))) ⌝ }
 {

@@ -6,7 +6,7 @@ ghost use mathlib.Core.Path.{_≡_};
 ghost use lib.ListN.{length};
 ghost use Rattle.steps.specs.Calls.{readNo, programAfter, writtenNo, imageAfter};
 
-// Reads an image into the lent program buffer, 47,120 bytes, the whole of it; a refusal leaves the buffer as it was.
+// Reads an image into the lent program buffer, 47,128 bytes, the whole of it; a refusal leaves the buffer as it was.
 pub fn read_program(image: &[u8], program: &mut [u8]) -> u8
     ensures { λ r. ⌜ r ≡ readNo (now (image .entry)) (length (now (program .entry))) ⌝ }
     ensures { λ _. ⌜ now (program .exit) ≡ programAfter (now (image .entry)) (now (program .entry)) ⌝ }

@@ -68,7 +68,7 @@ fn start_on(
     Machine::blank().start(&cells, places, interval, &first, held)
 }
 
-// Starts a job and writes its state into the lent buffer, 34,328 bytes; a refusal leaves the buffer as it was.
+// Starts a job and writes its state into the lent buffer, 83,992 bytes; a refusal leaves the buffer as it was.
 pub fn start(
     program: &[u8],
     places: u64,

@@ -19,7 +19,7 @@ use Rattle.task.specs.declared.Frame.{Frame}
 use Rattle.task.specs.declared.Joint.{Joint}
 use Rattle.task.specs.Frames.{zeroRegister, zeroFork, faultOf}
 use Rattle.task.specs.Step.{copied, outwardTask, firstFault, joinedBy, join}
-use Rattle.task.specs.Execute.{statusBy, jointBy, jointOf, jointRegisters}
+use Rattle.task.specs.Execute.{statusBy, jointBy, jointOf, jointRegisters, jointStack}
 use Rattle.task.proofs.Status.{the-type}
 
 -- a status that the other arm of a match has is no fault
@@ -49,18 +49,18 @@ module _ (program : Program) (p c : Task) {s : Status} (h : s ≡ statusBy (firs
   abbrev continuation : ℕ
   continuation = getD (p .forks) (p .depth - 1) zeroFork .continuation
 
-  pub joins-faulted : {n : ℕ} {t : Task} → s ≡ Faulted n → t ≡ outwardTask (Faulted n) 0 p c
+  pub joins-faulted : {n : ℕ} {t : Task} → s ≡ Faulted n → t ≡ outwardTask (Faulted n) 0 0 p c
       → record { task = t; faulted = true; pairs = 0; packed = 0 } ≡ jointOf program p c
   unfolding jointOf
   joins-faulted {n} k e = rw e (go (firstFault (faultOf (p .status)) (faultOf (c .status))) (sym h ∙ k))
     where
       go : (o : Option ℕ) → statusBy o ≡ Faulted n
-          → record { task = outwardTask (Faulted n) 0 p c; faulted = true; pairs = 0; packed = 0 } ≡ jointBy o program continuation p c
+          → record { task = outwardTask (Faulted n) 0 0 p c; faulted = true; pairs = 0; packed = 0 } ≡ jointBy o program continuation p c
       go none e = let z : _≡_ {A = ℕ} 0 1 = cc in absurd (omega arith)
-      go (some m) e = ap (λ (f : Status). record { task = outwardTask f 0 p c; faulted = true; pairs = 0; packed = 0 }) (sym e)
+      go (some m) e = ap (λ (f : Status). record { task = outwardTask f 0 0 p c; faulted = true; pairs = 0; packed = 0 }) (sym e)
 
   pub joins-running : OneOf (0 ∷ 1 ∷ 2 ∷ 3 ∷ []) (tagOf the-type s) → {b : Block} {pc : ℕ} {t : Task} → b ≡ program .block continuation
-      → pc ≡ program .block (b .label) .first → t ≡ outwardTask Running pc p c
+      → pc ≡ program .block (b .label) .first → t ≡ outwardTask Running pc (p .height) p c
       → record { task = t; faulted = false; pairs = b .pairs; packed = b .packed } ≡ jointOf program p c
   unfolding jointOf
   joins-running k {b} {pc} {t} x y z = go (firstFault (faultOf (p .status)) (faultOf (c .status))) (ap faultOf (sym h) ∙ no-fault s k)
@@ -69,16 +69,28 @@ module _ (program : Program) (p c : Task) {s : Status} (h : s ≡ statusBy (firs
       go none e = rw (z, y, x)
       go (some m) e = let z : _≡_ {A = ℕ} 0 1 = cc in absurd (omega arith)
 
--- a join is that task with those registers
+-- a join is that task with those registers and that stack
 pub join-joint : (program : Program) (p c : Frame) → let j = jointOf program (p .task) (c .task) in
-    join program p c ≡ record { task = j .task; registers = jointRegisters (j .faulted) (j .pairs) (j .packed) (p .registers) (c .registers) }
+    join program p c
+    ≡ record {
+      task = j .task;
+      registers = jointRegisters (j .faulted) (j .pairs) (j .packed) (p .registers) (c .registers);
+      stack = jointStack (j .faulted) (p .stack);
+    }
 unfolding join jointOf
 join-joint program p c = go (firstFault (faultOf (p .task .status)) (faultOf (c .task .status)))
   where
     b : ℕ
     b = getD (p .task .forks) (p .task .depth - 1) zeroFork .continuation
 
-    go : (o : Option ℕ) → joinedBy o program b p c ≡ record { task = jointBy o program b (p .task) (c .task) .task; registers = jointRegisters (jointBy o program b (p .task) (c .task) .faulted) (jointBy o program b (p .task) (c .task) .pairs) (jointBy o program b (p .task) (c .task) .packed) (p .registers) (c .registers) }
+    framed : Joint → Frame
+    framed j = record {
+      task = j .task;
+      registers = jointRegisters (j .faulted) (j .pairs) (j .packed) (p .registers) (c .registers);
+      stack = jointStack (j .faulted) (p .stack);
+    }
+
+    go : (o : Option ℕ) → joinedBy o program b p c ≡ framed (jointBy o program b (p .task) (c .task))
     go none = refl
     go (some n) = refl
 

@@ -9,7 +9,7 @@ use lib.Dec.{leb}
 use lib.IntN.{ℤ}
 use lib.ListN.{getD}
 use borrow.Author.Tests.{leb-true, le-leb}
-use Rattle.task.proofs.Effects.{entered-keeps}
+use Rattle.task.proofs.Effects.{stack-keeps, entered-keeps}
 use Rattle.facts.proofs.Tests.{both-true, true-both}
 use Rattle.image.specs.Program.{Program}
 use Rattle.task.specs.declared.Register.{Register}
@@ -18,8 +18,8 @@ use Rattle.task.specs.declared.Frame.{Frame}
 use Rattle.agreement.specs.Plain.{Stepped, one, two}
 use Rattle.task.specs.Frames.{zeroFork, vacant, startFrame, faultOf}
 use Rattle.task.specs.Choices.{Choices}
-use Rattle.task.specs.Effect.{Effect, stores, continues, enters, forks, waits, halts, faults, unknown, opcodes, effectOf}
-use Rattle.task.specs.Step.{register, operand, activeOf, counted, withTask, applied, step, firstFault, joinedBy, join}
+use Rattle.task.specs.Effect.{Effect, stores, continues, pushes, pops, enters, forks, waits, halts, faults, unknown, opcodes, effectOf}
+use Rattle.task.specs.Step.{register, operand, activeOf, counted, withTask, hasPlace, hasValue, applied, step, firstFault, joinedBy, join}
 use Rattle.task.specs.Formed.{within}
 
 -- at most W, both
@@ -49,21 +49,20 @@ AllWithin W (one g) = Within W (g .task)
 AllWithin W (two p c) = Within W (p .task) × Within W (c .task)
 
 module _ (program : Program) (choices : Choices) (W r : ℕ) (f : Frame) (x : Within W (f .task)) where
-  -- a task that goes on with the counter and span that it has, or with counter 0
-  kept : (t : Task) → t .counter ≡ f .task .counter → t .span ≡ f .task .span → Within W t
+  -- a task with the span that it has, and its counter or a smaller one
+  kept : (t : Task) → t .counter ≤ f .task .counter → t .span ≡ f .task .span → Within W t
   kept t c s = record { counter-most = omega (arith, x .counter-most); span-most = omega (arith, x .span-most) }
 
-  cleared : (t : Task) → t .counter ≡ 0 → t .span ≡ f .task .span → Within W t
-  cleared t c s = record { counter-most = omega arith; span-most = omega (arith, x .span-most) }
-
   within-applied : (e : Effect) → AllWithin W (applied program choices r f e)
-  within-applied (stores v) = kept _ refl refl
-  within-applied continues = kept _ refl refl
-  within-applied (enters b) = entered-keeps (Within W) program choices b (f .task) (cleared _ refl refl) (kept _ refl refl)
-  within-applied (forks k b) = (kept _ refl refl, cleared _ refl refl)
-  within-applied waits = cleared _ refl refl
-  within-applied halts = cleared _ refl refl
-  within-applied (faults n) = cleared _ refl refl
+  within-applied (stores v) = kept _ (omega arith) refl
+  within-applied continues = kept _ (omega arith) refl
+  within-applied (pushes v) = stack-keeps (λ g. Within W (g .task)) (hasPlace (f .task)) _ _ (kept _ (omega arith) refl) λ e. kept _ (omega arith) refl
+  within-applied pops = stack-keeps (λ g. Within W (g .task)) (hasValue (f .task)) _ _ (kept _ (omega arith) refl) λ e. kept _ (omega arith) refl
+  within-applied (enters b) = entered-keeps (Within W) program choices b (f .task) (kept _ (omega arith) refl) (kept _ (omega arith) refl)
+  within-applied (forks k b) = (kept _ (omega arith) refl, kept _ (omega arith) refl)
+  within-applied waits = kept _ (omega arith) refl
+  within-applied halts = kept _ (omega arith) refl
+  within-applied (faults n) = kept _ (omega arith) refl
 
 module _ (program : Program) (words : List ℤ) (choices : Choices) where
   within-step : (W : ℕ) (f : Frame) → Within W (f .task) → AllWithin (suc W) (step program words choices f)

@@ -32,12 +32,12 @@ module _ (program : Program) (words : List ℤ) (choices : Choices) (x : Instruc
   unfolding executed
   sends m k = rw (e, k)
 
-  -- any other number than 1 to 15
-  pub sends-nowhere : (1 ≤ x .opcode → 15 < x .opcode) → ending Faults 8 ≡ executed program words choices x s v t l
+  -- any other number than 1 to 17
+  pub sends-nowhere : (1 ≤ x .opcode → 17 < x .opcode) → ending Faults 8 ≡ executed program words choices x s v t l
   unfolding executed
   sends-nowhere h = rw (other (x .opcode) h)
     where
-      other : (m : ℕ) → (1 ≤ m → 15 < m) → getD opcodes m unknown ≡ unknown
+      other : (m : ℕ) → (1 ≤ m → 17 < m) → getD opcodes m unknown ≡ unknown
       other zero h = refl
       other (suc m) h = no-opcode (suc m) (h (omega arith))
 

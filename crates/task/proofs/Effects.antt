@@ -1,4 +1,4 @@
--- What holds of an effect after a question, and of a task that has entered a block.
+-- What holds of an effect after a question, of a frame after one about its stack, and of a task that has entered a block.
 use mathlib.Core.Path.{_≡_, refl}
 use mathlib.Core.Bool.{Bool, true, false, cond}
 use Prim.Native.Nat.{ℕ}
@@ -8,6 +8,7 @@ use Rattle.task.specs.declared.Value.{Value}
 use Rattle.task.specs.declared.Value.the-variants.{Int, Label, Record}
 use Rattle.task.specs.declared.Fork.{Fork}
 use Rattle.task.specs.declared.Task.{Task}
+use Rattle.task.specs.declared.Frame.{Frame}
 use Rattle.task.specs.Choices.{Choices}
 use Rattle.task.specs.Effect.{Effect, faults, asked, integer, label, joinRecord}
 use Rattle.task.specs.Step.{promotes, movedTo, entered}
@@ -36,6 +37,11 @@ pub record-keeps : (P : Effect → Type 0) (v : Value) (n : ℕ) (after : Fork �
 record-keeps P (Int z) n after f g = f
 record-keeps P (Label b) n after f g = f
 record-keeps P (Record c d) n after f g = g (record { continuation = c; depth = d }) refl
+
+-- what holds of the faulted frame, and of the one that is left where the answer is yes
+pub stack-keeps : (P : Frame → Type 0) (t : Bool) (left stopped : Frame) → P stopped → (t ≡ true → P left) → P (cond t left stopped)
+stack-keeps P true left stopped f g = g refl
+stack-keeps P false left stopped f g = f
 
 -- what holds of a task at the handler with counter 0, and at the block with its counter
 pub entered-keeps : (P : Task → Type 0) (program : Program) (choices : Choices) (b : ℕ) (t : Task)

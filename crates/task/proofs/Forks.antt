@@ -20,7 +20,7 @@ abbrev pub ForksFit : Program → ℕ → List Fork → Type 0
 ForksFit program d forks = (i : ℕ) → i < 6 → forkFits program (ltb i d) (getD forks i zeroFork) ≡ true
 
 -- only the entry d tells depth d from depth d + 1
-ltb-skip : (i d : ℕ) → (i ≡ d → ⊥) → ltb i d ≡ ltb i (d + 1)
+pub ltb-skip : (i d : ℕ) → (i ≡ d → ⊥) → ltb i d ≡ ltb i (d + 1)
 ltb-skip i d apart = go (below-or-not i d)
   where
     go : (i < d) ⊎ (d ≤ i) → ltb i d ≡ ltb i (d + 1)

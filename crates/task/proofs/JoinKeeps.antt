@@ -1,13 +1,13 @@
 -- In an accepted program, the join of two formed sides is a formed task with the places of both.
 use mathlib.Core.Path.{_≡_, refl, _∙_}
-use mathlib.Core.Bool.{true}
+use mathlib.Core.Bool.{true, _&&_}
 use mathlib.Core.List.{List}
 use mathlib.Core.Option.{Option, none, some}
 use Prim.Native.Nat.{ℕ, zero, suc, _+_, _-_, _/_, _%_, _<_, _≤_}
 use native.Mathlib.Omega.{arith}
-use lib.Dec.{ltb, leb}
+use lib.Dec.{eqb, ltb}
 use lib.ListN.{length, getD, length-set}
-use borrow.Author.Tests.{leb-true, le-leb, lt-ltb}
+use borrow.Author.Tests.{lt-ltb}
 use Rattle.facts.proofs.Tests.{both-true, true-both}
 use Rattle.image.specs.Layout.{blockCount, instructionCount, programOf}
 use Rattle.image.proofs.Accepted.{Accepted}
@@ -16,12 +16,13 @@ use Rattle.task.specs.declared.Status.{Status}
 use Rattle.task.specs.declared.Status.the-variants.{Vacant, Running, Waiting, Halted, Faulted}
 use Rattle.task.specs.declared.Task.{Task}
 use Rattle.task.specs.declared.Frame.{Frame}
-use Rattle.task.specs.Frames.{zeroFork, zeroRegister, zeros, faultOf}
+use Rattle.task.specs.Frames.{zeroFork, zeroRegister, zeros, emptyStack, faultOf}
 use Rattle.task.specs.Step.{copied, outwardTask, firstFault, joinedBy, join}
-use Rattle.task.specs.Formed.{every, isTarget, valueFits, statusFits}
+use Rattle.task.specs.Formed.{every, isTarget, valueFits, registersZero, atRest, faultListed, statusFits}
 use Rattle.task.proofs.Facts.{set-keeps}
 use Rattle.task.proofs.Formation.{Formed, Listed, zeros-fit, target-below}
 use Rattle.task.proofs.Forks.{closed-fits}
+use Rattle.task.proofs.Stacks.{EntriesFit, empty-fits}
 
 -- ---- the registers of a joined task
 
@@ -41,28 +42,26 @@ copied-keeps P child of-child (suc n) packed l before i =
 
 -- ---- its status
 
-abbrev Fault : Option ℕ → Type 0
-Fault none = Unit {0}
-Fault (some n) = Listed n
+abbrev Fault : ℕ → Option ℕ → Type 0
+Fault version none = Unit {0}
+Fault version (some n) = Listed version n
 
-fault-listed : (f : Frame) (s : Status) → statusFits f s ≡ true → Fault (faultOf s)
-fault-listed f Vacant e = tt
-fault-listed f Running e = tt
-fault-listed f Waiting e = tt
-fault-listed f Halted e = tt
-fault-listed f (Faulted n) e =
-    let p = both-true (leb 31 n) _ e in
-    let q = both-true (leb n 38) _ (p .1) in
-    (leb-true 31 n (p .0), leb-true n 38 (q .0))
+fault-listed : (version : ℕ) (f : Frame) (s : Status) → statusFits version f s ≡ true → Fault version (faultOf s)
+fault-listed version f Vacant e = tt
+fault-listed version f Running e = tt
+fault-listed version f Waiting e = tt
+fault-listed version f Halted e = tt
+fault-listed version f (Faulted n) e =
+    both-true (faultListed version n) (atRest (f .task) && (eqb (f .task .height) 0 && registersZero f)) e .0
 
-first-listed : (p c : Option ℕ) → Fault p → Fault c → Fault (firstFault p c)
-first-listed none c x y = y
-first-listed (some n) c x y = x
+first-listed : (version : ℕ) (p c : Option ℕ) → Fault version p → Fault version c → Fault version (firstFault p c)
+first-listed version none c x y = y
+first-listed version (some n) c x y = x
 
 -- ---- the join
 
-abbrev outward : Status → ℕ → List Register → Task → Task → Frame
-outward s pc registers p c = record { task = outwardTask s pc p c; registers = registers }
+abbrev outward : Status → ℕ → ℕ → List Register → List Register → Task → Task → Frame
+outward s pc height registers stack p c = record { task = outwardTask s pc height p c; registers = registers; stack = stack }
 
 module _ (cells : List ℕ) (ok : Accepted cells) (D : ℕ) (room : D ≤ 6) (h : ℕ) (p c : Frame) (x : Formed (programOf cells) D h p) (y : Formed (programOf cells) D h c)
     (below : h < D) where
@@ -73,31 +72,38 @@ module _ (cells : List ℕ) (ok : Accepted cells) (D : ℕ) (room : D ≤ 6) (h 
   one-more : p .task .depth - 1 + 1 ≡ p .task .depth
   one-more = omega (arith, x .has-depth)
 
+  -- its registers l, and its stack of height n
   outward-formed : (s : Status) (pc : ℕ) (l : List Register) → length l ≡ 16 → pc < instructionCount cells
-      → statusFits (outward s pc l (p .task) (c .task)) s ≡ true → ((i : ℕ) → valueFits (programOf cells) (getD l i zeroRegister .value) ≡ true)
-      → Formed (programOf cells) D (suc h) (outward s pc l (p .task) (c .task))
-  outward-formed s pc l full at fit values = record {
+      → (n : ℕ) (stack : List Register) → length stack ≡ 32 → n ≤ 32 → EntriesFit (programOf cells) n stack
+      → statusFits (programOf cells .version) (outward s pc n l stack (p .task) (c .task)) s ≡ true
+      → ((i : ℕ) → valueFits (programOf cells) (getD l i zeroRegister .value) ≡ true)
+      → Formed (programOf cells) D (suc h) (outward s pc n l stack (p .task) (c .task))
+  outward-formed s pc l full at n stack all most entries fit values = record {
     registers-full = full;
     forks-full = simp length-set (x .forks-full);
+    stack-full = all;
     has-places = omega (arith, x .has-places, y .has-places);
     has-depth = omega (arith, x .has-depth);
     pc-below = at;
     status-fits = fit;
     forks-fit = closed-fits (programOf cells) (p .task .forks) (p .task .depth - 1) innermost (x .forks-full) (rw one-more (x .forks-fit));
     values-fit = values;
+    height-most = most;
+    entries-fit = entries;
   }
 
   continues : (b : ℕ) → b < blockCount cells → Formed (programOf cells) D (suc h) (joinedBy none (programOf cells) b p c)
   continues b q =
       let label = ok .block b q .label-below in
-      outward-formed Running _ _ (length-copied (c .registers) _ _ (p .registers) ∙ x .registers-full) (ok .block _ label .first-below) refl
+      outward-formed Running _ _ (length-copied (c .registers) _ _ (p .registers) ∙ x .registers-full) (ok .block _ label .first-below)
+      (p .task .height) (p .stack) (x .stack-full) (x .height-most) (x .entries-fit) refl
       (copied-keeps (λ r. valueFits (programOf cells) (r .value) ≡ true) (c .registers) (y .values-fit) _ _ (p .registers) (x .values-fit))
 
-  stops : (b n : ℕ) → Listed n → Formed (programOf cells) D (suc h) (joinedBy (some n) (programOf cells) b p c)
+  stops : (b n : ℕ) → Listed (programOf cells .version) n → Formed (programOf cells) D (suc h) (joinedBy (some n) (programOf cells) b p c)
   unfolding every
   stops b n l =
-      outward-formed (Faulted n) 0 zeros refl (ok .some-instruction)
-      (true-both (le-leb 31 n (l .0)) (true-both (le-leb n 38 (l .1)) refl)) (zeros-fit (programOf cells))
+      outward-formed (Faulted n) 0 zeros refl (ok .some-instruction) 0 emptyStack refl (omega arith) (empty-fits (programOf cells))
+      (true-both l refl) (zeros-fit (programOf cells))
 
   target : isTarget (programOf cells) (getD (p .task .forks) (p .task .depth - 1) zeroFork .continuation) ≡ true
   target =
@@ -110,11 +116,15 @@ module _ (cells : List ℕ) (ok : Accepted cells) (D : ℕ) (room : D ≤ 6) (h 
   join-formed =
       let fp = faultOf (p .task .status) in
       let fc = faultOf (c .task .status) in
-      go (firstFault fp fc) (first-listed fp fc (fault-listed p (p .task .status) (x .status-fits)) (fault-listed c (c .task .status) (y .status-fits)))
+      let version = programOf cells .version in
+      go (firstFault fp fc)
+      (first-listed version fp fc
+      (fault-listed version p (p .task .status) (x .status-fits))
+      (fault-listed version c (c .task .status) (y .status-fits)))
     where
       b : ℕ
       b = getD (p .task .forks) (p .task .depth - 1) zeroFork .continuation
 
-      go : (o : Option ℕ) → Fault o → Formed (programOf cells) D (suc h) (joinedBy o (programOf cells) b p c)
+      go : (o : Option ℕ) → Fault (programOf cells .version) o → Formed (programOf cells) D (suc h) (joinedBy o (programOf cells) b p c)
       go none l = continues b (target-below (programOf cells) b target)
       go (some n) l = stops b n l

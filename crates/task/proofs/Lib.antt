@@ -6,6 +6,7 @@ pub mod Sizes
 pub mod Formation
 pub mod Fitting
 pub mod Forks
+pub mod Stacks
 pub mod Effects
 pub mod Opcodes
 pub mod StepKeeps

@@ -4,13 +4,13 @@ use mathlib.Core.List.{List}
 use Prim.Native.Nat.{ℕ, _+_}
 use lib.IntN.{ℤ}
 use lib.ListN.{getD}
-use Rattle.task.proofs.Effects.{entered-keeps}
+use Rattle.task.proofs.Effects.{stack-keeps, entered-keeps}
 use Rattle.image.specs.Program.{Program}
 use Rattle.task.specs.declared.Frame.{Frame}
 use Rattle.agreement.specs.Plain.{Stepped, one, two}
 use Rattle.task.specs.Choices.{Choices}
-use Rattle.task.specs.Effect.{Effect, stores, continues, enters, forks, waits, halts, faults, unknown, opcodes, effectOf}
-use Rattle.task.specs.Step.{register, operand, activeOf, counted, withTask, applied, step}
+use Rattle.task.specs.Effect.{Effect, stores, continues, pushes, pops, enters, forks, waits, halts, faults, unknown, opcodes, effectOf}
+use Rattle.task.specs.Step.{register, operand, activeOf, counted, withTask, hasPlace, hasValue, applied, step}
 
 abbrev span : Frame → ℕ
 span f = f .task .span
@@ -25,6 +25,8 @@ module _ (program : Program) (choices : Choices) (n r : ℕ) (f : Frame) (x : sp
   span-applied : (e : Effect) → AllSpan n (applied program choices r f e)
   span-applied (stores v) = x
   span-applied continues = x
+  span-applied (pushes v) = stack-keeps (λ g. span g ≡ n) (hasPlace (f .task)) _ _ x λ e. x
+  span-applied pops = stack-keeps (λ g. span g ≡ n) (hasValue (f .task)) _ _ x λ e. x
   span-applied (enters b) = entered-keeps (λ t. t .span ≡ n) program choices b (f .task) x x
   span-applied (forks k b) = (x, x)
   span-applied waits = x

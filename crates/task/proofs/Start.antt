@@ -14,6 +14,7 @@ use Rattle.task.specs.Frames.{zeroRegister, zeroFork, noForks, integers,
 use Rattle.task.specs.Formed.{valueFits, every, forkFits}
 use Rattle.task.proofs.EveryLaws.{every-at}
 use Rattle.task.proofs.Formation.{Formed}
+use Rattle.task.proofs.Stacks.{empty-fits}
 
 integers-fit : (program : Program) (zs : List ℤ) (i : ℕ) → valueFits program (getD (integers zs) i zeroRegister .value) ≡ true
 integers-fit program [] i = refl
@@ -32,10 +33,13 @@ pub start-formed : (cells : List ℕ) → Accepted cells → (D : ℕ) (zs : Lis
 start-formed cells ok D zs full = record {
   registers-full = length-integers zs ∙ full;
   forks-full = refl;
+  stack-full = refl;
   has-places = refl;
   has-depth = omega arith;
   pc-below = ok .some-instruction;
   status-fits = refl;
   forks-fit = λ i p. every-at (λ i. forkFits (programOf cells) (ltb i 0) (getD noForks i zeroFork)) 6 0 (no-forks-fit (programOf cells)) i (omega arith) (omega arith);
   values-fit = integers-fit (programOf cells) zs;
+  height-most = omega arith;
+  entries-fit = empty-fits (programOf cells);
 }

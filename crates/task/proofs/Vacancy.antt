@@ -17,9 +17,9 @@ use Rattle.task.specs.declared.Status.{Status}
 use Rattle.task.specs.declared.Status.the-variants.{Vacant, Running, Waiting, Halted, Faulted}
 use Rattle.task.specs.declared.Fork.{Fork}
 use Rattle.task.specs.declared.Frame.{Frame}
-use Rattle.task.specs.Frames.{zeroRegister, zeros, zeroFork, noForks, vacant, running}
-use Rattle.task.specs.Step.{register}
-use Rattle.task.specs.Formed.{every, isZero, registersZero, isZeroFork, isFull, atRest, isVacantStatus, isVacant}
+use Rattle.task.specs.Frames.{zeroRegister, zeros, emptyStack, zeroFork, noForks, vacant, running}
+use Rattle.task.specs.Step.{register, entry}
+use Rattle.task.specs.Formed.{every, isZero, registersZero, stackEmpty, isZeroFork, isFull, atRest, isVacantStatus, isVacant}
 use Rattle.task.proofs.EveryLaws.{every-at}
 
 pub vacant-passes : isVacant vacant ≡ true
@@ -48,6 +48,15 @@ zero-registers f full e =
         let v = zero-value (register f i) (every-at (λ i. isZero (register f i)) 16 0 e i (omega arith) (omega arith)) in
         λ j. record { value = v j }
 
+-- and 32 entries that pass it an empty stack
+pub zero-stack : (f : Frame) → length (f .stack) ≡ 32 → ((i : ℕ) → i < 32 → isZero (entry f i) ≡ true) → f .stack ≡ emptyStack
+zero-stack f full e =
+    ext-getD zeroRegister (f .stack) emptyStack (full ∙ sym (length-replicate 32 zeroRegister))
+    (λ i p. at i (omega arith) ∙ sym (getD-replicate 32 i zeroRegister zeroRegister (omega arith)))
+  where
+    at : (i : ℕ) → i < 32 → getD (f .stack) i zeroRegister ≡ zeroRegister
+    at i p = let v = zero-value (entry f i) (e i p) in λ j. record { value = v j }
+
 zero-fork : (k : Fork) → isZeroFork k ≡ true → k ≡ zeroFork
 zero-fork k e =
     let p = both-true (eqb (k .continuation) 0) (eqb (k .depth) 0) e in
@@ -72,22 +81,28 @@ pub vacant-is : (f : Frame) → isVacant f ≡ true → f ≡ vacant
 unfolding isVacant
 vacant-is f e =
     let a = both-true (isFull f) _ e in
-    let l = both-true (eqb (length (f .registers)) 16) (eqb (length (f .task .forks)) 6) (a .0) in
+    let l = both-true (eqb (length (f .registers)) 16) _ (a .0) in
+    let m = both-true (eqb (length (f .task .forks)) 6) (eqb (length (f .stack)) 32) (l .1) in
     let b = both-true (isVacantStatus (f .task .status)) _ (a .1) in
     let c = both-true (eqb (f .task .places) 0) _ (b .1) in
     let d = both-true (eqb (f .task .span) 0) _ (c .1) in
     let g = both-true (eqb (f .task .depth) 0) _ (d .1) in
     let h = both-true (atRest (f .task)) _ (g .1) in
     let r = both-true (eqb (f .task .pc) 0) (eqb (f .task .counter) 0) (h .0) in
-    let k = both-true (every (λ i. isZeroFork (getD (f .task .forks) i zeroFork)) 6 0) (registersZero f) (h .1) in
+    let k = both-true (every (λ i. isZeroFork (getD (f .task .forks) i zeroFork)) 6 0) _ (h .1) in
+    let o = both-true (registersZero f) (stackEmpty f) (k .1) in
+    let t = both-true (eqb (f .task .height) 0) (every (λ i. isZero (entry f i)) 32 0) (o .1) in
     let status = vacant-status (f .task .status) (b .0) in
     let places = eqb-true (f .task .places) 0 (c .0) in
     let pc = eqb-true (f .task .pc) 0 (r .0) in
     let counter = eqb-true (f .task .counter) 0 (r .1) in
     let span = eqb-true (f .task .span) 0 (d .0) in
     let depth = eqb-true (f .task .depth) 0 (g .0) in
-    let forks = zero-forks (f .task .forks) (eqb-true (length (f .task .forks)) 6 (l .1)) (k .0) in
-    let registers = zero-registers f (eqb-true (length (f .registers)) 16 (l .0)) (k .1) in
+    let height = eqb-true (f .task .height) 0 (t .0) in
+    let forks = zero-forks (f .task .forks) (eqb-true (length (f .task .forks)) 6 (m .0)) (k .0) in
+    let registers = zero-registers f (eqb-true (length (f .registers)) 16 (l .0)) (o .0) in
+    let stack =
+    zero-stack f (eqb-true (length (f .stack)) 32 (m .1)) (λ i p. every-at (λ i. isZero (entry f i)) 32 0 (t .1) i (omega arith) (omega arith)) in
     λ j. record {
       task = record {
         status = status j;
@@ -96,9 +111,11 @@ vacant-is f e =
         counter = counter j;
         span = span j;
         depth = depth j;
+        height = height j;
         forks = forks j;
       };
       registers = registers j;
+      stack = stack j;
     }
 
 pub vacant-idle : (f : Frame) → f ≡ vacant → running f ≡ false

@@ -1,4 +1,5 @@
--- What an instruction asks, and what it then does: document 01's table, row by row. `Step` says what an effect makes of a task.
+-- What an instruction asks, and what it then does: document 01's table, row by row. `Step` says what an effect makes of a task, and puts the
+-- two questions about a task's stack.
 use mathlib.Core.Bool.{Bool, true, false, not, cond, _&&_}
 use mathlib.Core.List.{List, [], _∷_}
 use Prim.Native.Nat.{ℕ, zero, suc, _+_, _-_}
@@ -17,11 +18,13 @@ use Rattle.task.specs.Frames.{zeroFork}
 use Rattle.task.specs.Values.{truth}
 use Rattle.task.specs.Choices.{Choices}
 
--- r := a value, and on to the next instruction; on to it; into a block; a fork under a record, whose child starts a block; the end of the
--- task's side or of the job; the end of its side with a fault's number
+-- r := a value, and on to the next instruction; on to it; a value pushed, or the last one popped into r, and on to it; into a block; a fork
+-- under a record, whose child starts a block; the end of the task's side or of the job; the end of its side with a fault's number
 pub data Effect : Type 0 where
   stores : Value → Effect
   continues : Effect
+  pushes : Value → Effect
+  pops : Effect
   enters : ℕ → Effect
   forks : Fork → ℕ → Effect
   waits halts : Effect
@@ -66,12 +69,12 @@ fits k depth opened = leb (k .depth) depth && belong opened k (depth - k .depth)
 -- ---- The table
 
 pub data Op : Type 0 where
-  move plus minus times divide modulo less equal word ifJump jralloc fork jump halt meet unknown : Op
+  move plus minus times divide modulo less equal word ifJump jralloc fork jump halt meet push pop unknown : Op
 
--- the opcodes 1 to 15, after 0
+-- the opcodes 1 to 17, after 0
 abbrev pub opcodes : List Op
 opcodes =
-    unknown ∷ move ∷ plus ∷ minus ∷ times ∷ divide ∷ modulo ∷ less ∷ equal ∷ word ∷ ifJump ∷ jralloc ∷ fork ∷ jump ∷ halt ∷ meet ∷ []
+    unknown ∷ move ∷ plus ∷ minus ∷ times ∷ divide ∷ modulo ∷ less ∷ equal ∷ word ∷ ifJump ∷ jralloc ∷ fork ∷ jump ∷ halt ∷ meet ∷ push ∷ pop ∷ []
 
 -- what it does with the values s and v of its operands, to a task with the numbers t and these open forks
 module _ (program : Program) (words : List ℤ) (choices : Choices) where
@@ -106,5 +109,8 @@ module _ (program : Program) (words : List ℤ) (choices : Choices) where
   -- 15 join v. A record that fits? (36) Its depth equal to the task's: to the continuation. Otherwise the task waits
   effectOf s v t opened meet =
       joinRecord v 36 λ k. asked (fits k (t .depth) opened) 36 (cond (eqb (k .depth) (t .depth)) (enters (k .continuation)) waits)
+  -- 16 push v (02, request 4), 17 pop r. Where the stack is, in `Step`: a place left on it? (42) Something on it? (43)
+  effectOf s v t opened push = pushes v
+  effectOf s v t opened pop = pops
   -- an accepted program has no other opcode (8)
   effectOf s v t opened unknown = faults 8

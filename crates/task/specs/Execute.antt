@@ -23,12 +23,12 @@ use Rattle.task.specs.declared.Fork.{Fork}
 use Rattle.task.specs.declared.Task.{Task}
 use Rattle.task.specs.declared.Active.{Active}
 use Rattle.task.specs.declared.Kind.{Kind}
-use Rattle.task.specs.declared.Kind.the-variants.{Stores, Goes, Waits, Halts, Faults, Forks}
+use Rattle.task.specs.declared.Kind.the-variants.{Stores, Goes, Pushes, Pops, Waits, Halts, Faults, Forks}
 use Rattle.task.specs.declared.Executed.{Executed}
 use Rattle.task.specs.declared.Joint.{Joint}
-use Rattle.task.specs.Frames.{zeros, zeroFork, faultOf, workLimit}
+use Rattle.task.specs.Frames.{zeros, emptyStack, zeroFork, faultOf, workLimit}
 use Rattle.task.specs.Choices.{Choices}
-use Rattle.task.specs.Effect.{Effect, stores, continues, enters, forks, waits, halts, faults, Op, unknown, opcodes, effectOf}
+use Rattle.task.specs.Effect.{Effect, stores, continues, pushes, pops, enters, forks, waits, halts, faults, Op, unknown, opcodes, effectOf}
 use Rattle.task.specs.Step.{promotes, copied, firstFault, outwardTask}
 use Rattle.task.specs.Formed.{valueFits}
 
@@ -42,9 +42,12 @@ countedActive t = record { places = t .places; pc = t .pc; counter = t .counter 
 abbrev pub going : ℕ → ℕ → Executed
 going pc counter = record { kind = Goes; value = Int (pos 0); pc = pc; counter = counter; fault = 0; child = 0 }
 
--- it goes on to the next instruction, with this value in r
+-- it goes on to the next instruction, with this value in r or on its stack
+abbrev pub passing : Kind → Value → Active → Executed
+passing kind v t = record { kind = kind; value = v; pc = t .pc + 1; counter = t .counter; fault = 0; child = 0 }
+
 abbrev pub storing : Value → Active → Executed
-storing v t = record { kind = Stores; value = v; pc = t .pc + 1; counter = t .counter; fault = 0; child = 0 }
+storing v t = passing Stores v t
 
 -- it waits, has halted or has faulted, with the fault's number, else 0
 abbrev pub ending : Kind → ℕ → Executed
@@ -66,6 +69,9 @@ module _ (program : Program) (choices : Choices) where
   abbrev pub handed : Active → Effect → Executed
   handed t (stores v) = storing v t
   handed t continues = going (t .pc + 1) (t .counter)
+  handed t (pushes v) = passing Pushes v t
+  -- the machine has the value
+  handed t pops = passing Pops (Int (pos 0)) t
   handed t (enters b) = entering b t
   handed t (forks k b) = forking (Record (k .continuation) (k .depth)) (program .block b .first) t
   handed t waits = ending Waits 0
@@ -86,7 +92,7 @@ selected x held = elim (eqb (x .kind) 1) [
   | false ↦ elim (eqb (x .kind) 2) [ true ↦ Label (x .operand) | false ↦ Int (toZ w64 (x .operand)) ]
 ]
 
--- ---- The task that two ended sides make, but for its registers
+-- ---- The task that two ended sides make, but for its registers and its stack
 
 -- its status
 abbrev pub statusBy : Option ℕ → Status
@@ -95,9 +101,9 @@ statusBy (some n) = Faulted n
 
 -- by the fault that one of them has, at the continuation block b
 abbrev pub jointBy : Option ℕ → Program → ℕ → Task → Task → Joint
-jointBy (some n) program b p c = record { task = outwardTask (Faulted n) 0 p c; faulted = true; pairs = 0; packed = 0 }
+jointBy (some n) program b p c = record { task = outwardTask (Faulted n) 0 0 p c; faulted = true; pairs = 0; packed = 0 }
 jointBy none program b p c = record {
-  task = outwardTask Running (program .block (program .block b .label) .first) p c;
+  task = outwardTask Running (program .block (program .block b .label) .first) (p .height) p c;
   faulted = false;
   pairs = program .block b .pairs;
   packed = program .block b .packed;
@@ -111,6 +117,11 @@ jointOf program p c =
 abbrev pub jointRegisters : Bool → ℕ → ℕ → List Register → List Register → List Register
 jointRegisters true pairs packed p c = zeros
 jointRegisters false pairs packed p c = copied c pairs packed p
+
+-- and the stack: an empty one, or the parent's
+abbrev pub jointStack : Bool → List Register → List Register
+jointStack true p = emptyStack
+jointStack false p = p
 
 -- ---- What the machine ensures
 

@@ -1,5 +1,5 @@
 -- The computed tests of one slot's frame, for question 20: a live task's, and a vacant slot's.
-use mathlib.Core.Bool.{Bool, true, false, _&&_}
+use mathlib.Core.Bool.{Bool, true, false, _&&_, _||_}
 use Prim.Native.Nat.{ℕ, zero, suc, _+_, _^_}
 use lib.Dec.{eqb, ltb, leb}
 use lib.IntN.{pos}
@@ -13,8 +13,8 @@ use Rattle.task.specs.declared.Status.the-variants.{Vacant, Running, Wai
 use Rattle.task.specs.declared.Fork.{Fork}
 use Rattle.task.specs.declared.Task.{Task}
 use Rattle.task.specs.declared.Frame.{Frame}
-use Rattle.task.specs.Frames.{zeroFork}
-use Rattle.task.specs.Step.{register}
+use Rattle.task.specs.Frames.{zeroFork, stackLength}
+use Rattle.task.specs.Step.{register, entry}
 
 -- the test passes at i, i + 1, .. (n of them)
 unfoldable pub every : (ℕ → Bool) → ℕ → ℕ → Bool
@@ -42,6 +42,22 @@ isZero (Record c d) = false
 abbrev pub registersZero : Frame → Bool
 registersZero f = every (λ i. isZero (register f i)) 16 0
 
+-- ---- Stacks
+
+-- an entry below the stack's height fits as a register does; an entry that is not in use is the integer 0
+abbrev pub entryFits : Program → Bool → Value → Bool
+entryFits program true v = valueFits program v
+entryFits program false v = isZero v
+
+-- a height of at most 32, and each of the 32 entries
+abbrev pub stackFits : Program → Frame → Bool
+stackFits program f =
+    leb (f .task .height) stackLength && every (λ i. entryFits program (ltb i (f .task .height)) (entry f i)) stackLength 0
+
+-- height 0, and 32 integers 0
+abbrev pub stackEmpty : Frame → Bool
+stackEmpty f = eqb (f .task .height) 0 && every (λ i. isZero (entry f i)) stackLength 0
+
 -- ---- Forks
 
 abbrev pub isZeroFork : Fork → Bool
@@ -58,19 +74,23 @@ forkFits program false k = isZeroFork k
 abbrev pub atRest : Task → Bool
 atRest t = eqb (t .pc) 0 && eqb (t .counter) 0
 
--- Waiting only below depth 0, Halted only at depth 0, Faulted with a number of the fault list and 16 integers 0
-abbrev pub statusFits : Frame → Status → Bool
-statusFits f Vacant = false
-statusFits f Running = true
-statusFits f Waiting = ltb 0 (f .task .depth) && atRest (f .task)
-statusFits f Halted = eqb (f .task .depth) 0 && atRest (f .task)
-statusFits f (Faulted n) = leb 31 n && (leb n 38 && (atRest (f .task) && registersZero f))
+-- the fault list of a version: 31 to 38, and of version 2 also 42 and 43
+abbrev pub faultListed : ℕ → ℕ → Bool
+faultListed version n = (leb 31 n && leb n 38) || (eqb version 2 && (eqb n 42 || eqb n 43))
+
+-- Waiting only below depth 0, Halted only at depth 0, Faulted with a number of the version's fault list, 16 integers 0 and height 0
+abbrev pub statusFits : ℕ → Frame → Status → Bool
+statusFits version f Vacant = false
+statusFits version f Running = true
+statusFits version f Waiting = ltb 0 (f .task .depth) && atRest (f .task)
+statusFits version f Halted = eqb (f .task .depth) 0 && atRest (f .task)
+statusFits version f (Faulted n) = faultListed version n && (atRest (f .task) && (eqb (f .task .height) 0 && registersZero f))
 
 -- ---- A slot's frame
 
 -- the arrays have their lengths, as in the code they always have
 abbrev pub isFull : Frame → Bool
-isFull f = eqb (length (f .registers)) 16 && eqb (length (f .task .forks)) 6
+isFull f = eqb (length (f .registers)) 16 && (eqb (length (f .task .forks)) 6 && eqb (length (f .stack)) stackLength)
 
 -- a live task with 2 ^ h places in a job of 2 ^ D: at depth D - h, its number of open forks
 unfoldable pub formed : Program → ℕ → ℕ → Frame → Bool
@@ -79,9 +99,9 @@ formed program D h f =
     && (eqb (f .task .places) (2 ^ h)
     && (eqb (f .task .depth + h) D
     && (ltb (f .task .pc) (program .instructions)
-    && (statusFits f (f .task .status)
+    && (statusFits (program .version) f (f .task .status)
     && (every (λ i. forkFits program (ltb i (f .task .depth)) (getD (f .task .forks) i zeroFork)) 6 0
-    && every (λ i. valueFits program (register f i)) 16 0)))))
+    && (every (λ i. valueFits program (register f i)) 16 0 && stackFits program f))))))
 
 abbrev pub isVacantStatus : Status → Bool
 isVacantStatus Vacant = true
@@ -99,7 +119,7 @@ isVacant f =
     && (eqb (f .task .span) 0
     && (eqb (f .task .depth) 0
     && (atRest (f .task)
-    && (every (λ i. isZeroFork (getD (f .task .forks) i zeroFork)) 6 0 && registersZero f))))))
+    && (every (λ i. isZeroFork (getD (f .task .forks) i zeroFork)) 6 0 && (registersZero f && stackEmpty f)))))))
 
 -- counter and span are at most the work: a fact of a state, and of no frame alone
 abbrev pub within : ℕ → Frame → Bool

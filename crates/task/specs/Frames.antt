@@ -1,4 +1,4 @@
--- A frame is a task record with its 16 registers. The fixed ones: a vacant slot's, and a job's first.
+-- A frame is a task record with its 16 registers and its stack of 32 values. The fixed ones: a vacant slot's, and a job's first.
 use mathlib.Core.Bool.{Bool, true, false}
 use mathlib.Core.List.{List, [], map}
 use mathlib.Core.Option.{Option, none, some}
@@ -20,6 +20,17 @@ zeroRegister = record { value = Int (pos 0) }
 abbrev pub zeros : List Register
 zeros = replicate 16 zeroRegister
 
+-- the values of a task's stack, and of the stacks of all 64 slots
+abbrev pub stackLength : ℕ
+stackLength = 32
+
+abbrev pub stacksLength : ℕ
+stacksLength = 2048
+
+-- 32 integers 0
+abbrev pub emptyStack : List Register
+emptyStack = replicate stackLength zeroRegister
+
 abbrev pub zeroFork : Fork
 zeroFork = record { continuation = 0; depth = 0 }
 
@@ -27,15 +38,15 @@ abbrev pub noForks : List Fork
 noForks = replicate 6 zeroFork
 
 abbrev pub vacantTask : Task
-vacantTask = record { status = Vacant; places = 0; pc = 0; counter = 0; span = 0; depth = 0; forks = noForks }
+vacantTask = record { status = Vacant; places = 0; pc = 0; counter = 0; span = 0; depth = 0; height = 0; forks = noForks }
 
 -- what a slot without a task holds
 abbrev pub vacant : Frame
-vacant = record { task = vacantTask; registers = zeros }
+vacant = record { task = vacantTask; registers = zeros; stack = emptyStack }
 
 -- what the code's logic reads past the end of an array of task records
 abbrev pub noTask : Task
-noTask = record { status = Vacant; places = 0; pc = 0; counter = 0; span = 0; depth = 0; forks = [] }
+noTask = record { status = Vacant; places = 0; pc = 0; counter = 0; span = 0; depth = 0; height = 0; forks = [] }
 
 abbrev pub isRunning : Status → Bool
 isRunning Vacant = false
@@ -59,11 +70,12 @@ faultOf (Faulted n) = some n
 abbrev pub integers : List ℤ → List Register
 integers zs = map (λ z. record { value = Int z }) zs
 
--- all P places, block 0 (which starts at 0), counter and span 0, no open fork
+-- all P places, block 0 (which starts at 0), counter and span 0, no open fork, an empty stack
 abbrev pub startFrame : ℕ → List Register → Frame
 startFrame places registers = record {
-  task = record { status = Running; places = places; pc = 0; counter = 0; span = 0; depth = 0; forks = noForks };
+  task = record { status = Running; places = places; pc = 0; counter = 0; span = 0; depth = 0; height = 0; forks = noForks };
   registers = registers;
+  stack = emptyStack;
 }
 
 -- the most work that a state can show (24): no counter and no span is above it

@@ -20,6 +20,8 @@ use crate::forking::meet;
 use crate::results::count;
 use crate::results::fault;
 use crate::results::store;
+use crate::stacking::pop;
+use crate::stacking::push;
 use image::Instruction;
 ghost use mathlib.Core.Path.{_≡_};
 ghost use Prim.Native.Nat.{_<_};
@@ -75,6 +77,8 @@ pub fn execute(
         13 => jump(cells, interval, v, t),
         14 => halt(t),
         15 => meet(cells, interval, v, t, forks),
+        16 => push(v, t),
+        17 => pop(t),
         _ => fault(8),
     }
 }

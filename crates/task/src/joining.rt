@@ -32,9 +32,9 @@ fn joined_status(parent: Status, child: Status) -> Status
 }
 
 // All their places, the larger span, counter 0, that fork closed.
-fn close(status: Status, pc: u16, p: Task, c: Task) -> Task
+fn close(status: Status, pc: u16, height: u32, p: Task, c: Task) -> Task
     requires { ⌜ (1 ≤ p .depth) × (p .depth ≤ 6) × (p .places + c .places ≤ 64) ⌝ }
-    ensures { λ r. ⌜ r ≡ outwardTask status pc p c ⌝ }
+    ensures { λ r. ⌜ r ≡ outwardTask status pc height p c ⌝ }
 {
     let depth = p.depth - 1;
     let at = depth as usize;
@@ -46,6 +46,7 @@ fn close(status: Status, pc: u16, p: Task, c: Task) -> Task
     let span = larger(p.span, c.span);
     Task {
         status,
+        height,
         places: p.places + c.places,
         pc,
         counter: 0,
@@ -55,7 +56,7 @@ fn close(status: Status, pc: u16, p: Task, c: Task) -> Task
     }
 }
 
-// What two ended sides come to, but for the registers: those the machine changes in place. It ensures `Joinable`.
+// What two ended sides come to, but for registers and stack: those the machine changes in place. It ensures `Joinable`.
 pub fn joined(cells: &[u64], p: Task, c: Task) -> Joint
     requires { ⌜ Joinable (now cells) p c ⌝ }
     ensures { λ r. ⌜ r ≡ jointOf (programOf (now (cells .entry))) p c ⌝ }
@@ -64,7 +65,7 @@ pub fn joined(cells: &[u64], p: Task, c: Task) -> Joint
     let theirs = c.status;
     let status = joined_status(ours, theirs);
     if let Status::Faulted(n) = status {
-        let task = close(Status::Faulted(n), 0, p, c);
+        let task = close(Status::Faulted(n), 0, 0, p, c);
         return Joint {
             task,
             faulted: true,
@@ -77,7 +78,7 @@ pub fn joined(cells: &[u64], p: Task, c: Task) -> Joint
     let under = forks[at];
     let block = block_of(cells, under.continuation as usize);
     let pc = first_of(cells, block.label as usize);
-    let task = close(Status::Running, pc, p, c);
+    let task = close(Status::Running, pc, p.height, p, c);
     Joint {
         task,
         faulted: false,

@@ -8,7 +8,7 @@ ghost use Prim.Native.Nat.{_<_};
 ghost use Rattle.image.specs.Questions.{mostInstructions};
 ghost use Rattle.task.specs.declared.Kind.the-variants.{Faults};
 ghost use Rattle.task.specs.Frames.{workLimit};
-ghost use Rattle.task.specs.Execute.{countedActive, storing, going, ending};
+ghost use Rattle.task.specs.Execute.{countedActive, passing, storing, going, ending};
 
 // An instruction adds 1 to the counter. The machine ensures that the work is below its limit, and the counter is at most the work.
 pub fn count(t: Active) -> Active
@@ -20,19 +20,27 @@ pub fn count(t: Active) -> Active
     n
 }
 
-// This crate alone calls it; the shape test has put pc inside the program.
-pub fn store(v: Value, t: Active) -> Executed
+// The task goes on to the next instruction. Our crates alone call it; the shape test has put pc inside the program.
+pub fn pass(kind: Kind, value: Value, t: Active) -> Executed
     requires { ⌜ t .pc < mostInstructions ⌝ }
-    ensures { λ r. ⌜ r ≡ storing v t ⌝ }
+    ensures { λ r. ⌜ r ≡ passing kind value t ⌝ }
 {
     Executed {
-        kind: Kind::Stores,
-        value: v,
+        kind,
+        value,
         pc: t.pc + 1,
         counter: t.counter,
         fault: 0,
         child: 0,
     }
+}
+
+// As above.
+pub fn store(v: Value, t: Active) -> Executed
+    requires { ⌜ t .pc < mostInstructions ⌝ }
+    ensures { λ r. ⌜ r ≡ storing v t ⌝ }
+{
+    pass(Kind::Stores, v, t)
 }
 
 pub fn go(pc: u16, counter: u32) -> Executed

@@ -25,7 +25,7 @@ NoGoodImageRefused reader = (cells : List ℕ) → Cells cells → Writes cells 
 
 -- start's questions, each answered with yes
 pub record GoodJob (j : Job) : Type 0 where
-  -- the program's, 4 and 6 to 9
+  -- the program's, 3, 4 and 6 to 9
   pub program-accepted : programNo (j .cells) ≡ 0
   -- P allowed? (11)
   pub places-allowed : List·Memᴰ (j .places) (1 ∷ 2 ∷ 4 ∷ 8 ∷ 16 ∷ 32 ∷ 64 ∷ [])
@@ -36,7 +36,7 @@ pub record GoodJob (j : Job) : Type 0 where
   -- At most 4,096 words? (14)
   pub words-few : length (j .words) ≤ 4096
   -- Every lent buffer of the length docs/ names? (15)
-  pub whole-buffer : length (j .cells) ≡ 5890
+  pub whole-buffer : length (j .cells) ≡ 5891
 
 abbrev pub NoGoodJobRefused : Engine → Type 0
 NoGoodJobRefused engine = (j : Job) → GoodJob j → AcceptedOf engine j

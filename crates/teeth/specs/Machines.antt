@@ -49,7 +49,7 @@ altersWorkAlone = picking pickNo (λ cells words m k. unlessRefused (pickNo cell
 
 -- a pick that runs the whole job first, shown as one pick's work, and idles later: each later pick only adds 1 to the work
 abbrev pub withWork : ℕ → State → State
-withWork w m = record { places = m .places; interval = m .interval; work = w; bank = m .bank; tasks = m .tasks }
+withWork w m = record { places = m .places; interval = m .interval; work = w; bank = m .bank; stacks = m .stacks; tasks = m .tasks }
 
 abbrev pub wholeJobFirst : Engine
 wholeJobFirst =
@@ -72,10 +72,10 @@ workShown w = changing (withWork w)
 abbrev pub firstSpan : ℕ → List Task → List Task
 firstSpan s [] = []
 firstSpan s (t ∷ ts) =
-    record { status = t .status; places = t .places; pc = t .pc; counter = t .counter; span = s; depth = t .depth; forks = t .forks } ∷ ts
+    record { status = t .status; places = t .places; pc = t .pc; counter = t .counter; span = s; depth = t .depth; height = t .height; forks = t .forks } ∷ ts
 
 abbrev pub withSpan : ℕ → State → State
-withSpan s m = record { places = m .places; interval = m .interval; work = m .work; bank = m .bank; tasks = firstSpan s (m .tasks) }
+withSpan s m = record { places = m .places; interval = m .interval; work = m .work; bank = m .bank; stacks = m .stacks; tasks = firstSpan s (m .tasks) }
 
 abbrev pub spanShown : ℕ → Engine
 spanShown s = changing (withSpan s)
@@ -84,10 +84,10 @@ spanShown s = changing (withSpan s)
 abbrev pub firstStatus : Status → List Task → List Task
 firstStatus s [] = []
 firstStatus s (t ∷ ts) =
-    record { status = s; places = t .places; pc = t .pc; counter = t .counter; span = t .span; depth = t .depth; forks = t .forks } ∷ ts
+    record { status = s; places = t .places; pc = t .pc; counter = t .counter; span = t .span; depth = t .depth; height = t .height; forks = t .forks } ∷ ts
 
 abbrev pub withStatus : Status → State → State
-withStatus s m = record { places = m .places; interval = m .interval; work = m .work; bank = m .bank; tasks = firstStatus s (m .tasks) }
+withStatus s m = record { places = m .places; interval = m .interval; work = m .work; bank = m .bank; stacks = m .stacks; tasks = firstStatus s (m .tasks) }
 
 abbrev pub withEnding : Status → State → State
 withEnding s m = cond (jobEnded m) (withStatus s m) m

@@ -4,4 +4,5 @@ pub mod course;
 pub mod moves;
 pub mod records;
 pub mod rows;
+pub mod stacking;
 pub mod walk;

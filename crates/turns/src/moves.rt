@@ -6,8 +6,8 @@ ghost use mathlib.Core.Path.{_≡_};
 ghost use Rattle.task.specs.Frames.{zeroRegister};
 ghost use Rattle.turns.specs.Moving.{noMoves, forkMoves, endMoves, joinMoves};
 
-// First pairs of registers from slot `from` to slot `to`, as a continuation block packs them; then, where clears is 1, from's are cleared;
-// then, where whole is 1, all of from's are copied.
+// First pairs of registers from slot `from` to slot `to`, as a continuation block packs them; then, where clears is 1, from's are cleared, and
+// the last `drops` values of slot `dropped`'s stack with them; then, where whole is 1, all of from's registers are copied.
 pub struct Moves {
     pub from: usize,
     pub to: usize,
@@ -15,6 +15,8 @@ pub struct Moves {
     pub packed: u64,
     pub clears: u64,
     pub whole: u64,
+    pub dropped: usize,
+    pub drops: u32,
 }
 
 pub fn no_moves() -> Moves
@@ -27,6 +29,8 @@ pub fn no_moves() -> Moves
         packed: 0,
         clears: 0,
         whole: 0,
+        dropped: 0,
+        drops: 0,
     }
 }
 
@@ -41,35 +45,55 @@ pub fn fork_moves(parent: usize, child: usize) -> Moves
         packed: 0,
         clears: 0,
         whole: 1,
+        dropped: 0,
+        drops: 0,
     }
 }
 
-// A fault clears the task's.
-pub fn end_moves(k: usize, kind: Kind) -> Moves
-    ensures { λ r. ⌜ r ≡ endMoves k kind ⌝ }
+// A fault clears the task's, and drops its stack, which has this height.
+pub fn end_moves(k: usize, kind: Kind, height: u32) -> Moves
+    ensures { λ r. ⌜ r ≡ endMoves k kind height ⌝ }
 {
     let mut n = no_moves();
     n.from = k;
+    n.dropped = k;
     if let Kind::Faults = kind {
         n.clears = 1;
+        n.drops = height;
     }
     n
 }
 
-// The pairs go to the parent, and the child's are cleared; where a side has faulted the parent's are cleared as well.
-pub fn join_moves(parent: usize, child: usize, pairs: u64, packed: u64, faulted: bool) -> Moves
-    ensures { λ r. ⌜ r ≡ joinMoves parent child pairs packed faulted ⌝ }
+// A joined task: its register pairs and whether it is faulted, and the heights of the two stacks.
+pub struct Sides {
+    pub pairs: u64,
+    pub packed: u64,
+    pub faulted: bool,
+    pub ours: u32,
+    pub theirs: u32,
+}
+
+// The pairs go to the parent, and the child's registers and stack are cleared; where a side has faulted the parent's are cleared as well. A side
+// that has faulted has an empty stack, so one of the two is left to be dropped at most.
+pub fn join_moves(parent: usize, child: usize, s: Sides) -> Moves
+    ensures { λ r. ⌜ r ≡ joinMoves parent child (s .pairs) (s .packed) (s .faulted) (s .ours) (s .theirs) ⌝ }
 {
     let mut n = Moves {
         from: child,
         to: parent,
-        pairs,
-        packed,
+        pairs: s.pairs,
+        packed: s.packed,
         clears: 1,
         whole: 0,
+        dropped: child,
+        drops: s.theirs,
     };
-    if faulted {
+    if s.faulted {
         n.whole = 1;
+        if s.theirs == 0 {
+            n.dropped = parent;
+            n.drops = s.ours;
+        }
     }
     n
 }

@@ -8,16 +8,18 @@ ghost use mathlib.Core.Path.{_≡_};
 ghost use Prim.Native.Nat.{_<_};
 ghost use Rattle.task.specs.Frames.{workLimit};
 ghost use Rattle.task.specs.Values.{recordOf};
-ghost use Rattle.task.specs.Step.{counted, movedTo, ended};
-ghost use Rattle.turns.specs.Kinds.{runsOn, storesIt, statusOf, sideOf};
+ghost use Rattle.task.specs.Step.{withHeight, counted, movedTo, ended};
+ghost use Rattle.turns.specs.Kinds.{runsOn, storesIt, statusOf, heightLeft, sideOf};
 
-// Whether the task runs on alone.
+// Whether the task runs on alone, with the stack that it had.
 pub fn runs_on(kind: Kind) -> bool
     ensures { λ r. ⌜ r ≡ runsOn kind ⌝ }
 {
     match kind {
         Kind::Stores => true,
         Kind::Goes => true,
+        Kind::Pushes => false,
+        Kind::Pops => false,
         Kind::Waits => false,
         Kind::Halts => false,
         Kind::Faults => false,
@@ -31,6 +33,8 @@ pub fn does_store(kind: Kind) -> bool
     match kind {
         Kind::Stores => true,
         Kind::Goes => false,
+        Kind::Pushes => false,
+        Kind::Pops => false,
         Kind::Waits => false,
         Kind::Halts => false,
         Kind::Faults => false,
@@ -45,6 +49,8 @@ fn status_of(kind: Kind, fault: u8) -> Status
     match kind {
         Kind::Stores => Status::Running,
         Kind::Goes => Status::Running,
+        Kind::Pushes => Status::Running,
+        Kind::Pops => Status::Running,
         Kind::Waits => Status::Waiting,
         Kind::Halts => Status::Halted,
         Kind::Faults => Status::Faulted(fault),
@@ -84,12 +90,23 @@ pub fn record_of(v: Value) -> Fork
     }
 }
 
+// A fault empties the stack.
+fn height_left(kind: Kind, height: u32) -> u32
+    ensures { λ r. ⌜ r ≡ heightLeft kind height ⌝ }
+{
+    if let Kind::Faults = kind {
+        return 0;
+    }
+    height
+}
+
 // A task whose side an instruction has ended. The caller has found the work below its limit.
 pub fn ended_task(t: Task, kind: Kind, fault: u8) -> Task
     requires { ⌜ t .span < workLimit ⌝ }
-    ensures { λ r. ⌜ r ≡ ended (statusOf kind fault) (counted t) ⌝ }
+    ensures { λ r. ⌜ r ≡ withHeight (heightLeft kind (t .height)) (ended (statusOf kind fault) (counted t)) ⌝ }
 {
     let status = status_of(kind, fault);
+    let height = height_left(kind, t.height);
     let forks = t.forks;
     Task {
         status,
@@ -98,6 +115,7 @@ pub fn ended_task(t: Task, kind: Kind, fault: u8) -> Task
         counter: 0,
         span: t.span + 1,
         depth: t.depth,
+        height,
         forks,
     }
 }
@@ -118,16 +136,18 @@ pub fn side_task(t: Task, under: Fork, pc: u16, counter: u32) -> Task
         counter,
         span: t.span + 1,
         depth: t.depth + 1,
+        height: t.height,
         forks,
     }
 }
 
-// The child's side: the same, at its own first instruction and with counter 0.
+// The child's side: the same, at its own first instruction, with counter 0 and an empty stack.
 pub fn begun_at(parent: Task, pc: u16) -> Task
-    ensures { λ r. ⌜ r ≡ movedTo pc 0 parent ⌝ }
+    ensures { λ r. ⌜ r ≡ withHeight 0 (movedTo pc 0 parent) ⌝ }
 {
     let mut n = parent;
     n.pc = pc;
     n.counter = 0;
+    n.height = 0;
     n
 }

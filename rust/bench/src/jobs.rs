@@ -1,15 +1,15 @@
 //! The jobs that are run.
 
 use checks::assemble::{
-    fork, halt, if_jump, join, jralloc, jump, mov, op, word, Annotation, Assembly, JobInput,
-    Operand,
+    fork, halt, if_jump, join, jralloc, jump, mov, op, pop, push, word, Annotation, Assembly,
+    JobInput, Operand,
 };
 use checks::hand::{f, figure_2};
 use checks::layout::pair;
 use model::opcode::{ADD, MULTIPLY, SUBTRACT};
 use Operand::{Int, Lab, Reg};
 
-/// Registers of the jobs that fork: the rounds that are left, and the join record.
+/// The rounds that are left, and, of the jobs that fork, the join record.
 const ROUNDS: u8 = 0;
 const RECORD: u8 = 1;
 
@@ -29,6 +29,43 @@ pub fn serial(picks: u64) -> Vec<u8> {
     serial.block(Annotation::None, &[halt()]);
     JobInput::new(serial.image(), 1, 0)
         .with_register(0, (picks / 5) as i64)
+        .bytes()
+}
+
+/// One task whose loop calls a subroutine from two places: the label to come back to is pushed, and
+/// the subroutine pops it after three instructions of work. Seventeen instructions a round.
+pub fn calls(picks: u64) -> Vec<u8> {
+    const LOOP: u8 = 0;
+    const SECOND: u8 = 1;
+    const AGAIN: u8 = 2;
+    const SUBROUTINE: u8 = 3;
+    const OVER: u8 = 4;
+    const SUM: u8 = 2;
+    const BACK: u8 = 3;
+    const PICKS_A_ROUND: u64 = 17;
+
+    let mut calls = Assembly::default();
+    let first = [
+        if_jump(ROUNDS, Lab(OVER)),
+        op(SUBTRACT, ROUNDS, ROUNDS, Int(1)),
+        push(Lab(SECOND)),
+        jump(Lab(SUBROUTINE)),
+    ];
+    assert_eq!(calls.block(Annotation::None, &first), LOOP);
+    let second = [push(Lab(AGAIN)), jump(Lab(SUBROUTINE))];
+    assert_eq!(calls.block(Annotation::None, &second), SECOND);
+    assert_eq!(calls.block(Annotation::None, &[jump(Lab(LOOP))]), AGAIN);
+    let subroutine = [
+        op(MULTIPLY, SUM, SUM, Int(3)),
+        op(ADD, SUM, SUM, Reg(ROUNDS)),
+        op(SUBTRACT, SUM, SUM, Int(7)),
+        pop(BACK),
+        jump(Reg(BACK)),
+    ];
+    assert_eq!(calls.block(Annotation::None, &subroutine), SUBROUTINE);
+    assert_eq!(calls.block(Annotation::None, &[halt()]), OVER);
+    JobInput::new(calls.image(), 1, 0)
+        .with_register(ROUNDS.into(), (picks / PICKS_A_ROUND) as i64)
         .bytes()
 }
 

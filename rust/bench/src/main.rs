@@ -11,8 +11,9 @@
 //!
 //! What is timed beside the peer:
 //!
-//! - `run-serial`, `run-figure2`, `run-forks`, `run-waits`, `run-rest`: a whole run of a million picks,
-//!   from the job's bytes to the report's. Both put question 10, the reader's and start's own once.
+//! - `run-serial`, `run-calls`, `run-figure2`, `run-forks`, `run-waits`, `run-rest`: a whole run of a
+//!   million picks, from the job's bytes to the report's. Both put question 10, the reader's and
+//!   start's own once. All but `run-calls` are programs of version 1.
 //! - `job`, `job-small`: a whole call, from the job's bytes to the text in a lent buffer, with the same
 //!   questions: 256 instructions, words and picks; and program F, nine picks.
 //!
@@ -49,7 +50,7 @@ const WORK: usize = 2;
 fn compare_images() {
     const ROUNDS: usize = 401;
     const CALLS: u32 = 40;
-    let image = checks::generate::valid_image(1, 128, 1024);
+    let image = checks::generate::valid_image(1, model::VERSION_1, 128, 1024);
     let check = calls_in_turns(
         ROUNDS,
         CALLS,
@@ -320,6 +321,11 @@ fn main() {
     compare_picks();
     let picks = 1_000_000;
     compare_runs("run-serial", "one task's loop, P 1", &jobs::serial(picks));
+    compare_runs(
+        "run-calls",
+        "a loop that calls a subroutine from two places, P 1",
+        &jobs::calls(picks),
+    );
     compare_runs(
         "run-figure2",
         "002's Figure 2, P 64, interval 64",

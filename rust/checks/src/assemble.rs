@@ -1,10 +1,10 @@
 //! Programs put together block by block, without the model's writer.
 
 use crate::layout::{
-    image, instruction, join_target, plain, promotion_ready, BlockRecord, InstructionRecord,
+    image_of, instruction, join_target, plain, promotion_ready, BlockRecord, InstructionRecord,
     ABSENT, INTEGER, LABEL, REGISTER,
 };
-use model::opcode;
+use model::{opcode, VERSION_1, VERSION_2};
 
 /// An operand v.
 #[derive(Clone, Copy, Debug, PartialEq, Eq)]
@@ -59,6 +59,14 @@ pub fn halt() -> InstructionRecord {
     instruction(opcode::HALT, 0, 0, ABSENT, 0)
 }
 
+pub fn push(v: Operand) -> InstructionRecord {
+    with_operand(opcode::PUSH, 0, 0, v)
+}
+
+pub fn pop(r: u8) -> InstructionRecord {
+    instruction(opcode::POP, r, 0, ABSENT, 0)
+}
+
 #[derive(Clone, Debug)]
 pub enum Annotation {
     None,
@@ -82,6 +90,14 @@ impl Annotation {
                 combining,
                 pairs,
             } => join_target(first, *policy, *combining, pairs),
+        }
+    }
+
+    /// Whether version 1 has room for it.
+    fn is_short(&self) -> bool {
+        match self {
+            Annotation::JoinTarget { pairs, .. } => pairs.len() <= model::most_pairs(VERSION_1),
+            _ => true,
         }
     }
 }
@@ -117,14 +133,24 @@ impl Assembly {
         self.blocks.len()
     }
 
+    /// Of the first version that has all that the blocks need.
     pub fn image(&self) -> Vec<u8> {
+        let last_opcode = model::last_opcode(VERSION_1);
+        let is_first = |(annotation, code): &(Annotation, Vec<InstructionRecord>)| {
+            annotation.is_short() && code.iter().all(|record| record[0] <= last_opcode)
+        };
+        let is_first = self.blocks.iter().all(is_first);
+        self.image_of(if is_first { VERSION_1 } else { VERSION_2 })
+    }
+
+    pub fn image_of(&self, version: u16) -> Vec<u8> {
         let mut records = Vec::new();
         let mut instructions = Vec::new();
         for (annotation, code) in &self.blocks {
             records.push(annotation.record(instructions.len() as u16));
             instructions.extend(code);
         }
-        image(&records, &instructions)
+        image_of(version, &records, &instructions)
     }
 }
 

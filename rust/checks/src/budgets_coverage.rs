@@ -2,10 +2,12 @@
 
 use crate::budgets::BudgetCase;
 use crate::counts::Counts;
-use crate::names::{end, ends, kind, KINDS};
+use crate::names::{
+    end, ends, is_version_before_counts, job_version, kind, version, KINDS, VERSION_BEFORE_COUNTS,
+};
 use engine::{REPORT_BYTES, TEXT_BYTES};
 use model::job::{Report, BUDGET};
-use model::question;
+use model::{question, VERSIONS};
 
 pub struct BudgetsCoverage {
     met: Counts,
@@ -73,6 +75,8 @@ impl Default for BudgetsCoverage {
             }
         }
         names.extend(KINDS.map(final_register));
+        names.extend(VERSIONS.map(version));
+        names.push(VERSION_BEFORE_COUNTS.to_string());
         names.extend(NAMES.map(String::from));
         BudgetsCoverage {
             met: Counts::of("jobs", names),
@@ -85,6 +89,11 @@ impl BudgetsCoverage {
         self.met.cases += 1;
         let number = answered.as_ref().err().copied().unwrap_or(0);
         self.met.meet(&answer(number));
+        if number == 0 {
+            self.met.meet(&job_version(&case.job));
+        } else if is_version_before_counts(&case.job, number) {
+            self.met.meet(VERSION_BEFORE_COUNTS);
+        }
         let outcome = match answered {
             Err(_) => "refused",
             Ok(Report { end: None, .. }) => "spent",

@@ -3,9 +3,11 @@
 use crate::draft::{near_ends, Draft};
 use crate::layout::{block_field, instruction_field, INSTRUCTION};
 use crate::random::Random;
+use model::most_pairs;
 
 pub const HEADER_FIELDS: [&str; 4] = ["mark", "version", "B", "I"];
-pub const BLOCK_FIELDS: [&str; 9] = [
+/// The last four are version 2's alone.
+pub const BLOCK_FIELDS: [&str; 13] = [
     "first",
     "annotation",
     "policy",
@@ -15,7 +17,12 @@ pub const BLOCK_FIELDS: [&str; 9] = [
     "pair 1",
     "pair 2",
     "pair 3",
+    "pair 4",
+    "pair 5",
+    "pair 6",
+    "pair 7",
 ];
+const FIRST_PAIR: usize = 5;
 pub const INSTRUCTION_FIELDS: [&str; 5] = ["opcode", "r", "s", "kind", "operand"];
 
 /// The field that was damaged, by its position in the lists above, and the annotation or opcode
@@ -50,7 +57,7 @@ impl Draft {
                 let at = random.below(3);
                 self.change_byte(random, at, b"TPBtpb\0");
             }
-            1 => self.change_half(random, 3, &[0, 2, 3, 256, 257, 0x101, u16::MAX]),
+            1 => self.change_half(random, 3, &[0, 1, 2, 3, 256, 257, 258, u16::MAX]),
             2 => self.change_byte(random, 5, &[0, 1, 127, 128, 129, 255]),
             _ => self.change_half(random, 6, &[0, 1, 1023, 1024, 1025, u16::MAX]),
         }
@@ -60,7 +67,7 @@ impl Draft {
     fn damage_block(&mut self, random: &mut Random, block: usize) -> Field {
         let at = self.block_at(block);
         let annotation = self.image[at + block_field::ANNOTATION];
-        let field = random.below(BLOCK_FIELDS.len());
+        let field = random.below(FIRST_PAIR + most_pairs(self.version));
         let (b, i) = (self.block_count as u8, self.instruction_count as u16);
         match field {
             0 => {
@@ -86,11 +93,11 @@ impl Draft {
                 self.change_byte(random, at + block_field::LABEL, &likely);
             }
             4 => {
-                let likely = [0, 1, 2, 3, 4, 5, 255];
+                let likely = [0, 1, 2, 3, 4, 5, 7, 8, 9, 255];
                 self.change_byte(random, at + block_field::PAIR_COUNT, &likely);
             }
             _ => {
-                let place = at + block_field::PAIRS + (field - 5);
+                let place = at + block_field::PAIRS + (field - FIRST_PAIR);
                 // A target equal to the neighbour's, or one beside it.
                 let neighbour = self.image[place - 1];
                 let likely = [0, 1, 0xf0, neighbour, neighbour ^ 0x10, neighbour ^ 1];
@@ -107,8 +114,8 @@ impl Draft {
         let register = [0, 1, 15, 16, 17, 255];
         match field {
             0 => {
-                let any = random.between(0, 17) as u8;
-                let likely = [any, any, 0, 12, 13, 14, 15, 16, 255];
+                let any = random.between(0, 18) as u8;
+                let likely = [any, any, 0, 12, 13, 14, 15, 16, 17, 18, 255];
                 self.change_byte(random, at + instruction_field::OPCODE, &likely);
             }
             1 => self.change_byte(random, at + instruction_field::R, &register),

@@ -2,10 +2,12 @@
 
 use crate::counts::Counts;
 use crate::dispatch::{Rounds, WRONG_LANES};
-use crate::names::{end, ends};
+use crate::names::{
+    end, ends, is_version_before_counts, job_version, version, VERSION_BEFORE_COUNTS,
+};
 use crate::rounds::{Event, Walk, EVENTS};
 use engine::DISPATCH_BYTES;
-use model::{question, MAX_LANES};
+use model::{question, MAX_LANES, VERSIONS};
 
 /// Everything that can be met ought to be.
 pub struct DispatchCoverage {
@@ -82,6 +84,8 @@ impl Default for DispatchCoverage {
         names.extend(LENGTHS.map(of_length));
         names.extend(ends(END_SPENT));
         names.extend(NAMES.map(String::from));
+        names.extend(VERSIONS.map(version));
+        names.push(VERSION_BEFORE_COUNTS.to_string());
         for lanes in 1..=MAX_LANES {
             let events = EVENTS
                 .into_iter()
@@ -103,6 +107,9 @@ impl DispatchCoverage {
         self.met.sum("dispatches", 1);
         let number = walked.as_ref().err().copied().unwrap_or(0);
         self.met.meet_listed(&answer(number));
+        if is_version_before_counts(job, number) {
+            self.met.meet_listed(VERSION_BEFORE_COUNTS);
+        }
         match walked {
             Ok(walk) => self.count_walk(job, rounds, walk),
             Err(number) => self.count_refusal(*number, rounds),
@@ -127,6 +134,7 @@ impl DispatchCoverage {
     fn count_walk(&mut self, job: &[u8], rounds: Rounds, walk: &Walk) {
         let Rounds { lanes, budget, .. } = rounds;
         let machine = &walk.machine;
+        self.met.meet_listed(&job_version(job));
         self.met.sum("rounds", walk.rounds);
         self.met.sum("picks", machine.work().into());
         self.met.meet_listed(&end(machine.end(), END_SPENT));

@@ -1,24 +1,30 @@
 //! An image in the making: a valid one, and changes of more than a field.
 
 use crate::layout::{
-    image, instruction, join_target, pair, plain, promotion_ready, BlockRecord, InstructionRecord,
-    ABSENT, BLOCK, HEADER, INSTRUCTION, INTEGER, LABEL, REGISTER,
+    block_len, image_of, instruction, join_target, pair, plain, pop, promotion_ready, BlockRecord,
+    InstructionRecord, ABSENT, HEADER, INSTRUCTION, INTEGER, LABEL, LONG_BLOCK, REGISTER,
 };
 use crate::random::Random;
+use model::{most_pairs, opcode, VERSION_1, VERSION_2};
 
-/// The image, with the counts that it was made for.
+/// The image, with the version and the counts that it was made for.
 pub struct Draft {
     pub image: Vec<u8>,
+    pub version: u16,
     pub block_count: usize,
     pub instruction_count: usize,
 }
 
 impl Draft {
-    pub fn valid(random: &mut Random, (block_count, instruction_count): (usize, usize)) -> Self {
+    pub fn valid(
+        random: &mut Random,
+        version: u16,
+        (block_count, instruction_count): (usize, usize),
+    ) -> Self {
         let starts = starts(random, block_count, instruction_count);
         let blocks: Vec<_> = starts
             .iter()
-            .map(|&first| block_record(random, first, block_count))
+            .map(|&first| block_record(random, version, first, block_count))
             .collect();
         let mut next_block = 1;
         let instructions: Vec<_> = (1..=instruction_count)
@@ -29,26 +35,27 @@ impl Draft {
                 };
                 let opcode = if next == end {
                     next_block += 1;
-                    random.between(13, 15)
+                    random.between(13, 15) as u8
                 } else {
-                    random.between(1, 12)
+                    going_on(random, version)
                 };
-                instruction_record(random, opcode as u8, block_count)
+                instruction_record(random, opcode, block_count)
             })
             .collect();
         Draft {
-            image: image(&blocks, &instructions),
+            image: image_of(version, &blocks, &instructions),
+            version,
             block_count,
             instruction_count,
         }
     }
 
     pub fn block_at(&self, block: usize) -> usize {
-        HEADER + BLOCK * block
+        HEADER + block_len(self.version) * block
     }
 
     pub fn instruction_at(&self, instruction: usize) -> usize {
-        HEADER + BLOCK * self.block_count + INSTRUCTION * instruction
+        self.block_at(self.block_count) + INSTRUCTION * instruction
     }
 
     pub fn half(&self, at: usize) -> u16 {
@@ -72,11 +79,30 @@ impl Draft {
             };
             self.set_half(at, moved);
         } else {
-            let opcode = random.between(1, 15) as u8;
+            let opcode = random.between(1, model::last_opcode(self.version).into()) as u8;
             let record = instruction_record(random, opcode, self.block_count);
             let at = self.instruction_at(near_ends(random, self.instruction_count));
             self.image[at..at + INSTRUCTION].copy_from_slice(&record);
         }
+    }
+
+    /// The same records in an image of the other version. Version 1 has no room for some pairs of
+    /// version 2, and lacks two of its opcodes.
+    pub fn move_to_other_version(&mut self) {
+        let old = block_len(self.version);
+        let new = block_len(VERSION_1 + VERSION_2 - self.version);
+        let (front, instructions) = self.image.split_at(self.instruction_at(0));
+        let (header, blocks) = front.split_at(HEADER);
+        let mut image = header.to_vec();
+        for record in blocks.chunks_exact(old) {
+            let mut moved = [0; LONG_BLOCK];
+            moved[..old].copy_from_slice(record);
+            image.extend(&moved[..new]);
+        }
+        image.extend(instructions);
+        self.version = VERSION_1 + VERSION_2 - self.version;
+        self.image = image;
+        self.set_half(3, self.version);
     }
 
     /// Other counts in the header, and the length that goes with them.
@@ -96,7 +122,7 @@ impl Draft {
         self.image[5] = block_count as u8;
         self.set_half(6, instruction_count as u16);
         let fill = if random.one_in(2) { 0 } else { random.byte() };
-        let len = HEADER + BLOCK * block_count + INSTRUCTION * instruction_count;
+        let len = self.block_at(block_count) + INSTRUCTION * instruction_count;
         self.image.resize(len, fill);
     }
 
@@ -114,7 +140,10 @@ impl Draft {
     }
 
     pub fn lengthen(&mut self, random: &mut Random) {
-        let longer = [1, BLOCK, INSTRUCTION, random.between(1, 1000)];
+        // Also by what the other version's records have more.
+        let more = 4 * self.block_count;
+        let record = block_len(self.version);
+        let longer = [1, record, more, INSTRUCTION, random.between(1, 1000)];
         let len = self.image.len() + random.pick(&longer);
         let fill = if random.one_in(2) { 0 } else { random.byte() };
         self.image.resize(len, fill);
@@ -163,13 +192,13 @@ fn label(random: &mut Random, block_count: usize) -> u8 {
     near_ends(random, block_count) as u8
 }
 
-fn block_record(random: &mut Random, first: u16, block_count: usize) -> BlockRecord {
+fn block_record(random: &mut Random, version: u16, first: u16, block_count: usize) -> BlockRecord {
     match random.below(3) {
         0 => plain(first),
         1 => promotion_ready(first, label(random, block_count)),
         _ => {
             let mut targets = 0u16;
-            for _ in 0..random.between(0, 4) {
+            for _ in 0..random.between(0, most_pairs(version)) {
                 targets |= 1 << register(random);
             }
             let pairs: Vec<u8> = (0..16)
@@ -180,6 +209,14 @@ fn block_record(random: &mut Random, first: u16, block_count: usize) -> BlockRec
             join_target(first, policy, label(random, block_count), &pairs)
         }
     }
+}
+
+/// An opcode that ends no block.
+fn going_on(random: &mut Random, version: u16) -> u8 {
+    if version == VERSION_2 && random.one_in(6) {
+        return random.pick(&[opcode::PUSH, opcode::POP]);
+    }
+    random.between(1, 12) as u8
 }
 
 /// A well-formed instruction of this opcode.
@@ -194,8 +231,11 @@ fn instruction_record(random: &mut Random, opcode: u8, block_count: usize) -> In
     } else {
         0
     };
-    if opcode == 14 {
+    if opcode == opcode::HALT {
         return instruction(opcode, r, s, ABSENT, 0);
+    }
+    if opcode == opcode::POP {
+        return pop(register(random));
     }
     match random.below(3) {
         0 => instruction(opcode, r, s, REGISTER, u64::from(register(random))),

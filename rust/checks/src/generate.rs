@@ -4,6 +4,7 @@ use crate::damage::Field;
 use crate::draft::Draft;
 use crate::layout::HEADER;
 use crate::random::Random;
+use model::{VERSION_1, VERSION_2};
 
 #[derive(Clone, Copy, Debug, PartialEq, Eq)]
 pub enum Shape {
@@ -11,6 +12,8 @@ pub enum Shape {
     OneField,
     SeveralFields,
     Replaced,
+    /// Written as the other version.
+    Moved,
     Resized,
     Cut,
     Lengthened,
@@ -18,11 +21,12 @@ pub enum Shape {
     RandomRecords,
 }
 
-pub const SHAPES: [Shape; 9] = [
+pub const SHAPES: [Shape; 10] = [
     Shape::Valid,
     Shape::OneField,
     Shape::SeveralFields,
     Shape::Replaced,
+    Shape::Moved,
     Shape::Resized,
     Shape::Cut,
     Shape::Lengthened,
@@ -42,22 +46,13 @@ pub struct Case {
 pub fn case(seed: u64, number: u64) -> Case {
     let random = &mut Random::new(seed, number);
     let mut damaged = None;
-    let shape = match random.below(32) {
-        0..=7 => Shape::Valid,
-        8..=17 => Shape::OneField,
-        18..=20 => Shape::SeveralFields,
-        21..=23 => Shape::Replaced,
-        24..=25 => Shape::Resized,
-        26 => Shape::Cut,
-        27 => Shape::Lengthened,
-        28..=29 => Shape::RandomBytes,
-        _ => Shape::RandomRecords,
-    };
+    let shape = shape(random);
     let image = if shape == Shape::RandomBytes {
         random_bytes(random)
     } else {
         let counts = counts(random);
-        let mut draft = Draft::valid(random, counts);
+        let version = random.pick(&[VERSION_1, VERSION_2]);
+        let mut draft = Draft::valid(random, version, counts);
         match shape {
             Shape::OneField => damaged = Some(draft.damage(random)),
             Shape::SeveralFields => {
@@ -66,6 +61,7 @@ pub fn case(seed: u64, number: u64) -> Case {
                 }
             }
             Shape::Replaced => draft.replace(random),
+            Shape::Moved => draft.move_to_other_version(),
             Shape::Resized => draft.resize(random),
             Shape::Cut => draft.cut(random),
             Shape::Lengthened => draft.lengthen(random),
@@ -83,9 +79,30 @@ pub fn case(seed: u64, number: u64) -> Case {
     }
 }
 
-/// A valid image of these counts, with B not above I.
-pub fn valid_image(seed: u64, block_count: usize, instruction_count: usize) -> Vec<u8> {
-    Draft::valid(&mut Random::new(seed, 0), (block_count, instruction_count)).image
+fn shape(random: &mut Random) -> Shape {
+    match random.below(32) {
+        0..=7 => Shape::Valid,
+        8..=17 => Shape::OneField,
+        18..=20 => Shape::SeveralFields,
+        21..=22 => Shape::Replaced,
+        23 => Shape::Moved,
+        24..=25 => Shape::Resized,
+        26 => Shape::Cut,
+        27 => Shape::Lengthened,
+        28..=29 => Shape::RandomBytes,
+        _ => Shape::RandomRecords,
+    }
+}
+
+/// A valid image of this version and these counts, with B not above I.
+pub fn valid_image(
+    seed: u64,
+    version: u16,
+    block_count: usize,
+    instruction_count: usize,
+) -> Vec<u8> {
+    let counts = (block_count, instruction_count);
+    Draft::valid(&mut Random::new(seed, 0), version, counts).image
 }
 
 /// Mostly the image's length.
@@ -133,7 +150,12 @@ fn random_bytes(random: &mut Random) -> Vec<u8> {
     let mut bytes: Vec<u8> = (0..len).map(|_| random.byte()).collect();
     // One question further each time, as far as the length goes.
     let known = random.pick(&[0, 1, 2, 3, 4, 5, 5, 5]);
-    for (byte, right) in bytes.iter_mut().zip(*b"TPB\x01\0").take(known) {
+    let version = random.pick(b"\x01\x02");
+    for (byte, right) in bytes
+        .iter_mut()
+        .zip([b'T', b'P', b'B', version, 0])
+        .take(known)
+    {
         *byte = right;
     }
     if len > HEADER && random.one_in(2) {

@@ -1,12 +1,13 @@
-//! Jobs of document 01's 'Tried by hand'.
+//! Jobs of document 01's 'Tried by hand', and of document 02's request 4.
 
 use crate::assemble::{
-    fork, halt, if_jump, join, jralloc, jump, mov, op, word, Annotation, Assembly, JobInput,
-    Operand,
+    fork, halt, if_jump, join, jralloc, jump, mov, op, pop, push, word, Annotation, Assembly,
+    JobInput, Operand,
 };
 use crate::layout::{pair, program_f, InstructionRecord};
 use crate::product::{product, A, B};
 use model::opcode::{ADD, DIVIDE, SUBTRACT};
+use model::VERSION_2;
 use Operand::{Int, Lab, Reg};
 
 /// Program F with r0 4.
@@ -40,6 +41,57 @@ pub fn outside() -> InstructionRecord {
 /// Fault 32.
 pub fn by_zero() -> InstructionRecord {
     op(DIVIDE, 0, 0, Int(0))
+}
+
+/// A subroutine called from two places, by document 02's request 4: r0 is 10 in the end.
+pub fn call_and_return() -> JobInput {
+    const SECOND: u8 = 1;
+    const SUBROUTINE: u8 = 2;
+    const OVER: u8 = 3;
+    let call = |back| [push(Lab(back)), jump(Lab(SUBROUTINE))];
+    let mut calls = Assembly::default();
+    calls.block(Annotation::None, &call(SECOND));
+    calls.block(Annotation::None, &call(OVER));
+    calls.block(
+        Annotation::None,
+        &[op(ADD, 0, 0, Int(5)), pop(1), jump(Reg(1))],
+    );
+    calls.block(Annotation::None, &[halt()]);
+    JobInput::new(calls.image(), 1, 0)
+}
+
+/// F at P 2 with a stack: the task pushes 10 and forks, the parent pushes 20, and the joined task
+/// pops r3 and r4. The child's side is given.
+pub fn f_with_stack(child: &[InstructionRecord]) -> JobInput {
+    let target = Annotation::JoinTarget {
+        policy: 0,
+        combining: 3,
+        pairs: Vec::new(),
+    };
+    let mut f = Assembly::default();
+    let parent = [
+        jralloc(1, Lab(2)),
+        push(Int(10)),
+        fork(1, Lab(1)),
+        push(Int(20)),
+        join(Reg(1)),
+    ];
+    f.block(Annotation::None, &parent);
+    let mut side = child.to_vec();
+    side.push(join(Reg(1)));
+    f.block(Annotation::None, &side);
+    f.block(target, &[halt()]);
+    f.block(Annotation::None, &[pop(3), pop(4), join(Reg(1))]);
+    JobInput::new(f.image_of(VERSION_2), 2, 0)
+}
+
+/// So many pushes, and a halt.
+pub fn pushes(count: usize) -> JobInput {
+    let mut code = vec![push(Int(7)); count];
+    code.push(halt());
+    let mut pushes = Assembly::default();
+    pushes.block(Annotation::None, &code);
+    JobInput::new(pushes.image_of(VERSION_2), 1, 0)
 }
 
 /// The product loop of document 002's Figure 2 with b 5.
@@ -91,7 +143,7 @@ pub fn refused() -> Vec<(u8, Vec<u8>)> {
     vec![
         (1, with_image(|image| image.truncate(7))),
         (2, with_image(|image| image[2] = b'C')),
-        (3, with_image(|image| image[3] = 2)),
+        (3, with_image(|image| image[3] = 3)),
         (4, with_image(|image| image[5] = 0)),
         (5, with_image(|image| image.truncate(155))),
         (6, with_image(|image| image[8] = 1)),

@@ -2,14 +2,20 @@
 
 use crate::counts::Counts;
 use crate::jobs::{JobCase, Make, INTERVALS, MAKES};
-use crate::names::{at_depth, end, ends, refused_pick, refused_picks, DEPTHS, FAULTS, NOT_ENDED};
+use crate::names::{
+    at_depth, end, ends, kind, refused_pick, refused_picks, version, DEPTHS, FAULTS, KINDS,
+    NOT_ENDED,
+};
+use crate::shadow::Shadow;
 use model::plain::Evaluation;
 use model::task::{Step, Surroundings, Task, MAX_DEPTH};
-use model::{fault, opcode, Block, Job, Machine, Status};
+use model::{fault, opcode, Block, Job, Machine, Status, MAX_PAIRS, STACK, VERSIONS};
 
 /// Everything that can be met ought to be.
 pub struct JobCoverage {
     met: Counts,
+    /// Of the order at hand.
+    shadow: Shadow,
 }
 
 /// Ways of entering a block that may be promotion-ready, and where the counter stands beside the
@@ -25,6 +31,46 @@ const PROMOTION: &str = "promotion";
 const FORK: &str = "fork";
 const JOIN_THROUGH: &str = "join to its continuation";
 const OTHER_FAULT: &str = "parent and child faulted with different numbers";
+
+/// The faults of stacks, by the side of the innermost fork that the task is on.
+const STACK_FAULTS: [u8; 2] = [fault::FULL, fault::EMPTY];
+const TASKS: [&str; 2] = ["parent", "child"];
+/// Where a popped value was pushed: across a fork and its join means before the fork.
+const POPPED: [&str; 3] = [
+    "pop of a value pushed at the same depth",
+    "pop of a value pushed outside an open fork",
+    "pop of a value pushed before a fork, after its join",
+];
+const FULL_STACK: &str = "push that fills the stack";
+const LAST_VALUE: &str = "pop that empties the stack";
+const HALT_WITH_VALUES: &str = "halt with values on the stack";
+const WAIT_WITH_VALUES: &str = "wait with values on the stack";
+const FORK_WITH_VALUES: &str = "fork with values on the stack";
+const FAULT_WITH_VALUES: &str = "fault with values on the stack";
+const DROPPED: &str = "child's values dropped at a join";
+const RETURN: &str = "jump to a popped label";
+const STACKS: [&str; 8] = [
+    FULL_STACK,
+    LAST_VALUE,
+    HALT_WITH_VALUES,
+    WAIT_WITH_VALUES,
+    FORK_WITH_VALUES,
+    FAULT_WITH_VALUES,
+    DROPPED,
+    RETURN,
+];
+
+fn stack_fault(number: u8, task: &str) -> String {
+    format!("fault {} in a {}", number, task)
+}
+
+fn stacked(what: &str, kind: &str) -> String {
+    format!("{} of {}", what, kind)
+}
+
+fn joined_with(pairs: u8) -> String {
+    format!("joined with {} pairs", pairs)
+}
 
 fn make(make: Make) -> String {
     format!("make {:?}", make)
@@ -86,13 +132,30 @@ impl Default for JobCoverage {
         }
         names.push(OTHER_FAULT.to_string());
         names.extend(refused_picks());
+        names.extend(VERSIONS.map(version));
+        names.extend((0..=MAX_PAIRS as u8).map(joined_with));
+        for number in STACK_FAULTS {
+            names.extend(TASKS.map(|task| stack_fault(number, task)));
+        }
+        for kind in KINDS {
+            names.extend(["push", "pop"].map(|what| stacked(what, kind)));
+        }
+        names.extend(POPPED.map(String::from));
+        names.extend(STACKS.map(String::from));
         JobCoverage {
             met: Counts::of("jobs", names),
+            shadow: Shadow::default(),
         }
     }
 }
 
 impl JobCoverage {
+    /// An order of this job begins, of which the picks are counted.
+    pub fn begin(&mut self, job: &Job) {
+        self.met.meet_listed(&version(job.program.version));
+        self.shadow = Shadow::default();
+    }
+
     pub fn count_job(&mut self, case: &JobCase, expected: Option<&Evaluation>, deepest: usize) {
         self.met.cases += 1;
         self.met.meet_listed(&make(case.make));
@@ -113,11 +176,12 @@ impl JobCoverage {
         let before = &machine.slots()[slot].task;
         let depth = before.depth();
         let mut after = before.clone();
-        let step = after.step(Surroundings {
+        let step = after.step(&Surroundings {
             program: &job.program,
             words: &job.words,
             interval: job.interval,
         });
+        self.count_stack(job, before, &after, &step, slot);
         match step {
             Step::Onward => {
                 let instruction = &job.program.instructions[usize::from(before.pc)];
@@ -131,11 +195,61 @@ impl JobCoverage {
             }
             Step::Fork { .. } => self.met.meet_listed(&at_depth(FORK, depth)),
             Step::Halt => {}
-            Step::Wait => self.count_end_of_side(machine, slot, None),
+            Step::Wait => self.count_end_of_side(job, machine, slot, None),
             Step::Fault(number) => {
                 self.met.meet_listed(&fault_at(number, depth));
-                self.count_end_of_side(machine, slot, Some(number));
+                self.count_end_of_side(job, machine, slot, Some(number));
+                if depth > 0 && STACK_FAULTS.contains(&number) {
+                    let is_child = slot & usize::from(before.places) != 0;
+                    let name = stack_fault(number, TASKS[usize::from(is_child)]);
+                    self.met.meet_listed(&name);
+                }
             }
+        }
+    }
+
+    /// Counts what the instruction does with the task's stack.
+    fn count_stack(&mut self, job: &Job, before: &Task, after: &Task, step: &Step, slot: usize) {
+        let (depth, height) = (before.depth(), before.stack.height());
+        let instruction = &job.program.instructions[usize::from(before.pc)];
+        let popped = before.stack.values().last();
+        match (step, instruction.opcode, popped) {
+            (Step::Onward, opcode::PUSH, _) => {
+                let value = after.stack.values()[height];
+                self.met.meet_listed(&stacked("push", kind(value)));
+                if height + 1 == STACK {
+                    self.met.meet_listed(FULL_STACK);
+                }
+                self.shadow.push(slot, depth);
+            }
+            (Step::Onward, opcode::POP, Some(&value)) => {
+                self.met.meet_listed(&stacked("pop", kind(value)));
+                if height == 1 {
+                    self.met.meet_listed(LAST_VALUE);
+                }
+                let origin = self.shadow.pop(slot, depth, instruction.r);
+                self.met.meet_listed(POPPED[origin as usize]);
+            }
+            (Step::Onward, opcode::JUMP, _) if instruction.kind == 1 => {
+                if self.shadow.last_popped(slot) == Some(instruction.operand as u8) {
+                    self.met.meet_listed(RETURN);
+                }
+            }
+            _ => {}
+        }
+        if let Step::Fork { .. } = step {
+            self.shadow
+                .fork(slot, usize::from(before.places / 2), depth);
+        }
+        let with_values = match step {
+            Step::Fork { .. } => FORK_WITH_VALUES,
+            Step::Wait => WAIT_WITH_VALUES,
+            Step::Halt => HALT_WITH_VALUES,
+            Step::Fault(_) => FAULT_WITH_VALUES,
+            Step::Onward => return,
+        };
+        if height > 0 {
+            self.met.meet_listed(with_values);
         }
     }
 
@@ -157,7 +271,7 @@ impl JobCoverage {
         }
     }
 
-    fn count_end_of_side(&mut self, machine: &Machine, slot: usize, number: Option<u8>) {
+    fn count_end_of_side(&mut self, job: &Job, machine: &Machine, slot: usize, number: Option<u8>) {
         let task = &machine.slots()[slot].task;
         if task.depth() == 0 {
             return;
@@ -179,8 +293,22 @@ impl JobCoverage {
         };
         let [parent, child] = [parents, childs].map(|number| SIDES[usize::from(number.is_some())]);
         self.met.meet_listed(&sides(parent, child));
+        if parents.is_none() && childs.is_none() {
+            self.count_join(job, machine, slot & !width, slot | width);
+        }
         if parents.is_some() && childs.is_some() && parents != childs {
             self.met.meet_listed(OTHER_FAULT);
+        }
+    }
+
+    /// Counts the join of two sides without a fault.
+    fn count_join(&mut self, job: &Job, machine: &Machine, parent: usize, child: usize) {
+        let task = |slot: usize| &machine.slots()[slot].task;
+        let fork = task(parent).forks().last().expect("a fork is open");
+        let continuation = &job.program.blocks[usize::from(fork.continuation)];
+        self.met.meet_listed(&joined_with(continuation.pair_count));
+        if task(child).stack.height() > 0 {
+            self.met.meet_listed(DROPPED);
         }
     }
 

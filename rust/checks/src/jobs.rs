@@ -1,5 +1,6 @@
 //! Seeded jobs: those that start accepts, with programs of several makes, and refused ones.
 
+mod calls;
 mod mishap;
 mod nested;
 mod refused;
@@ -11,6 +12,7 @@ pub use refused::{refused, Refused};
 use crate::assemble::JobInput;
 use crate::product;
 use crate::random::Random;
+use model::{VERSION_1, VERSION_2};
 
 #[derive(Clone, Copy, Debug, PartialEq, Eq)]
 pub enum Make {
@@ -20,11 +22,19 @@ pub enum Make {
     Tree,
     /// Document 002's product loop.
     Product,
+    /// Subroutines, called from several places and by themselves.
+    Calls,
     /// Instructions at random.
     Wild,
 }
 
-pub const MAKES: [Make; 4] = [Make::Nested, Make::Tree, Make::Product, Make::Wild];
+pub const MAKES: [Make; 5] = [
+    Make::Nested,
+    Make::Tree,
+    Make::Product,
+    Make::Calls,
+    Make::Wild,
+];
 pub const INTERVALS: [u16; 6] = [0, 8, 9, 10, 1000, 65_535];
 
 #[derive(Clone, Debug)]
@@ -36,12 +46,14 @@ pub struct JobCase {
 /// The job of this number under this seed.
 pub fn job(seed: u64, number: u64) -> JobCase {
     let random = &mut Random::new(seed, number);
-    let make = match random.below(16) {
+    let make = match random.below(20) {
         0..=7 => Make::Nested,
         8..=11 => Make::Tree,
         12 => Make::Product,
+        13..=16 => Make::Calls,
         _ => Make::Wild,
     };
+    let version = random.pick(&[VERSION_1, VERSION_2]);
     let halvings = random.between(0, 6);
     let words: Vec<i64> = (0..random.pick(&[0, 0, 1, 3, 8]))
         .map(|_| integer(random))
@@ -51,13 +63,14 @@ pub fn job(seed: u64, number: u64) -> JobCase {
         *register = integer(random);
     }
     let image = match make {
-        Make::Nested => nested::program(random, halvings, words.len()),
-        Make::Tree => tree::program(random, halvings, words.len()),
+        Make::Nested => nested::program(random, version, halvings, words.len()),
+        Make::Tree => tree::program(random, version, halvings, words.len()),
         Make::Product => {
             registers[usize::from(product::A)] = random.below(120) as i64;
-            product::product()
+            product::product_of(version)
         }
-        Make::Wild => wild::program(random, words.len()),
+        Make::Calls => calls::program(random, halvings),
+        Make::Wild => wild::program(random, version, words.len()),
     };
     let input = JobInput {
         image,

@@ -1,10 +1,14 @@
-//! Images built record by record from document 01's layout, without the model's writer.
+//! Images built record by record from document 01's layout and document 02's, without the model's
+//! writer.
 
 pub const HEADER: usize = 8;
+/// Of version 1, and of version 2.
 pub const BLOCK: usize = 10;
+pub const LONG_BLOCK: usize = 14;
 pub const INSTRUCTION: usize = 12;
 
-pub type BlockRecord = [u8; BLOCK];
+/// As version 2 has it. Version 1 has the first ten bytes.
+pub type BlockRecord = [u8; LONG_BLOCK];
 pub type InstructionRecord = [u8; INSTRUCTION];
 
 /// Operand kinds.
@@ -12,6 +16,14 @@ pub const ABSENT: u8 = 0;
 pub const REGISTER: u8 = 1;
 pub const LABEL: u8 = 2;
 pub const INTEGER: u8 = 3;
+
+/// Length of a version's block record.
+pub fn block_len(version: u16) -> usize {
+    match version {
+        2 => LONG_BLOCK,
+        _ => BLOCK,
+    }
+}
 
 /// Offsets inside a block record.
 pub mod block_field {
@@ -33,7 +45,7 @@ pub mod instruction_field {
 }
 
 fn block(first: u16, annotation: u8, policy: u8, label: u8, pairs: &[u8]) -> BlockRecord {
-    let mut record = [0; BLOCK];
+    let mut record = [0; LONG_BLOCK];
     record[..2].copy_from_slice(&first.to_le_bytes());
     record[2] = annotation;
     record[3] = policy;
@@ -87,11 +99,31 @@ pub fn join(r: u8) -> InstructionRecord {
     instruction(15, 0, 0, REGISTER, u64::from(r))
 }
 
+pub fn push(kind: u8, operand: u64) -> InstructionRecord {
+    instruction(16, 0, 0, kind, operand)
+}
+
+pub fn pop(r: u8) -> InstructionRecord {
+    instruction(17, r, 0, ABSENT, 0)
+}
+
+/// Of version 1.
 pub fn image(blocks: &[BlockRecord], instructions: &[InstructionRecord]) -> Vec<u8> {
-    let mut image = b"TPB\x01\0".to_vec();
+    image_of(1, blocks, instructions)
+}
+
+pub fn image_of(
+    version: u16,
+    blocks: &[BlockRecord],
+    instructions: &[InstructionRecord],
+) -> Vec<u8> {
+    let mut image = b"TPB".to_vec();
+    image.extend(version.to_le_bytes());
     image.push(blocks.len() as u8);
     image.extend((instructions.len() as u16).to_le_bytes());
-    image.extend(blocks.concat());
+    for block in blocks {
+        image.extend(&block[..block_len(version)]);
+    }
     image.extend(instructions.concat());
     image
 }
@@ -120,9 +152,9 @@ pub fn program_f() -> Vec<u8> {
     image(&blocks, &instructions)
 }
 
-/// A small program with every opcode, each with every kind of operand that it may have, and every
-/// annotation.
-pub fn every_form() -> Vec<u8> {
+/// A small program with every opcode of its version, each with every kind of operand that it may
+/// have, and every annotation.
+pub fn every_form(version: u16) -> Vec<u8> {
     let kinds = [(REGISTER, 15), (LABEL, 6), (INTEGER, u64::MAX)];
     let forms = |opcode: u8| {
         let r = if matches!(opcode, 1..=9 | 11) { 15 } else { 0 };
@@ -134,12 +166,16 @@ pub fn every_form() -> Vec<u8> {
         kinds.map(|(kind, operand)| instruction(opcode, r, s, kind, operand))
     };
     let mut instructions: Vec<_> = (1..=12).flat_map(forms).collect();
+    if version == 2 {
+        instructions.extend(forms(16));
+        instructions.push(pop(15));
+    }
     let body = instructions.len() as u16;
     instructions.extend(forms(13));
     instructions.extend(forms(15));
     instructions.push(halt());
 
-    let pairs = [pair(15, 0), pair(3, 1), pair(0, 14), pair(9, 15)];
+    let pairs = most_pairs(version);
     let blocks = [
         plain(0),
         promotion_ready(body + 1, 6),
@@ -149,14 +185,29 @@ pub fn every_form() -> Vec<u8> {
         plain(body + 5),
         plain(body + 6),
     ];
-    image(&blocks, &instructions)
+    image_of(version, &blocks, &instructions)
 }
 
-/// An image of the given counts: blocks as even as can be, every one a join target with four
-/// pairs, sums of a register and an integer, and a jump at each block's end.
+/// As many pairs as a block of this version has room for.
+fn most_pairs(version: u16) -> Vec<u8> {
+    let mut pairs = vec![pair(15, 0), pair(3, 1)];
+    if version == 2 {
+        pairs.extend([pair(3, 2), pair(2, 3), pair(8, 7), pair(0, 9)]);
+    }
+    pairs.extend([pair(0, 14), pair(9, 15)]);
+    pairs
+}
+
+/// An image of version 1 with the given counts.
 pub fn even_blocks(block_count: usize, instruction_count: usize) -> Vec<u8> {
+    even_blocks_of(1, block_count, instruction_count)
+}
+
+/// An image of the given counts: blocks as even as can be, every one a join target with as many pairs
+/// as its version has room for, sums of a register and an integer, and a jump at each block's end.
+pub fn even_blocks_of(version: u16, block_count: usize, instruction_count: usize) -> Vec<u8> {
     let start = |b: usize| b * instruction_count / block_count;
-    let pairs = [pair(15, 0), pair(3, 1), pair(0, 14), pair(9, 15)];
+    let pairs = most_pairs(version);
     let blocks: Vec<_> = (0..block_count)
         .map(|b| {
             join_target(
@@ -173,5 +224,5 @@ pub fn even_blocks(block_count: usize, instruction_count: usize) -> Vec<u8> {
     for b in 0..block_count {
         instructions[start(b + 1) - 1] = jump((block_count - 1 - b) as u8);
     }
-    image(&blocks, &instructions)
+    image_of(version, &blocks, &instructions)
 }

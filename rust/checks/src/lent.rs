@@ -124,7 +124,7 @@ mod tests {
 
     #[test]
     fn places() {
-        for len in [0, 1, 63, 4095, 4096, 4097, 47_120] {
+        for len in [0, 1, 63, 4095, 4096, 4097, 47_128] {
             let mut at_end = Lent::new(len, AT_END);
             assert_eq!(at_end.slice().as_ptr_range().end as usize % PAGE, 0);
             let mut at_start = Lent::new(len, AT_START);

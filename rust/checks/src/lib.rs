@@ -63,6 +63,7 @@ pub mod rounds;
 pub mod run;
 #[cfg(feature = "engine")]
 pub mod run_program;
+mod shadow;
 pub mod shares;
 pub mod soak;
 pub mod state;

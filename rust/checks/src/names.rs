@@ -5,7 +5,7 @@ use model::{fault, question, End, Value};
 use std::ops::RangeInclusive;
 
 pub const DEPTHS: RangeInclusive<usize> = 0..=MAX_DEPTH;
-pub const FAULTS: RangeInclusive<u8> = fault::FIRST..=fault::LAST;
+pub const FAULTS: [u8; 10] = fault::ALL;
 pub const NOT_ENDED: &str = "not ended";
 /// What a register holds.
 pub const KINDS: [&str; 3] = ["integer", "label", "record"];
@@ -16,6 +16,23 @@ pub fn kind(value: Value) -> &'static str {
         Value::Label(_) => KINDS[1],
         Value::Record(_) => KINDS[2],
     }
+}
+
+/// Of a program that was accepted.
+pub fn version(version: u16) -> String {
+    format!("version {}", version)
+}
+
+/// Of a job that was accepted. Two bytes of length stand before its image.
+pub fn job_version(job: &[u8]) -> String {
+    version(u16::from_le_bytes([job[5], job[6]]))
+}
+
+/// A version that there is not, beside a number of blocks that there may not be.
+pub const VERSION_BEFORE_COUNTS: &str = "refused 3 before 4";
+
+pub fn is_version_before_counts(job: &[u8], number: u8) -> bool {
+    number == question::VERSION && !(1..=128).contains(&job[7])
 }
 
 pub fn at_depth(what: &str, depth: usize) -> String {

@@ -2,12 +2,21 @@
 
 pub use model::numbers::number_at;
 
-const REGISTER_FIELDS: [&str; 3] = ["kind", "first number", "second number"];
+const VALUE_FIELDS: [&str; 3] = ["kind", "first number", "second number"];
 
 /// What the number at this place among the registers' says.
 pub fn register_meaning(at: usize) -> String {
-    let (register, field) = (at / REGISTER_FIELDS.len(), at % REGISTER_FIELDS.len());
-    format!("r{}, {}", register, REGISTER_FIELDS[field])
+    format!("r{}", value_meaning(at))
+}
+
+/// The same among those of a stack's entries.
+pub fn entry_meaning(at: usize) -> String {
+    format!("stack entry {}", value_meaning(at))
+}
+
+fn value_meaning(at: usize) -> String {
+    let (value, field) = (at / VALUE_FIELDS.len(), at % VALUE_FIELDS.len());
+    format!("{}, {}", value, VALUE_FIELDS[field])
 }
 
 /// The first number in which the two differ, in words.

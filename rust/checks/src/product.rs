@@ -5,6 +5,7 @@ use crate::assemble::{
 };
 use crate::layout::pair;
 use model::opcode::{ADD, DIVIDE, LESS, REMAINDER, SUBTRACT};
+use model::VERSION_1;
 use Operand::{Int, Lab, Reg};
 
 pub const A: u8 = 0;
@@ -18,8 +19,13 @@ const N: u8 = 7;
 const TR: u8 = 8;
 const JR: u8 = 9;
 
-/// The image, with the blocks in the figure's order.
+/// The image of version 1.
 pub fn product() -> Vec<u8> {
+    product_of(VERSION_1)
+}
+
+/// The image, with the blocks in the figure's order.
+pub fn product_of(version: u16) -> Vec<u8> {
     const EXIT: u8 = 1;
     const LOOP: u8 = 2;
     const LOOP_TRY_PROMOTE: u8 = 3;
@@ -90,5 +96,5 @@ pub fn product() -> Vec<u8> {
     figure.block(Annotation::None, &[op(ADD, R, R, Reg(R2)), join(Reg(JR))]);
     figure.block(Annotation::None, &[join(Reg(JR))]);
     debug_assert_eq!(figure.block_count(), usize::from(EXIT_PAR) + 1);
-    figure.image()
+    figure.image_of(version)
 }

@@ -2,10 +2,11 @@
 
 use crate::counts::Counts;
 use crate::names::{
-    at_depth, end, ends, kind, refused_pick, refused_picks, DEPTHS, KINDS, NOT_ENDED,
+    at_depth, end, ends, is_version_before_counts, job_version, kind, refused_pick, refused_picks,
+    version, DEPTHS, KINDS, NOT_ENDED, VERSION_BEFORE_COUNTS,
 };
 use crate::replay::{ReplayCase, Replayed};
-use model::{question, Slot, Status};
+use model::{question, Slot, Status, VERSIONS};
 
 /// Everything that can be met ought to be.
 pub struct ReplayCoverage {
@@ -29,6 +30,15 @@ fn registers(kind: &str) -> String {
     format!("registers with {}s", kind)
 }
 
+/// Stacks of these tasks.
+fn stack_entries(kind: &str) -> String {
+    format!("stacks with {}s", kind)
+}
+
+fn with_stack(status: &str) -> String {
+    format!("{} with a stack", status)
+}
+
 impl Default for ReplayCoverage {
     fn default() -> Self {
         // Sixteen registers are always there.
@@ -44,6 +54,10 @@ impl Default for ReplayCoverage {
         let impossible = at_depth(WAITING, 0);
         names.retain(|name| *name != impossible);
         names.extend(KINDS.map(registers));
+        names.extend(KINDS.map(stack_entries));
+        names.extend([RUNNING, WAITING].map(with_stack));
+        names.extend(VERSIONS.map(version));
+        names.push(VERSION_BEFORE_COUNTS.to_string());
         ReplayCoverage {
             met: Counts::of("jobs", names),
         }
@@ -55,8 +69,12 @@ impl ReplayCoverage {
         self.met.cases += 1;
         let number = answered.as_ref().err().copied().unwrap_or(0);
         self.met.meet_listed(&answer(number));
+        if is_version_before_counts(&case.job, number) {
+            self.met.meet_listed(VERSION_BEFORE_COUNTS);
+        }
         match answered {
             Ok(replayed) => {
+                self.met.meet_listed(&job_version(&case.job));
                 let picks = case.order.len() as u64;
                 self.met.greatest("picks in the longest order", picks);
                 self.count_state(replayed);
@@ -92,6 +110,13 @@ impl ReplayCoverage {
         }
         for value in slot.task.registers {
             self.met.meet_listed(&registers(kind(value)));
+        }
+        for &value in slot.task.stack.values() {
+            self.met.meet_listed(&stack_entries(kind(value)));
+        }
+        if slot.task.stack.height() > 0 && status.is_some() {
+            self.met
+                .meet_listed(&with_stack(status.unwrap_or_default()));
         }
     }
 }

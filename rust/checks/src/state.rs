@@ -2,7 +2,9 @@
 
 use crate::numbers;
 pub use model::state::{bytes, NUMBERS};
-use model::state::{FORKS_AT, FORK_NUMBERS, JOB_NUMBERS, REGISTERS_AT, SLOT_NUMBERS};
+use model::state::{
+    FORKS_AT, FORK_NUMBERS, HEIGHT_AT, JOB_NUMBERS, REGISTERS_AT, SLOT_NUMBERS, STACK_AT,
+};
 
 const JOB_FIELDS: [&str; JOB_NUMBERS] = ["P", "interval", "work"];
 const TASK_FIELDS: [&str; FORKS_AT] = [
@@ -29,8 +31,12 @@ pub fn meaning(index: usize) -> String {
         let at = at - FORKS_AT;
         let (fork, field) = (at / FORK_FIELDS.len(), at % FORK_FIELDS.len());
         format!("open fork {}, {}", fork, FORK_FIELDS[field])
-    } else {
+    } else if at < HEIGHT_AT {
         numbers::register_meaning(at - REGISTERS_AT)
+    } else if at < STACK_AT {
+        "height".to_string()
+    } else {
+        numbers::entry_meaning(at - STACK_AT)
     };
     format!("slot {}: {}", slot, within)
 }
@@ -46,6 +52,11 @@ mod tests {
         assert_eq!(meaning(3), "slot 0: status");
         assert_eq!(meaning(10), "slot 0: open fork 0, continuation");
         assert_eq!(meaning(22), "slot 0: r0, kind");
-        assert_eq!(meaning(NUMBERS - 1), "slot 63: r15, second number");
+        assert_eq!(meaning(69), "slot 0: r15, second number");
+        assert_eq!(meaning(70), "slot 0: height");
+        assert_eq!(meaning(71), "slot 0: stack entry 0, kind");
+        assert_eq!(meaning(167), "slot 1: status");
+        let last = "slot 63: stack entry 31, second number";
+        assert_eq!(meaning(NUMBERS - 1), last);
     }
 }

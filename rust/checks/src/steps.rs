@@ -73,7 +73,7 @@ pub fn run_case(seed: u64, number: u64, coverage: &mut StepsCoverage) -> Result<
     let in_words =
         |what: String| difference("soak_steps", seed, number, &what, &beside, &input.bytes());
     checked.map_err(in_words)?;
-    coverage.count_job();
+    coverage.count_job(u16::from_le_bytes([input.image[3], input.image[4]]));
     Ok(())
 }
 

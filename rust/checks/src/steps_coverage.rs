@@ -1,13 +1,15 @@
 //! What a run of jobs in steps has covered, and what it ought to.
 
 use crate::counts::Counts;
+use crate::names::version;
 use crate::numbers::number_at;
 use crate::report::{FAULT, HALT, SPENT};
 use crate::steps::call::{Buffer, Call, Door, DOORS};
-use crate::steps::damage::{Damage, CELL_FIELDS, JOB_FIELDS, MANNERS, SITTERS, SLOT_FIELDS};
-use model::question;
+use crate::steps::damage::{
+    is_fault_number, Damage, CELL_FIELDS, JOB_FIELDS, MANNERS, SITTERS, SLOT_FIELDS,
+};
 use model::state::{JOB_NUMBERS, SLOT_NUMBERS};
-use model::{MAX_PLACES, WORK_LIMIT};
+use model::{fault, question, MAX_PLACES, VERSIONS, WORK_LIMIT};
 
 /// Kinds of states that runs go on from.
 #[derive(Clone, Copy, Debug, PartialEq, Eq)]
@@ -100,7 +102,7 @@ const RUNS: [&str; 7] = [
 ];
 
 /// Numbers of a state that may be others alone; P, places and depth may not.
-const TAKEN: [&str; 12] = [
+const TAKEN: [&str; 16] = [
     "interval",
     "work",
     "status",
@@ -113,7 +115,37 @@ const TAKEN: [&str; 12] = [
     "register's kind",
     "register's first number",
     "register's second number",
+    "stack's height",
+    "entry's kind",
+    "entry's first number",
+    "entry's second number",
 ];
+
+/// Entries of stacks that were changed, below the height or from it on, of tasks that have not
+/// faulted.
+const ENTRY_OWNERS: [&str; 3] = ["a running task", "a waiting task", "a halted task"];
+
+fn entry_of(owner: &str, below_height: bool, answer: &str) -> String {
+    let place = if below_height { "below" } else { "from" };
+    format!(
+        "entry {} the height of {} changed: {}",
+        place, owner, answer
+    )
+}
+
+const STACK_FAULTS: [u8; 2] = [fault::FULL, fault::EMPTY];
+
+/// Of a faulted task whose number became this one.
+fn fault_in_state(number: u64, version: u64, answer: &str) -> String {
+    format!(
+        "fault {} in a state of version {}: {}",
+        number, version, answer
+    )
+}
+
+fn version_before_counts(door: Door) -> String {
+    format!("{:?} answers 3 before 4", door)
+}
 
 fn answers(door: Door, number: u8) -> String {
     format!("{:?} answers {:2}", door, number)
@@ -144,7 +176,8 @@ fn cell(field: &str, answer: &str) -> String {
 }
 
 /// Cells that may hold other numbers. A block starts where the instructions before it say.
-const TAKEN_CELLS: [&str; 10] = [
+const TAKEN_CELLS: [&str; 11] = [
+    "version",
     "annotation",
     "policy",
     "label",
@@ -156,6 +189,38 @@ const TAKEN_CELLS: [&str; 10] = [
     "operand",
     "unused",
 ];
+
+/// What is to be met where one thing of a call is wrong.
+fn damage_names() -> Vec<String> {
+    let mut names = Vec::new();
+    names.extend(TAKEN.map(|field| state_number(field, "taken")));
+    names.extend(JOB_FIELDS.map(|field| state_number(field, "refused 20")));
+    for field in SLOT_FIELDS {
+        names.extend(SITTERS.map(|sitter| sitters_number(field, sitter)));
+    }
+    for field in JOB_FIELDS.iter().chain(&SLOT_FIELDS) {
+        names.extend(MANNERS.map(|manner| manner_of(field, manner)));
+    }
+    for field in CELL_FIELDS {
+        if field != "unused" {
+            names.push(cell(field, "refused"));
+            names.extend(MANNERS.map(|manner| manner_of(&format!("cell {}", field), manner)));
+        }
+    }
+    names.extend(TAKEN_CELLS.map(|field| cell(field, "taken")));
+    for owner in ENTRY_OWNERS {
+        names.push(entry_of(owner, true, "taken"));
+        let places = [true, false];
+        names.extend(places.map(|below| entry_of(owner, below, "refused 20")));
+    }
+    for number in STACK_FAULTS.map(u64::from) {
+        names.push(fault_in_state(number, 1, "refused 20"));
+        names.push(fault_in_state(number, 2, "taken"));
+    }
+    let with_program = DOORS.into_iter().filter(|&door| door != Door::Read);
+    names.extend(with_program.map(version_before_counts));
+    names
+}
 
 impl Default for StepsCoverage {
     fn default() -> Self {
@@ -181,21 +246,8 @@ impl Default for StepsCoverage {
         names.extend(AFTER_END.map(String::from));
         names.extend(NOT_RUNNING.map(String::from));
 
-        names.extend(TAKEN.map(|field| state_number(field, "taken")));
-        names.extend(JOB_FIELDS.map(|field| state_number(field, "refused 20")));
-        for field in SLOT_FIELDS {
-            names.extend(SITTERS.map(|sitter| sitters_number(field, sitter)));
-        }
-        for field in JOB_FIELDS.iter().chain(&SLOT_FIELDS) {
-            names.extend(MANNERS.map(|manner| manner_of(field, manner)));
-        }
-        for field in CELL_FIELDS {
-            if field != "unused" {
-                names.push(cell(field, "refused"));
-                names.extend(MANNERS.map(|manner| manner_of(&format!("cell {}", field), manner)));
-            }
-        }
-        names.extend(TAKEN_CELLS.map(|field| cell(field, "taken")));
+        names.extend(damage_names());
+        names.extend(VERSIONS.map(version));
         StepsCoverage {
             met: Counts::of("jobs", names),
         }
@@ -203,8 +255,9 @@ impl Default for StepsCoverage {
 }
 
 impl StepsCoverage {
-    pub fn count_job(&mut self) {
+    pub fn count_job(&mut self, of_version: u16) {
         self.met.cases += 1;
+        self.met.meet(&version(of_version));
     }
 
     pub fn count_answer(&mut self, call: &Call, number: u8) {
@@ -268,7 +321,8 @@ impl StepsCoverage {
     }
 
     /// Counts what one wrong thing was answered with.
-    pub fn count_damage(&mut self, door: Door, damages: &[Damage], number: u8) {
+    pub fn count_damage(&mut self, call: &Call, damages: &[Damage], number: u8) {
+        let door = call.door;
         let damage = match damages {
             [damage] => *damage,
             _ => return,
@@ -278,21 +332,15 @@ impl StepsCoverage {
             Damage::JobNumber { field, manner } => {
                 self.count_number(JOB_FIELDS[field], manner, refused);
             }
-            Damage::SlotNumber {
-                field,
-                sitter,
-                manner,
-            } => {
-                if refused {
-                    let name = sitters_number(SLOT_FIELDS[field], SITTERS[sitter]);
-                    self.met.meet(&name);
-                }
-                self.count_number(SLOT_FIELDS[field], manner, refused);
+            Damage::SlotNumber { .. } => self.count_slot_number(call, damage, refused),
+            Damage::VersionAndCount if number == question::VERSION => {
+                self.met.meet(&version_before_counts(door));
             }
+            Damage::VersionAndCount => {}
             Damage::Cell { field, manner } => {
                 let field = CELL_FIELDS[field];
                 // Of a state that is handed in, a changed program may be the wrong one.
-                if (question::COUNTS..=question::LAST_IN_BLOCK).contains(&number) {
+                if (question::VERSION..=question::LAST_IN_BLOCK).contains(&number) {
                     self.met.meet(&cell(field, "refused"));
                     let manner = manner_of(&format!("cell {}", field), MANNERS[manner]);
                     self.met.meet(&manner);
@@ -305,6 +353,35 @@ impl StepsCoverage {
             }
             Damage::Length { .. } | Damage::Numbers => {}
         }
+    }
+
+    fn count_slot_number(&mut self, call: &Call, damage: Damage, refused: bool) {
+        let (field, sitter, manner, below_height, new) = match damage {
+            Damage::SlotNumber {
+                field,
+                sitter,
+                manner,
+                below_height,
+                number,
+            } => (field, sitter, manner, below_height, number),
+            _ => return,
+        };
+        let answer = if refused { "refused 20" } else { "taken" };
+        if refused {
+            let name = sitters_number(SLOT_FIELDS[field], SITTERS[sitter]);
+            self.met.meet(&name);
+        }
+        if let Some(below_height) = below_height {
+            let name = entry_of(SITTERS[sitter], below_height, answer);
+            self.met.meet(&name);
+        }
+        let is_stacks = STACK_FAULTS.iter().any(|&number| new == number.into());
+        if is_fault_number(field, sitter) && is_stacks {
+            let program = call.buffer(Buffer::Program).unwrap_or_default();
+            self.met
+                .meet(&fault_in_state(new, number_at(program, 0), answer));
+        }
+        self.count_number(SLOT_FIELDS[field], manner, refused);
     }
 
     fn count_number(&mut self, field: &str, manner: usize, refused: bool) {

@@ -1,11 +1,12 @@
-//! Boundaries that document 01 names or implies, with the answer that it gives. Each is put to the
+//! Boundaries that documents 01 and 02 name or imply, with the answer that they give. Each is put to the
 //! model and to the engine.
 
 use checks::compare::compare;
 use checks::layout::{
-    add, block_field, even_blocks, every_form, halt, image, instruction, instruction_field,
-    join_target, jump, pair, plain, program_f, promotion_ready, set, BlockRecord,
-    InstructionRecord, ABSENT, BLOCK, HEADER, INSTRUCTION, INTEGER, LABEL, REGISTER,
+    add, block_field, even_blocks, even_blocks_of, every_form, halt, image, image_of, instruction,
+    instruction_field, join_target, jump, pair, plain, pop, program_f, promotion_ready, push, set,
+    BlockRecord, InstructionRecord, ABSENT, BLOCK, HEADER, INSTRUCTION, INTEGER, LABEL, LONG_BLOCK,
+    REGISTER,
 };
 
 /// The number that both answer, 0 when accepted, with an `out` of the image's length.
@@ -31,6 +32,10 @@ fn small_blocks() -> Vec<BlockRecord> {
 
 fn small_instructions() -> Vec<InstructionRecord> {
     [set(0, 1), halt()].repeat(3)
+}
+
+fn second(blocks: &[BlockRecord], instructions: &[InstructionRecord]) -> Vec<u8> {
+    image_of(2, blocks, instructions)
 }
 
 fn with_byte(mut image: Vec<u8>, at: usize, byte: u8) -> Vec<u8> {
@@ -126,6 +131,113 @@ fn most_instructions_are_1024() {
     assert_eq!(answer(&even_blocks(1, 65_535)), 4);
 }
 
+// Document 02, request 4.
+
+#[test]
+fn the_least_image_of_version_2() {
+    let least = second(&[plain(0)], &[halt()]);
+    assert_eq!(least.len(), 8 + 14 + 12);
+    assert_eq!(answer(&least), 0);
+    for length in [8 + 10 + 12, least.len() - 1, least.len() + 1] {
+        let mut other = least.clone();
+        other.resize(length, 0);
+        assert_eq!(answer(&other), 5);
+    }
+}
+
+#[test]
+fn the_largest_image_of_version_2() {
+    let largest = even_blocks_of(2, 128, 1024);
+    assert_eq!(largest.len(), 8 + 14 * 128 + 12 * 1024);
+    assert_eq!(answer(&largest), 0);
+    assert_eq!(answer(&even_blocks_of(2, 129, 1024)), 4);
+    assert_eq!(answer(&even_blocks_of(2, 128, 1025)), 4);
+    let last = HEADER + LONG_BLOCK * 127 + block_field::PAIRS + 7;
+    assert_eq!(answer(&with_byte(largest.clone(), last, 0)), 7);
+    assert_eq!(answer(&with_byte(largest, last, 0x0f)), 0);
+}
+
+#[test]
+fn opcodes_16_and_17_are_version_2s() {
+    let push = push(LABEL, 1);
+    let pop = pop(3);
+    let blocks = [plain(0), plain(3)];
+    for (instructions, answers) in [
+        ([push, pop, halt(), halt()], [8, 0]),
+        ([push, set(0, 1), halt(), halt()], [8, 0]),
+        ([set(0, 1), pop, halt(), halt()], [8, 0]),
+        // They end no block.
+        ([set(0, 1), set(0, 1), push, halt()], [8, 9]),
+        ([set(0, 1), set(0, 1), pop, halt()], [8, 9]),
+        ([set(0, 1), set(0, 1), halt(), pop], [8, 9]),
+    ] {
+        let images = [
+            image(&blocks, &instructions),
+            second(&blocks, &instructions),
+        ];
+        assert_eq!(images.map(|image| answer(&image)), answers);
+    }
+}
+
+#[test]
+fn fields_of_opcodes_16_and_17() {
+    let answer = |record: InstructionRecord| {
+        answer(&second(&[plain(0), plain(2)], &[record, halt(), halt()]))
+    };
+    for (kind, operand, expected) in [
+        (ABSENT, 0, 8),
+        (REGISTER, 15, 0),
+        (REGISTER, 16, 8),
+        (LABEL, 1, 0),
+        (LABEL, 2, 8),
+        (INTEGER, u64::MAX, 0),
+        (4, 0, 8),
+    ] {
+        assert_eq!(answer(push(kind, operand)), expected);
+    }
+    assert_eq!(answer(instruction(16, 1, 0, INTEGER, 0)), 8);
+    assert_eq!(answer(instruction(16, 0, 1, INTEGER, 0)), 8);
+    for (r, expected) in [(0, 0), (15, 0), (16, 8), (255, 8)] {
+        assert_eq!(answer(pop(r)), expected);
+    }
+    assert_eq!(answer(instruction(17, 0, 1, ABSENT, 0)), 8);
+    assert_eq!(answer(instruction(17, 0, 0, REGISTER, 0)), 8);
+    assert_eq!(answer(instruction(17, 0, 0, ABSENT, 1)), 8);
+    for opcode in [0, 18, 19, 32, 255] {
+        assert_eq!(answer(instruction(opcode, 0, 0, ABSENT, 0)), 8);
+    }
+}
+
+#[test]
+fn at_most_eight_pairs_in_version_2() {
+    let pairs: Vec<u8> = (1..=8).map(|target| pair(0, target)).collect();
+    let answer =
+        |block: BlockRecord| answer(&second(&[plain(0), block, plain(4)], &small_instructions()));
+    for count in 0..=8 {
+        assert_eq!(answer(join_target(2, 0, 1, &pairs[..count])), 0);
+    }
+    for count in 9..=255 {
+        let mut record = join_target(2, 0, 1, &pairs);
+        record[block_field::PAIR_COUNT] = count;
+        assert_eq!(answer(record), 7);
+    }
+    // The unused are 0, and targets rise over all of them.
+    for count in 0..8 {
+        let mut record = join_target(2, 0, 1, &pairs);
+        record[block_field::PAIR_COUNT] = count;
+        assert_eq!(answer(record), 7);
+        let mut equal = pairs.clone();
+        equal[usize::from(count)] = pair(15, 5);
+        let expected = if count == 4 { 0 } else { 7 };
+        assert_eq!(answer(join_target(2, 0, 1, &equal)), expected);
+    }
+    for at in block_field::POLICY..LONG_BLOCK {
+        let mut record = plain(2);
+        record[at] = 1;
+        assert_eq!(answer(record), 7, "byte {}", at);
+    }
+}
+
 // The header.
 
 #[test]
@@ -152,12 +264,25 @@ fn each_letter_of_the_mark_counts() {
 }
 
 #[test]
-fn version_is_1_in_16_bits() {
-    for version in [0u16, 2, 0x0100, 0x0101, 0x8001, u16::MAX] {
+fn version_is_1_or_2_in_16_bits() {
+    for version in [0u16, 3, 4, 0x0100, 0x0101, 0x0102, 0x8001, u16::MAX] {
         let mut image = small();
         image[3..5].copy_from_slice(&version.to_le_bytes());
         assert_eq!(answer(&image), 3, "version {}", version);
+        // Before question 4.
+        image[5] = 0;
+        assert_eq!(answer(&image), 3, "version {}", version);
     }
+    // The other version's length is another.
+    assert_eq!(answer(&with_byte(small(), 3, 2)), 5);
+    assert_eq!(
+        answer(&with_byte(
+            second(&small_blocks(), &small_instructions()),
+            3,
+            1
+        )),
+        5
+    );
 }
 
 #[test]
@@ -294,6 +419,7 @@ fn at_most_four_pairs() {
         assert_eq!(with_block(join_target(2, 0, 1, &pairs[..count])), 0);
     }
     for count in 5..=255 {
+        // Version 1 has no room for a fifth.
         let mut record = join_target(2, 0, 1, &pairs);
         record[block_field::PAIR_COUNT] = count;
         assert_eq!(with_block(record), 7);
@@ -338,8 +464,11 @@ fn opcodes_are_1_to_15() {
 
 #[test]
 fn every_opcode_with_every_kind_of_operand() {
-    let all = every_form();
+    let all = every_form(1);
     assert_eq!(all.len(), 8 + 10 * 7 + 12 * 43);
+    assert_eq!(answer(&all), 0);
+    let all = every_form(2);
+    assert_eq!(all.len(), 8 + 14 * 7 + 12 * 47);
     assert_eq!(answer(&all), 0);
 }
 

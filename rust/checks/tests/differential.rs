@@ -39,12 +39,18 @@ fn every_byte_of_program_f() {
 
 #[test]
 fn every_byte_of_a_program_with_every_form() {
-    every_byte_changed_to_every_other(&every_form());
+    every_byte_changed_to_every_other(&every_form(1));
+    every_byte_changed_to_every_other(&every_form(2));
 }
 
 #[test]
 fn every_shorter_and_some_longer_lengths() {
-    for image in [program_f(), every_form(), even_blocks(128, 1024)] {
+    for image in [
+        program_f(),
+        every_form(1),
+        every_form(2),
+        even_blocks(128, 1024),
+    ] {
         let mut longer = image.clone();
         longer.extend([0; 300]);
         for len in 0..longer.len() {
@@ -64,7 +70,7 @@ fn every_shorter_and_some_longer_lengths() {
 
 #[test]
 fn every_out_length_up_to_twice_the_image() {
-    for image in [program_f(), every_form()] {
+    for image in [program_f(), every_form(1), every_form(2)] {
         let mut refused = image.clone();
         let last = refused.len() - 12;
         refused[last] = 1;

@@ -2,8 +2,8 @@
 //! and the model's, for the plain evaluation, and for the run program with the engine's job text and
 //! the model's beside it.
 
-use checks::assemble::{halt, mov, op, Annotation, Assembly, JobInput, Operand};
-use checks::hand::{by_zero, f, f_with, figure_2, outside};
+use checks::assemble::{halt, mov, op, pop, push, Annotation, Assembly, JobInput, Operand};
+use checks::hand::{by_zero, call_and_return, f, f_with, f_with_stack, figure_2, outside, pushes};
 use checks::layout::even_blocks;
 use checks::numbers::number_at;
 use checks::product::C;
@@ -105,7 +105,7 @@ impl Engine {
         const RUNNING: u64 = 1;
         let mut state = self.fresh.clone();
         loop {
-            let status = |slot: &u64| number_at(&state, 3 + 67 * *slot as usize);
+            let status = |slot: &u64| number_at(&state, 3 + 164 * *slot as usize);
             let mut running = (0..self.places).filter(|slot| status(slot) == RUNNING);
             let slot = if highest {
                 running.next_back()
@@ -250,6 +250,38 @@ fn product_of_many() {
             }
         }
     }
+}
+
+/// Document 02, request 4.
+#[test]
+fn a_call_and_its_return() {
+    let called = outcome(&call_and_return());
+    assert_eq!((called.end, called.work, called.span), (End::Halt, 11, 11));
+    assert_eq!(called.registers[..2], [Value::Int(10), Value::Label(3)]);
+    let text = report(&call_and_return().bytes());
+    assert!(text.starts_with("end halt\nwork 11\nspan 11\nr0 int 10\nr1 lab 3\nr2 int 0\n"));
+}
+
+/// Document 02, request 4.
+#[test]
+fn stacks_across_a_fork() {
+    let joined = outcome(&f_with_stack(&[push(Int(7)), push(Int(8))]));
+    assert_eq!((joined.end, joined.work, joined.span), (End::Halt, 12, 10));
+    assert_eq!(joined.registers[3..5], [Value::Int(20), Value::Int(10)]);
+    let childs = f_with_stack(&[pop(2)]);
+    assert_eq!(outcome(&childs).end, End::Fault(43));
+    assert_eq!(report(&childs.bytes()), fault_report(43, 6, 5));
+}
+
+/// Document 02, request 4.
+#[test]
+fn the_33rd_value() {
+    assert_eq!(outcome(&pushes(32)).end, End::Halt);
+    assert_eq!(outcome(&pushes(33)).end, End::Fault(42));
+    assert_eq!(report(&pushes(33).bytes()), fault_report(42, 33, 33));
+    assert_eq!(outcome(&f_with_stack(&[push(Int(1)); 32])).end, End::Halt);
+    let childs = outcome(&f_with_stack(&[push(Int(1)); 33]));
+    assert_eq!((childs.end, childs.work), (End::Fault(42), 38));
 }
 
 fn result_of(opcode: u8, a: i64, b: i64) -> Value {

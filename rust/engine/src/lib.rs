@@ -89,12 +89,12 @@ mod exports {
     }
 }
 
-/// Length of a program buffer: 5,890 cells of 64 bits.
-pub const PROGRAM_BYTES: usize = 47_120;
+/// Length of a program buffer: 5,891 cells of 64 bits.
+pub const PROGRAM_BYTES: usize = 47_128;
 /// Length of the start registers: 16 of 64 bits.
 pub const REGISTERS_BYTES: usize = 128;
-/// Length of a state: 4,291 numbers of 64 bits.
-pub const STATE_BYTES: usize = 34_328;
+/// Length of a state: 10,499 numbers of 64 bits.
+pub const STATE_BYTES: usize = 83_992;
 /// Length of a report: 53 numbers of 64 bits.
 pub const REPORT_BYTES: usize = 424;
 /// Length of a dispatch's report: those, and the rounds.

@@ -1,10 +1,11 @@
 //! The program buffer: a program in cells of 64 bits, laid out as in docs/image.md.
 
-use crate::image::{check_counts, Block, Instruction, Program};
-use crate::image::{MAX_BLOCKS, MAX_INSTRUCTIONS, MAX_PAIRS};
+use crate::image::{check_counts, check_version, Block, Instruction, Program};
+use crate::image::{MAX_BLOCKS, MAX_INSTRUCTIONS};
 use crate::numbers;
 
-const BLOCKS_AT: usize = 2;
+/// Cells before the blocks': version, number of blocks, number of instructions.
+const BLOCKS_AT: usize = 3;
 const BLOCK_CELLS: usize = 6;
 const INSTRUCTIONS_AT: usize = BLOCKS_AT + BLOCK_CELLS * MAX_BLOCKS;
 const INSTRUCTION_CELLS: usize = 5;
@@ -13,14 +14,17 @@ pub const CELLS: usize = INSTRUCTIONS_AT + INSTRUCTION_CELLS * MAX_INSTRUCTIONS;
 /// Length of a program buffer.
 pub const BYTES: usize = numbers::BYTES * CELLS;
 
-/// The program of a buffer of any length, or the number of the first of questions 4 and 6 to 9 that
-/// is answered with no. A count that the buffer lacks is 0.
+/// The program of a buffer of any length, or the number of the first of questions 3, 4 and 6 to 9
+/// that is answered with no. A version or count that the buffer lacks is 0.
 pub fn read(buffer: &[u8]) -> Result<Program, u8> {
-    let mut counts = numbers::of(buffer).take(BLOCKS_AT).map(count);
-    let block_count = counts.next().unwrap_or(0);
-    let instruction_count = counts.next().unwrap_or(0);
+    let mut cells = numbers::of(buffer).take(BLOCKS_AT);
+    let mut next = || cells.next().unwrap_or(0);
+    let version = next().try_into().unwrap_or(u16::MAX);
+    check_version(version)?;
+    let [block_count, instruction_count] = [count(next()), count(next())];
     check_counts(block_count, instruction_count)?;
     let program = Program {
+        version,
         blocks: (0..block_count)
             .map(|number| record(buffer, BLOCKS_AT, BLOCK_CELLS, number))
             .map(|record| record.map_or(LACKING_BLOCK, block))
@@ -38,7 +42,11 @@ pub fn read(buffer: &[u8]) -> Result<Program, u8> {
 /// Writes a program over `buffer`, which has `BYTES`, and 0 over the cells that it doesn't use.
 pub fn write(program: &Program, buffer: &mut [u8]) {
     buffer.fill(0);
-    let counts = [program.blocks.len(), program.instructions.len()];
+    let counts = [
+        program.version.into(),
+        program.blocks.len(),
+        program.instructions.len(),
+    ];
     numbers::write(counts.map(|count| count as u64), buffer);
     let (blocks, instructions) = buffer.split_at_mut(numbers::BYTES * INSTRUCTIONS_AT);
     let blocks =
@@ -50,7 +58,7 @@ pub fn write(program: &Program, buffer: &mut [u8]) {
             block.policy.into(),
             block.label.into(),
             block.pair_count.into(),
-            u32::from_le_bytes(block.pairs).into(),
+            u64::from_le_bytes(block.pairs),
         ];
         numbers::write(fields, cells);
     }
@@ -93,22 +101,20 @@ fn count(cell: u64) -> usize {
 }
 
 /// A cell's number. One that is too large for its field becomes the largest that the field has room
-/// for, which the same question refuses: there are fewer blocks, instructions, registers and kinds,
-/// and four pair bytes of 255 don't rise.
+/// for, which the same question refuses: there are fewer blocks, instructions, registers and kinds.
 fn field<T: TryFrom<u64>>(record: &[u8], cell: usize, largest: T) -> T {
     let number = numbers::number_at(record, cell);
     number.try_into().unwrap_or(largest)
 }
 
 fn block(record: &[u8]) -> Block {
-    let pairs: [u8; MAX_PAIRS] = field(record, 5, u32::MAX).to_le_bytes();
     Block {
         first: field(record, 0, u16::MAX),
         annotation: field(record, 1, u8::MAX),
         policy: field(record, 2, u8::MAX),
         label: field(record, 3, u8::MAX),
         pair_count: field(record, 4, u8::MAX),
-        pairs,
+        pairs: numbers::number_at(record, 5).to_le_bytes(),
     }
 }
 

@@ -1,29 +1,47 @@
-//! Program images: reader, writer, and the questions that they put.
+//! Program images of both versions: reader and writer. The questions about a program are beside it.
+
+mod questions;
+
+pub(crate) use questions::{check_counts, check_version};
+pub use questions::{last_opcode, most_pairs};
 
 use crate::question;
-use std::iter;
+use questions::Fields;
+use std::ops::RangeInclusive;
 
 pub const MARK: [u8; 3] = *b"TPB";
-pub const VERSION: u16 = 1;
+pub const VERSION_1: u16 = 1;
+/// With a stack for each task, and more pairs.
+pub const VERSION_2: u16 = 2;
+pub const VERSIONS: RangeInclusive<u16> = VERSION_1..=VERSION_2;
 pub const MAX_BLOCKS: usize = 128;
 pub const MAX_INSTRUCTIONS: usize = 1024;
-pub const MAX_PAIRS: usize = 4;
+/// Of version 2; version 1 has room for fewer.
+pub const MAX_PAIRS: usize = 8;
 
 pub const HEADER_BYTES: usize = 8;
-pub const BLOCK_BYTES: usize = 10;
 pub const INSTRUCTION_BYTES: usize = 12;
+/// Of a block record, before its pairs.
+const PAIRS_AT: usize = 6;
 
-const HIGHEST_REGISTER: u8 = 15;
+/// Length of a block record.
+pub const fn block_bytes(version: u16) -> usize {
+    PAIRS_AT + most_pairs(version)
+}
 
 /// A program as an image spells it. The fields are public and hold any number, so a program need
 /// not be valid: [`Program::check`] tells.
 #[derive(Clone, Debug, PartialEq, Eq)]
 pub struct Program {
+    /// Of its image, of which there is one.
+    pub version: u16,
     pub blocks: Vec<Block>,
     pub instructions: Vec<Instruction>,
 }
 
+/// Of 16 bytes, so that its place among the others is a shift: every jump looks one up.
 #[derive(Clone, Copy, Debug, PartialEq, Eq)]
+#[repr(align(16))]
 pub struct Block {
     pub first: u16,
     /// 0 none, 1 promotion-ready, 2 join target.
@@ -37,18 +55,6 @@ pub struct Block {
     pub pairs: [u8; MAX_PAIRS],
 }
 
-impl Block {
-    /// A block at instruction 0 without an annotation.
-    pub const PLAIN: Block = Block {
-        first: 0,
-        annotation: 0,
-        policy: 0,
-        label: 0,
-        pair_count: 0,
-        pairs: [0; MAX_PAIRS],
-    };
-}
-
 #[derive(Clone, Copy, Debug, PartialEq, Eq)]
 pub struct Instruction {
     pub opcode: u8,
@@ -59,66 +65,7 @@ pub struct Instruction {
     pub operand: u64,
 }
 
-/// The largest number, and for the kind also the least, that an opcode's fields may hold. An
-/// absent field is one that may hold only 0.
-struct Limits {
-    r: u8,
-    s: u8,
-    least_kind: u8,
-    kind: u8,
-}
-
-const fn with(r: bool, s: bool, v: bool) -> Limits {
-    Limits {
-        r: if r { HIGHEST_REGISTER } else { 0 },
-        s: if s { HIGHEST_REGISTER } else { 0 },
-        least_kind: if v { 1 } else { 0 },
-        kind: if v { 3 } else { 0 },
-    }
-}
-
-const R_V: Limits = with(true, false, true);
-const R_S_V: Limits = with(true, true, true);
-const S_V: Limits = with(false, true, true);
-const V: Limits = with(false, false, true);
-const NONE: Limits = with(false, false, false);
-
-/// Which fields each opcode has, from opcode 1 on.
-static FIELDS: [Limits; 15] = [
-    R_V, R_S_V, R_S_V, R_S_V, R_S_V, R_S_V, R_S_V, R_S_V, R_V, S_V, R_V, S_V, V, NONE, V,
-];
-
-/// The largest operand of each kind, in a program of `block_count` blocks.
-fn largest_operands(block_count: usize) -> [u64; 4] {
-    [
-        0,
-        u64::from(HIGHEST_REGISTER),
-        block_count as u64 - 1,
-        u64::MAX,
-    ]
-}
-
 impl Instruction {
-    /// Question 8. The tests are joined by `&`: the opcodes of a program follow no pattern that a
-    /// branch predictor could learn.
-    fn is_as_laid_out(&self, largest: &[u64; 4]) -> bool {
-        match FIELDS.get(usize::from(self.opcode).wrapping_sub(1)) {
-            None => false,
-            Some(limits) => {
-                (self.r <= limits.r)
-                    & (self.s <= limits.s)
-                    & (self.kind >= limits.least_kind)
-                    & (self.kind <= limits.kind)
-                    & (self.operand <= largest[usize::from(self.kind & 3)])
-            }
-        }
-    }
-
-    /// Jump, halt and join: control does not go on to the next instruction.
-    fn ends_block(&self) -> bool {
-        matches!(self.opcode, 13..=15)
-    }
-
     #[inline(always)]
     fn decode(record: &[u8]) -> Self {
         Instruction {
@@ -137,6 +84,16 @@ impl Instruction {
 }
 
 impl Block {
+    /// A block at instruction 0 without an annotation.
+    pub const PLAIN: Block = Block {
+        first: 0,
+        annotation: 0,
+        policy: 0,
+        label: 0,
+        pair_count: 0,
+        pairs: [0; MAX_PAIRS],
+    };
+
     pub fn is_promotion_ready(&self) -> bool {
         self.annotation == 1
     }
@@ -152,110 +109,51 @@ impl Block {
             .map(|&pair| (usize::from(pair >> 4), usize::from(pair & 15)))
     }
 
-    /// Question 7.
-    fn is_annotated_as_laid_out(&self, block_count: usize) -> bool {
-        let label_in_range = usize::from(self.label) < block_count;
-        let no_policy_or_pairs =
-            self.policy == 0 && self.pair_count == 0 && self.pairs == [0; MAX_PAIRS];
-        match self.annotation {
-            0 => self.label == 0 && no_policy_or_pairs,
-            1 => label_in_range && no_policy_or_pairs,
-            2 => label_in_range && self.policy <= 1 && self.has_rising_pairs(),
-            _ => false,
-        }
-    }
-
-    /// Used pairs first, in strictly rising order of target, the unused ones 0.
-    fn has_rising_pairs(&self) -> bool {
-        let count = usize::from(self.pair_count);
-        if count > MAX_PAIRS {
-            return false;
-        }
-        let (used, unused) = self.pairs.split_at(count);
-        used.windows(2).all(|w| w[0] & 15 < w[1] & 15) && unused.iter().all(|&pair| pair == 0)
-    }
-
+    /// Of a record with room for so many pairs.
     #[inline(always)]
-    fn decode(record: &[u8]) -> Self {
+    fn decode<const PAIRS: usize>(record: &[u8]) -> Self {
+        let mut pairs = [0; MAX_PAIRS];
+        pairs[..PAIRS].copy_from_slice(&record[PAIRS_AT..PAIRS_AT + PAIRS]);
         Block {
             first: u16::from_le_bytes([record[0], record[1]]),
             annotation: record[2],
             policy: record[3],
             label: record[4],
             pair_count: record[5],
-            pairs: record[6..10].try_into().unwrap(),
+            pairs,
         }
     }
 
-    fn encode(&self, record: &mut [u8]) {
+    /// In a record with room for so many pairs; the others are 0.
+    #[inline(always)]
+    fn encode<const PAIRS: usize>(&self, record: &mut [u8]) {
         record[..2].copy_from_slice(&self.first.to_le_bytes());
-        record[2..6].copy_from_slice(&[self.annotation, self.policy, self.label, self.pair_count]);
-        record[6..].copy_from_slice(&self.pairs);
+        let fields = [self.annotation, self.policy, self.label, self.pair_count];
+        record[2..PAIRS_AT].copy_from_slice(&fields);
+        record[PAIRS_AT..PAIRS_AT + PAIRS].copy_from_slice(&self.pairs[..PAIRS]);
     }
 }
 
 impl Program {
     /// Length of this program's image.
     pub fn image_len(&self) -> usize {
-        image_len(self.blocks.len(), self.instructions.len())
-    }
-
-    /// The questions about a program that is at hand: 4, then 6 and 7 block by block, then 8 and 9
-    /// instruction by instruction.
-    pub fn check(&self) -> Result<(), u8> {
-        check_counts(self.blocks.len(), self.instructions.len())?;
-        self.check_blocks()?;
-        self.check_instructions()
-    }
-
-    pub(crate) fn check_blocks(&self) -> Result<(), u8> {
-        let mut expected = 0..=0;
-        for block in &self.blocks {
-            let first = usize::from(block.first);
-            if !expected.contains(&first) || first >= self.instructions.len() {
-                return Err(question::BLOCK_START);
-            }
-            if !block.is_annotated_as_laid_out(self.blocks.len()) {
-                return Err(question::ANNOTATION);
-            }
-            expected = first + 1..=usize::MAX;
-        }
-        Ok(())
-    }
-
-    /// Expects what `check_blocks` has asked: the blocks divide the instructions, none is empty.
-    pub(crate) fn check_instructions(&self) -> Result<(), u8> {
-        let largest = largest_operands(self.blocks.len());
-        let starts = self.blocks.iter().map(|block| usize::from(block.first));
-        let ends = starts
-            .clone()
-            .skip(1)
-            .chain(iter::once(self.instructions.len()));
-        for (start, end) in starts.zip(ends) {
-            for (i, instruction) in self.instructions[start..end].iter().enumerate() {
-                if !instruction.is_as_laid_out(&largest) {
-                    return Err(question::FIELDS);
-                }
-                let is_last = start + i + 1 == end;
-                if instruction.ends_block() != is_last {
-                    return Err(question::LAST_IN_BLOCK);
-                }
-            }
-        }
-        Ok(())
+        image_len(self.version, self.blocks.len(), self.instructions.len())
     }
 
     /// `image` has this program's image length.
     pub(crate) fn encode(&self, image: &mut [u8]) {
         let (header, records) = image.split_at_mut(HEADER_BYTES);
         header[..3].copy_from_slice(&MARK);
-        header[3..5].copy_from_slice(&VERSION.to_le_bytes());
+        header[3..5].copy_from_slice(&self.version.to_le_bytes());
         header[5] = self.blocks.len() as u8;
         header[6..].copy_from_slice(&(self.instructions.len() as u16).to_le_bytes());
 
-        let (blocks, instructions) = records.split_at_mut(BLOCK_BYTES * self.blocks.len());
-        for (block, record) in self.blocks.iter().zip(blocks.chunks_exact_mut(BLOCK_BYTES)) {
-            block.encode(record);
+        let block_bytes = block_bytes(self.version) * self.blocks.len();
+        let (blocks, instructions) = records.split_at_mut(block_bytes);
+        if self.version == VERSION_2 {
+            self.encode_blocks::<{ most_pairs(VERSION_2) }>(blocks);
+        } else {
+            self.encode_blocks::<{ most_pairs(VERSION_1) }>(blocks);
         }
         for (instruction, record) in self
             .instructions
@@ -265,32 +163,28 @@ impl Program {
             instruction.encode(record);
         }
     }
-}
 
-fn image_len(block_count: usize, instruction_count: usize) -> usize {
-    HEADER_BYTES + BLOCK_BYTES * block_count + INSTRUCTION_BYTES * instruction_count
-}
-
-pub(crate) fn check_counts(block_count: usize, instruction_count: usize) -> Result<(), u8> {
-    let allowed = (1..=MAX_BLOCKS).contains(&block_count)
-        && (1..=MAX_INSTRUCTIONS).contains(&instruction_count);
-    if allowed {
-        Ok(())
-    } else {
-        Err(question::COUNTS)
+    fn encode_blocks<const PAIRS: usize>(&self, records: &mut [u8]) {
+        let records = records.chunks_exact_mut(PAIRS_AT + PAIRS);
+        for (block, record) in self.blocks.iter().zip(records) {
+            block.encode::<PAIRS>(record);
+        }
     }
+}
+
+fn image_len(version: u16, block_count: usize, instruction_count: usize) -> usize {
+    HEADER_BYTES + block_bytes(version) * block_count + INSTRUCTION_BYTES * instruction_count
 }
 
 /// An image's records, as many as its header says.
 struct Records<'a> {
+    version: u16,
     blocks: &'a [u8],
     instructions: &'a [u8],
 }
 
 impl<'a> Records<'a> {
-    /// Questions 1 to 5. Inlined, like the decoding of a record: else the compiler doesn't see how
-    /// long the records are, and the benchmark's peer is not at its best.
-    #[inline(always)]
+    /// Questions 1 to 5.
     fn of(image: &'a [u8]) -> Result<Self, u8> {
         if image.len() < HEADER_BYTES {
             return Err(question::HEADER);
@@ -299,76 +193,111 @@ impl<'a> Records<'a> {
         if header[..3] != MARK {
             return Err(question::MARK);
         }
-        if u16::from_le_bytes([header[3], header[4]]) != VERSION {
-            return Err(question::VERSION);
-        }
+        let version = u16::from_le_bytes([header[3], header[4]]);
+        check_version(version)?;
         let block_count = usize::from(header[5]);
         let instruction_count = usize::from(u16::from_le_bytes([header[6], header[7]]));
         check_counts(block_count, instruction_count)?;
-        if image.len() != image_len(block_count, instruction_count) {
+        if image.len() != image_len(version, block_count, instruction_count) {
             return Err(question::LENGTH);
         }
-        let (blocks, instructions) = records.split_at(BLOCK_BYTES * block_count);
+        let (blocks, instructions) = records.split_at(block_bytes(version) * block_count);
         Ok(Records {
+            version,
             blocks,
             instructions,
         })
+    }
+
+    fn block_count(&self) -> usize {
+        self.blocks.len() / block_bytes(self.version)
+    }
+
+    fn instruction_count(&self) -> usize {
+        self.instructions.len() / INSTRUCTION_BYTES
+    }
+
+    /// Questions 6 and 7. The length of a record is a constant, like the decoding inlined: else the
+    /// compiler doesn't see it, and the benchmark's peer is not at its best.
+    fn check_blocks<const PAIRS: usize>(&self) -> Result<(), u8> {
+        let (block_count, instruction_count) = (self.block_count(), self.instruction_count());
+        let mut expected = 0..=0;
+        for record in self.blocks.chunks_exact(PAIRS_AT + PAIRS) {
+            let block = Block::decode::<PAIRS>(record);
+            let first = usize::from(block.first);
+            if !expected.contains(&first) || first >= instruction_count {
+                return Err(question::BLOCK_START);
+            }
+            if !block.is_annotated_as_laid_out(block_count, PAIRS) {
+                return Err(question::ANNOTATION);
+            }
+            expected = first + 1..=usize::MAX;
+        }
+        Ok(())
+    }
+
+    /// Questions 8 and 9.
+    fn check_instructions<const PAIRS: usize>(&self) -> Result<(), u8> {
+        let fields = Fields::of(self.version, self.block_count());
+        let instruction_count = self.instruction_count();
+        let mut starts = self
+            .blocks
+            .chunks_exact(PAIRS_AT + PAIRS)
+            .skip(1)
+            .map(|record| usize::from(u16::from_le_bytes([record[0], record[1]])));
+        let mut end = starts.next().unwrap_or(instruction_count);
+        let records = self.instructions.chunks_exact(INSTRUCTION_BYTES);
+        for (i, record) in records.enumerate() {
+            let instruction = Instruction::decode(record);
+            if !instruction.is_as_laid_out(&fields) {
+                return Err(question::FIELDS);
+            }
+            let is_last = i + 1 == end;
+            if instruction.ends_block() != is_last {
+                return Err(question::LAST_IN_BLOCK);
+            }
+            if is_last {
+                end = starts.next().unwrap_or(instruction_count);
+            }
+        }
+        Ok(())
+    }
+
+    fn check<const PAIRS: usize>(&self) -> Result<(), u8> {
+        self.check_blocks::<PAIRS>()?;
+        self.check_instructions::<PAIRS>()
+    }
+
+    fn decoded_blocks<const PAIRS: usize>(&self) -> Vec<Block> {
+        self.blocks
+            .chunks_exact(PAIRS_AT + PAIRS)
+            .map(Block::decode::<PAIRS>)
+            .collect()
     }
 }
 
 /// The image check: the number of the first question that is answered with no. It goes through the
 /// records as `Program`'s checks do through a program, and makes none.
 pub fn check(image: &[u8]) -> Result<(), u8> {
-    let Records {
-        blocks,
-        instructions,
-    } = Records::of(image)?;
-    let block_count = blocks.len() / BLOCK_BYTES;
-    let instruction_count = instructions.len() / INSTRUCTION_BYTES;
-    let mut expected = 0..=0;
-    for record in blocks.chunks_exact(BLOCK_BYTES) {
-        let block = Block::decode(record);
-        let first = usize::from(block.first);
-        if !expected.contains(&first) || first >= instruction_count {
-            return Err(question::BLOCK_START);
-        }
-        if !block.is_annotated_as_laid_out(block_count) {
-            return Err(question::ANNOTATION);
-        }
-        expected = first + 1..=usize::MAX;
+    let records = Records::of(image)?;
+    if records.version == VERSION_2 {
+        records.check::<{ most_pairs(VERSION_2) }>()
+    } else {
+        records.check::<{ most_pairs(VERSION_1) }>()
     }
-
-    let largest = largest_operands(block_count);
-    let mut starts = blocks
-        .chunks_exact(BLOCK_BYTES)
-        .skip(1)
-        .map(|record| usize::from(u16::from_le_bytes([record[0], record[1]])));
-    let mut end = starts.next().unwrap_or(instruction_count);
-    for (i, record) in instructions.chunks_exact(INSTRUCTION_BYTES).enumerate() {
-        let instruction = Instruction::decode(record);
-        if !instruction.is_as_laid_out(&largest) {
-            return Err(question::FIELDS);
-        }
-        let is_last = i + 1 == end;
-        if instruction.ends_block() != is_last {
-            return Err(question::LAST_IN_BLOCK);
-        }
-        if is_last {
-            end = starts.next().unwrap_or(instruction_count);
-        }
-    }
-    Ok(())
 }
 
 /// The program of an image, or the number of the first question that is answered with no.
 pub fn read(image: &[u8]) -> Result<Program, u8> {
     let records = Records::of(image)?;
+    let blocks = if records.version == VERSION_2 {
+        records.decoded_blocks::<{ most_pairs(VERSION_2) }>()
+    } else {
+        records.decoded_blocks::<{ most_pairs(VERSION_1) }>()
+    };
     let program = Program {
-        blocks: records
-            .blocks
-            .chunks_exact(BLOCK_BYTES)
-            .map(Block::decode)
-            .collect(),
+        version: records.version,
+        blocks,
         instructions: records
             .instructions
             .chunks_exact(INSTRUCTION_BYTES)
@@ -380,7 +309,7 @@ pub fn read(image: &[u8]) -> Result<Program, u8> {
     Ok(program)
 }
 
-/// The program's image, or the number of the first of questions 4 and 6 to 9 that is answered
+/// The program's image, or the number of the first of questions 3, 4 and 6 to 9 that is answered
 /// with no.
 pub fn write(program: &Program) -> Result<Vec<u8>, u8> {
     program.check()?;

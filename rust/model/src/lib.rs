@@ -17,18 +17,21 @@ pub mod report;
 #[cfg(test)]
 mod sample;
 mod shape;
+mod stack;
 pub mod state;
 pub mod steps;
 pub mod task;
 pub mod text;
 
 pub use image::{
-    check, read, rewrite, write, write_into, Block, Instruction, Program, BLOCK_BYTES,
-    HEADER_BYTES, INSTRUCTION_BYTES, MARK, MAX_BLOCKS, MAX_INSTRUCTIONS, MAX_PAIRS, VERSION,
+    block_bytes, check, last_opcode, most_pairs, read, rewrite, write, write_into, Block,
+    Instruction, Program, HEADER_BYTES, INSTRUCTION_BYTES, MARK, MAX_BLOCKS, MAX_INSTRUCTIONS,
+    MAX_PAIRS, VERSIONS, VERSION_1, VERSION_2,
 };
 pub use job::Job;
 pub use machine::{
     Answer, Call, Dispatched, End, Machine, Slot, Status, MAX_LANES, MAX_PLACES, MAX_WORDS,
     WORK_LIMIT,
 };
+pub use stack::{Stack, STACK};
 pub use task::{Record, Registers, Task, Value, REGISTERS};

@@ -6,7 +6,7 @@ pub(crate) use dispatch::check_lanes;
 pub use dispatch::{Dispatched, MAX_LANES};
 
 use crate::image::{Block, Program};
-use crate::task::{Record, Step, Surroundings, Task, REGISTERS, ZEROS};
+use crate::task::{Record, Step, Surroundings, Task, REGISTERS};
 use crate::{question, shape};
 
 pub const MAX_PLACES: u64 = 64;
@@ -38,6 +38,12 @@ impl Slot {
         status: Status::Vacant,
         task: Task::NONE,
     };
+
+    /// Leaves no task, and the stack's memory for the next.
+    fn vacate(&mut self) {
+        self.status = Status::Vacant;
+        self.task.clear();
+    }
 
     /// Whether the task there has ended its side of its innermost fork.
     pub(crate) fn has_ended_side(&self) -> bool {
@@ -143,7 +149,7 @@ impl Machine {
         let registers: &[i64; REGISTERS] = registers.try_into().map_err(|_| question::REGISTERS)?;
         check_words(words)?;
 
-        let mut slots = vec![Slot::VACANT; places as usize];
+        let mut slots: Vec<Slot> = (0..places).map(|_| Slot::VACANT).collect();
         slots[0] = Slot {
             status: Status::Running,
             task: Task::new(registers, places as u8),
@@ -230,7 +236,7 @@ impl Machine {
         if self.work == WORK_LIMIT {
             return Err(question::WORK);
         }
-        self.carry_out(call, slot);
+        self.carry_out(&self.surroundings(call), slot);
         Ok(())
     }
 
@@ -252,6 +258,7 @@ impl Machine {
         let allowed = budget.min(u64::from(WORK_LIMIT - self.work));
         let mut picks = 0;
         let mut ahead = self.running;
+        let surroundings = self.surroundings(call);
         // A job that has not ended has a running task.
         while self.running != 0 {
             if picks == allowed {
@@ -261,7 +268,7 @@ impl Machine {
                 ahead = self.running;
             }
             let slot = ahead.trailing_zeros();
-            self.carry_out(call, slot as usize);
+            self.carry_out(&surroundings, slot as usize);
             picks += 1;
             // Read anew: the pick may have made a task running further on, or vacated its slot.
             ahead = self.running & (u64::MAX << slot << 1);
@@ -269,16 +276,20 @@ impl Machine {
         (Answer::Ended, picks)
     }
 
+    /// What the tasks' instructions look at in this call.
+    fn surroundings<'a>(&self, call: Call<'a>) -> Surroundings<'a> {
+        Surroundings {
+            program: call.program,
+            words: call.words,
+            interval: self.interval,
+        }
+    }
+
     /// Issues one instruction of the running task in this slot.
     #[inline(always)]
-    fn carry_out(&mut self, call: Call, slot: usize) {
-        let Call { program, words } = call;
+    fn carry_out(&mut self, surroundings: &Surroundings, slot: usize) {
+        let program = surroundings.program;
         self.work += 1;
-        let surroundings = Surroundings {
-            program,
-            words,
-            interval: self.interval,
-        };
         match self.slots[slot].task.step(surroundings) {
             Step::Onward => {}
             Step::Fork { record, target } => {
@@ -323,8 +334,7 @@ impl Machine {
 
         let (before, after) = self.slots.split_at_mut(child_slot);
         let child = &mut after[0].task;
-        child.clone_from(&before[slot].task);
-        child.counter = 0;
+        child.become_child_of(&before[slot].task);
         child.pc = target.first;
         self.set_status(child_slot, Status::Running);
     }
@@ -367,7 +377,7 @@ impl Machine {
         task.span = task.span.max(child.task.span);
         let status = match (parent.status, child.status) {
             (Status::Faulted(number), _) | (_, Status::Faulted(number)) => {
-                task.registers = ZEROS;
+                task.forget();
                 Status::Faulted(number)
             }
             _ => {
@@ -379,7 +389,7 @@ impl Machine {
                 Status::Running
             }
         };
-        *child = Slot::VACANT;
+        child.vacate();
         self.set_status(parent_slot, status);
     }
 }

@@ -15,3 +15,6 @@ pub const FORK: u8 = 12;
 pub const JUMP: u8 = 13;
 pub const HALT: u8 = 14;
 pub const JOIN: u8 = 15;
+/// Of version 2, like the next.
+pub const PUSH: u8 = 16;
+pub const POP: u8 = 17;

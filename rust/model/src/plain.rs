@@ -1,7 +1,8 @@
 //! The plain evaluation, which knows no picks and no slots.
 
 use crate::machine::End;
-use crate::task::{Record, Registers, Step, Surroundings, Task, ZEROS};
+use crate::stack::Stack;
+use crate::task::{Record, Registers, Step, Surroundings, Task};
 use crate::{Job, Program};
 
 /// What a job comes to.
@@ -61,7 +62,7 @@ impl Evaluator<'_> {
                 return None;
             }
             self.work += 1;
-            match task.step(self.surroundings) {
+            match task.step(&self.surroundings) {
                 Step::Onward => {}
                 Step::Wait => return Some(Side::Joined(task)),
                 Step::Halt => return Some(Side::Halted(task)),
@@ -93,12 +94,13 @@ fn sides(program: &Program, task: Task, record: Record, target: u8) -> (Task, Ta
     parent.places = lower_half;
     child.places = upper_half;
     child.counter = 0;
+    child.stack = Stack::EMPTY;
     child.pc = program.blocks[usize::from(target)].first;
     (parent, child)
 }
 
 /// The task that two ended sides of one fork come to, and its fault's number if one of them
-/// faulted.
+/// faulted. Without a fault its stack is the parent's, as the parent's side left it.
 fn joined(program: &Program, parent: Side, child: Side) -> (Option<u8>, Task) {
     let fault = parent.fault().or_else(|| child.fault());
     let (mut task, child) = (parent.task(), child.task());
@@ -107,7 +109,7 @@ fn joined(program: &Program, parent: Side, child: Side) -> (Option<u8>, Task) {
     task.span = task.span.max(child.span);
     task.counter = 0;
     if fault.is_some() {
-        task.registers = ZEROS;
+        task.forget();
         return (fault, task);
     }
     let continuation = program.blocks[usize::from(record.continuation)];

@@ -5,17 +5,17 @@
 pub const HEADER: u8 = 1;
 /// Mark TPB?
 pub const MARK: u8 = 2;
-/// Version 1?
+/// Version 1 or 2?
 pub const VERSION: u8 = 3;
 /// B in 1 to 128 and I in 1 to 1,024?
 pub const COUNTS: u8 = 4;
-/// Length 8 + 10·B + 12·I?
+/// Length 8 + 10·B + 12·I, or in version 2 8 + 14·B + 12·I?
 pub const LENGTH: u8 = 5;
 /// Does block 0 start at 0, a later one after its predecessor, all below I?
 pub const BLOCK_START: u8 = 6;
 /// Is the annotation as laid out, label below B?
 pub const ANNOTATION: u8 = 7;
-/// Are opcode, registers, labels and zeros as laid out?
+/// Are opcode, registers, labels and zeros as laid out, the opcode one of the version's?
 pub const FIELDS: u8 = 8;
 /// Is it opcode 13, 14 or 15 exactly when last in its block?
 pub const LAST_IN_BLOCK: u8 = 9;

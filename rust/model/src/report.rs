@@ -3,12 +3,13 @@
 use crate::job::Report;
 use crate::machine::End;
 use crate::numbers;
-use crate::task::{Registers, Value, REGISTERS};
+use crate::task::{Value, REGISTERS};
 
 /// Numbers before the registers': end, fault number, picks, work and span.
 pub const REGISTERS_AT: usize = 5;
-/// Three for each register.
-pub const REGISTER_NUMBERS: usize = 3 * REGISTERS;
+/// Of a register, or of an entry of a stack.
+pub const VALUE_NUMBERS: usize = 3;
+pub const REGISTER_NUMBERS: usize = VALUE_NUMBERS * REGISTERS;
 pub const NUMBERS: usize = REGISTERS_AT + REGISTER_NUMBERS;
 
 /// Length of a report.
@@ -37,7 +38,7 @@ pub fn write(report: &Report, out: &mut [u8]) {
     ];
     let (front, registers) = out.split_at_mut(numbers::BYTES * REGISTERS_AT);
     numbers::write(numbers, front);
-    write_registers(&report.registers, registers);
+    write_values(&report.registers, registers);
 }
 
 /// Writes a dispatcher's report over `out`, which has `DISPATCH_BYTES`.
@@ -48,8 +49,8 @@ pub fn write_dispatched(report: &Report, rounds: u64, out: &mut [u8]) {
 }
 
 /// Kind, then the integer, label or continuation, then the record's depth or 0.
-pub(crate) fn write_registers(registers: &Registers, out: &mut [u8]) {
-    let numbers = registers.iter().flat_map(|value| match *value {
+pub(crate) fn write_values(values: &[Value], out: &mut [u8]) {
+    let numbers = values.iter().flat_map(|value| match *value {
         Value::Int(integer) => [0, integer as u64, 0],
         Value::Label(label) => [1, label.into(), 0],
         Value::Record(record) => [2, record.continuation.into(), record.depth.into()],

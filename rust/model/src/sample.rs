@@ -1,6 +1,6 @@
 //! Programs for the tests.
 
-use crate::image::{Block, Instruction, Program};
+use crate::image::{Block, Instruction, Program, MAX_PAIRS, VERSION_1, VERSION_2};
 use crate::opcode;
 
 #[derive(Clone, Copy)]
@@ -37,9 +37,29 @@ pub const HALT: Instruction = Instruction {
 
 pub const PLAIN: Block = Block::PLAIN;
 
+/// A block's pair bytes, of which these are used.
+pub fn pairs(used: &[u8]) -> [u8; MAX_PAIRS] {
+    let mut pairs = [0; MAX_PAIRS];
+    pairs[..used.len()].copy_from_slice(used);
+    pairs
+}
+
+pub fn push(v: Operand) -> Instruction {
+    instruction(opcode::PUSH, 0, 0, v)
+}
+
+pub fn pop(r: u8) -> Instruction {
+    Instruction {
+        opcode: opcode::POP,
+        r,
+        ..HALT
+    }
+}
+
 /// Blocks with their annotations and code; the starts are counted here.
 pub fn program(blocks: &[(Block, &[Instruction])]) -> Program {
     let mut program = Program {
+        version: VERSION_1,
         blocks: Vec::new(),
         instructions: Vec::new(),
     };
@@ -51,13 +71,21 @@ pub fn program(blocks: &[(Block, &[Instruction])]) -> Program {
     program
 }
 
+/// The same of version 2.
+pub fn second(blocks: &[(Block, &[Instruction])]) -> Program {
+    Program {
+        version: VERSION_2,
+        ..program(blocks)
+    }
+}
+
 /// Document 01's program F.
 pub fn f() -> Program {
     let target = Block {
         annotation: 2,
         label: 3,
         pair_count: 1,
-        pairs: [0x02, 0, 0, 0],
+        pairs: pairs(&[0x02]),
         ..PLAIN
     };
     let join = instruction(opcode::JOIN, 0, 0, Reg(1));
@@ -104,4 +132,51 @@ pub fn forks() -> Program {
     code.resize(8, instruction(opcode::FORK, 0, 1, Lab(2)));
     code.push(HALT);
     program(&[(PLAIN, &code), (target, &[HALT]), (PLAIN, &join)])
+}
+
+/// A subroutine, block 2, that adds 5 to r0, called from two places: eleven instructions. The return
+/// label goes through r1.
+pub fn calls() -> Program {
+    let to_subroutine = instruction(opcode::JUMP, 0, 0, Lab(2));
+    second(&[
+        (PLAIN, &[push(Lab(1)), to_subroutine]),
+        (PLAIN, &[push(Lab(3)), to_subroutine]),
+        (
+            PLAIN,
+            &[
+                instruction(opcode::ADD, 0, 0, Int(5)),
+                pop(1),
+                instruction(opcode::JUMP, 0, 0, Reg(1)),
+            ],
+        ),
+        (PLAIN, &[HALT]),
+    ])
+}
+
+/// F with stacks. The task pushes 10 and forks; the parent's side pushes 20 before it joins, the
+/// child's is as given. The joined task pops r3 and r4.
+pub fn stacked(child: &[Instruction]) -> Program {
+    let target = Block {
+        annotation: 2,
+        label: 3,
+        ..PLAIN
+    };
+    let join = instruction(opcode::JOIN, 0, 0, Reg(1));
+    let mut side = child.to_vec();
+    side.push(join);
+    second(&[
+        (
+            PLAIN,
+            &[
+                instruction(opcode::JRALLOC, 1, 0, Lab(2)),
+                push(Int(10)),
+                instruction(opcode::FORK, 0, 1, Lab(1)),
+                push(Int(20)),
+                join,
+            ],
+        ),
+        (PLAIN, &side),
+        (target, &[HALT]),
+        (PLAIN, &[pop(3), pop(4), join]),
+    ])
 }

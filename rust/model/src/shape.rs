@@ -1,9 +1,11 @@
 //! The shape test of docs/machine.md, which question 20 puts to a state and the program handed in.
-//! Slots from P on have no counterpart here: [`crate::state::read`] asks whether they are vacant.
+//! Slots from P on have no counterpart here, nor have stack entries from the height on:
+//! [`crate::state::read`] asks whether they are vacant, and 0.
 
 use crate::fault;
 use crate::image::{Block, Program};
 use crate::machine::{allows_interval, allows_places, running, Machine, Slot, Status};
+use crate::stack::STACK;
 use crate::task::{Task, Value, ZEROS};
 
 pub fn meets(machine: &Machine, program: &Program) -> bool {
@@ -61,15 +63,21 @@ fn fits(machine: &Machine, program: &Program, slot: &Slot) -> bool {
         && usize::from(task.pc) < program.instructions.len()
         && task.counter <= machine.work
         && task.span <= machine.work
-        && has_status(task, slot.status)
+        && has_status(program, task, slot.status)
         && task
             .forks()
             .iter()
             .all(|fork| is_join_target(program, fork.continuation))
-        && task.registers.iter().all(|&value| is_of(program, value))
+        && task.stack.height() <= STACK
+        && values(task).all(|value| is_of(program, value))
 }
 
-fn has_status(task: &Task, status: Status) -> bool {
+/// What registers and stack hold.
+fn values(task: &Task) -> impl Iterator<Item = Value> + '_ {
+    task.registers.iter().chain(task.stack.values()).copied()
+}
+
+fn has_status(program: &Program, task: &Task, status: Status) -> bool {
     if status != Status::Running && (task.pc, task.counter) != (0, 0) {
         return false;
     }
@@ -78,7 +86,9 @@ fn has_status(task: &Task, status: Status) -> bool {
         Status::Waiting => task.depth() > 0,
         Status::Halted => task.depth() == 0,
         Status::Faulted(number) => {
-            (fault::FIRST..=fault::LAST).contains(&number) && task.registers == ZEROS
+            fault::of(program.version).contains(&number)
+                && task.registers == ZEROS
+                && task.stack.height() == 0
         }
     }
 }

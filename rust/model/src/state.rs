@@ -2,7 +2,8 @@
 
 use crate::machine::{allows_places, running, Machine, Slot, Status, MAX_PLACES};
 use crate::numbers::{self, number_at};
-use crate::report::{self, REGISTER_NUMBERS};
+use crate::report::{self, REGISTER_NUMBERS, VALUE_NUMBERS};
+use crate::stack::{Stack, STACK};
 use crate::task::{Record, Task, Value, MAX_DEPTH, NO_FORK, ZEROS};
 
 /// Numbers before the slots': P, interval and work.
@@ -12,7 +13,9 @@ pub const JOB_NUMBERS: usize = 3;
 pub const FORKS_AT: usize = 7;
 pub const FORK_NUMBERS: usize = 2;
 pub const REGISTERS_AT: usize = FORKS_AT + MAX_DEPTH * FORK_NUMBERS;
-pub const SLOT_NUMBERS: usize = REGISTERS_AT + REGISTER_NUMBERS;
+pub const HEIGHT_AT: usize = REGISTERS_AT + REGISTER_NUMBERS;
+pub const STACK_AT: usize = HEIGHT_AT + 1;
+pub const SLOT_NUMBERS: usize = STACK_AT + VALUE_NUMBERS * STACK;
 pub const NUMBERS: usize = JOB_NUMBERS + MAX_PLACES as usize * SLOT_NUMBERS;
 
 /// Length of a state.
@@ -59,11 +62,22 @@ fn write_slot(slot: &Slot, out: &mut [u8]) {
         task.span.into(),
         task.depth.into(),
     ];
-    let (front, registers) = out.split_at_mut(numbers::BYTES * REGISTERS_AT);
+    let (front, rest) = out.split_at_mut(numbers::BYTES * REGISTERS_AT);
+    let (registers, stack) = rest.split_at_mut(numbers::BYTES * REGISTER_NUMBERS);
     let forks = task.forks.iter();
     let forks = forks.flat_map(|fork| [fork.continuation.into(), fork.depth.into()]);
     numbers::write(numbers.into_iter().chain(forks), front);
-    report::write_registers(&task.registers, registers);
+    report::write_values(&task.registers, registers);
+    write_stack(&task.stack, stack);
+}
+
+/// The height, the values below it, and integers 0 from it on, which are zeros throughout.
+fn write_stack(stack: &Stack, out: &mut [u8]) {
+    let (height, entries) = out.split_at_mut(numbers::BYTES);
+    numbers::write([stack.height() as u64], height);
+    let (used, unused) = entries.split_at_mut(numbers::BYTES * VALUE_NUMBERS * stack.height());
+    report::write_values(stack.values(), used);
+    unused.fill(0);
 }
 
 pub fn bytes(machine: &Machine) -> Vec<u8> {
@@ -74,7 +88,8 @@ pub fn bytes(machine: &Machine) -> Vec<u8> {
 
 /// The machine that `bytes`, of which there are `BYTES`, stand for. None: they stand for no state,
 /// or for one that meets the shape test for no program, because P is not allowed, a slot from P on
-/// is not vacant, or a number is larger than the machine has room for.
+/// is not vacant, a stack is higher than 32 or holds something from its height on, or a number is
+/// larger than the machine has room for.
 pub fn read(bytes: &[u8]) -> Option<Machine> {
     let places = number_at(bytes, 0);
     if !allows_places(places) {
@@ -114,11 +129,15 @@ fn read_slot(bytes: &[u8]) -> Option<Slot> {
         *fork = record(number_at(bytes, at), number_at(bytes, at + 1))?;
     }
     let mut registers = ZEROS;
-    for (register, at) in registers.iter_mut().zip((REGISTERS_AT..).step_by(3)) {
-        *register = value([at, at + 1, at + 2].map(|at| number_at(bytes, at)))?;
+    for (register, at) in registers
+        .iter_mut()
+        .zip((REGISTERS_AT..).step_by(VALUE_NUMBERS))
+    {
+        *register = value_at(bytes, at)?;
     }
     let task = Task {
         registers,
+        stack: read_stack(bytes)?,
         places: number_at(bytes, 2).try_into().ok()?,
         pc: number_at(bytes, 3).try_into().ok()?,
         counter: number_at(bytes, 4).try_into().ok()?,
@@ -127,6 +146,23 @@ fn read_slot(bytes: &[u8]) -> Option<Slot> {
         forks,
     };
     Some(Slot { status, task })
+}
+
+/// None also where the height is above the stack's room, or an entry from the height on is not 0.
+fn read_stack(bytes: &[u8]) -> Option<Stack> {
+    let height: usize = number_at(bytes, HEIGHT_AT).try_into().ok()?;
+    let entries = &bytes[numbers::BYTES * STACK_AT..];
+    let used = height.checked_mul(numbers::BYTES * VALUE_NUMBERS)?;
+    if entries.get(used..)?.iter().any(|&byte| byte != 0) {
+        return None;
+    }
+    let places = (STACK_AT..).step_by(VALUE_NUMBERS).take(height);
+    let values: Option<Vec<Value>> = places.map(|at| value_at(bytes, at)).collect();
+    values.map(Stack::of)
+}
+
+fn value_at(bytes: &[u8], at: usize) -> Option<Value> {
+    value([at, at + 1, at + 2].map(|at| number_at(bytes, at)))
 }
 
 /// Number of slots of the state that `bytes` stand for.

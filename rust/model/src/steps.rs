@@ -20,7 +20,7 @@ pub fn program_read(image: &[u8], program: &mut [u8]) -> Result<(), u8> {
     Ok(())
 }
 
-/// Writes a program: questions 4 and 6 to 9, then 15. `image`, of the image's length, then holds it.
+/// Writes a program: questions 3, 4 and 6 to 9, then 15. `image`, of the image's length, then holds it.
 pub fn program_write(program: &[u8], image: &mut [u8]) -> Result<(), u8> {
     let read = cells::read(program)?;
     check_lengths(program.len() == cells::BYTES && image.len() == read.image_len())?;
@@ -28,7 +28,7 @@ pub fn program_write(program: &[u8], image: &mut [u8]) -> Result<(), u8> {
     Ok(())
 }
 
-/// Starts a job: questions 4 and 6 to 9, then 11 to 15. `state` then holds its first state.
+/// Starts a job: questions 3, 4 and 6 to 9, then 11 to 15. `state` then holds its first state.
 pub fn start(
     program: &[u8],
     places: u64,
@@ -49,7 +49,7 @@ pub fn start(
     Ok(())
 }
 
-/// Carries out a pick: questions 4, 6 to 9, 14, 15 and 20 to 24. `state` then holds the new state.
+/// Carries out a pick: questions 3, 4, 6 to 9, 14, 15 and 20 to 24. `state` then holds the new state.
 pub fn pick(program: &[u8], words: &[u8], slot: u64, state: &mut [u8]) -> Result<(), u8> {
     let read = cells::read(program)?;
     let words_read = integers(words);

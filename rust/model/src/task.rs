@@ -4,6 +4,7 @@
 //! a wait, a fault or a halt is up to each of them.
 
 use crate::image::{Instruction, Program};
+use crate::stack::Stack;
 use crate::{fault, opcode};
 use std::mem;
 
@@ -40,6 +41,7 @@ pub const ZEROS: Registers = [Value::Int(0); REGISTERS];
 #[derive(Clone, Debug, PartialEq, Eq)]
 pub struct Task {
     pub registers: Registers,
+    pub stack: Stack,
     pub places: u8,
     /// Program counter: the number of the next instruction.
     pub pc: u16,
@@ -80,6 +82,7 @@ impl Task {
     /// What stands in the place of a task where there is none.
     pub const NONE: Task = Task {
         registers: ZEROS,
+        stack: Stack::EMPTY,
         places: 0,
         pc: 0,
         counter: 0,
@@ -95,6 +98,20 @@ impl Task {
             places,
             ..Task::NONE
         }
+    }
+
+    /// Takes over from a parent that has just forked, but for its counter and its stack: that of a
+    /// child is empty, so nothing of it is copied.
+    #[inline]
+    pub(crate) fn become_child_of(&mut self, parent: &Task) {
+        self.registers = parent.registers;
+        self.stack.clear();
+        self.places = parent.places;
+        self.pc = parent.pc;
+        self.counter = 0;
+        self.span = parent.span;
+        self.forks = parent.forks;
+        self.depth = parent.depth;
     }
 
     /// Number of open forks.
@@ -124,22 +141,41 @@ impl Task {
         others.map_or(false, |others| others.iter().all(|&fork| fork == NO_FORK))
     }
 
-    /// Issues the next instruction. One that faults counts too, and sets the registers to 0.
+    /// Issues the next instruction. One that faults counts too, and leaves nothing in the task.
     #[inline(always)]
-    pub fn step(&mut self, surroundings: Surroundings) -> Step {
+    pub fn step(&mut self, surroundings: &Surroundings) -> Step {
         self.counter += 1;
         self.span += 1;
         match self.issue(surroundings) {
             Ok(step) => step,
             Err(number) => {
-                self.registers = ZEROS;
+                self.forget();
                 Step::Fault(number)
             }
         }
     }
 
+    /// What a fault does to registers and stack.
+    #[inline]
+    pub fn forget(&mut self) {
+        self.registers = ZEROS;
+        self.stack.clear();
+    }
+
+    /// Leaves nothing of the task but its stack's memory.
+    #[inline]
+    pub(crate) fn clear(&mut self) {
+        self.forget();
+        self.places = 0;
+        self.pc = 0;
+        self.counter = 0;
+        self.span = 0;
+        self.forks = [NO_FORK; MAX_DEPTH];
+        self.depth = 0;
+    }
+
     #[inline(always)]
-    fn issue(&mut self, surroundings: Surroundings) -> Result<Step, u8> {
+    fn issue(&mut self, surroundings: &Surroundings) -> Result<Step, u8> {
         let instruction = &surroundings.program.instructions[usize::from(self.pc)];
         match instruction.opcode {
             opcode::MOVE => self.set(instruction, self.operand(instruction)),
@@ -164,6 +200,8 @@ impl Task {
             opcode::HALT if self.depth != 0 => Err(fault::OPEN_FORK),
             opcode::HALT => Ok(Step::Halt),
             opcode::JOIN => self.join(instruction, surroundings),
+            opcode::PUSH => self.push(instruction),
+            opcode::POP => self.pop(instruction),
             number => unreachable!("opcode {} in a program that was checked", number),
         }
     }
@@ -246,7 +284,7 @@ impl Task {
         Ok(Step::Fork { record, target })
     }
 
-    fn join(&mut self, instruction: &Instruction, surroundings: Surroundings) -> Result<Step, u8> {
+    fn join(&mut self, instruction: &Instruction, surroundings: &Surroundings) -> Result<Step, u8> {
         let record = self.fitting(self.operand(instruction))?;
         if record.depth != u32::from(self.depth) {
             return Ok(Step::Wait);
@@ -255,9 +293,20 @@ impl Task {
         Ok(Step::Onward)
     }
 
+    fn push(&mut self, instruction: &Instruction) -> Result<Step, u8> {
+        self.stack.push(self.operand(instruction))?;
+        self.pc += 1;
+        Ok(Step::Onward)
+    }
+
+    fn pop(&mut self, instruction: &Instruction) -> Result<Step, u8> {
+        let value = self.stack.pop()?;
+        self.set(instruction, value)
+    }
+
     /// What jump and a taken if-jump do.
     #[inline]
-    fn jump(&mut self, instruction: &Instruction, surroundings: Surroundings) -> Result<Step, u8> {
+    fn jump(&mut self, instruction: &Instruction, surroundings: &Surroundings) -> Result<Step, u8> {
         let target = label(self.operand(instruction))?;
         self.enter(surroundings, target);
         Ok(Step::Onward)
@@ -282,7 +331,7 @@ impl Task {
     /// Enters a block by jump, taken if-jump or join, or its handler in its place: document 01's
     /// rule, with document 02's request 1.
     #[inline]
-    fn enter(&mut self, surroundings: Surroundings, target: u8) {
+    fn enter(&mut self, surroundings: &Surroundings, target: u8) {
         let blocks = &surroundings.program.blocks;
         let mut block = &blocks[usize::from(target)];
         if block.is_promotion_ready()

@@ -4,7 +4,10 @@ use crate::job::word;
 use crate::needs::Needs;
 use crate::op::{Block, Code, Op, OpCode, Operand, Register, Target};
 use crate::rows::{row, Row};
-use model::{fault, BLOCK_BYTES, HEADER_BYTES, INSTRUCTION_BYTES, MAX_PAIRS};
+use model::{block_bytes, fault, HEADER_BYTES, INSTRUCTION_BYTES, MAX_PAIRS, VERSION_1, VERSION_2};
+
+/// In a block record.
+const PAIRS_AT: usize = 6;
 
 /// An instruction's bytes.
 #[derive(Clone, Copy)]
@@ -55,10 +58,14 @@ impl<'a> Record<'a> {
 
 /// The program of an image that the reader accepts, for jobs with this call record.
 pub fn code(image: &[u8], words: &[u8]) -> Code {
-    let block_bytes = BLOCK_BYTES * usize::from(image[5]);
-    let (blocks, instructions) = image[HEADER_BYTES..].split_at(block_bytes);
-    let blocks = blocks.chunks_exact(BLOCK_BYTES).zip(0..);
-    let mut blocks: Vec<Block> = blocks.map(|(record, label)| block(record, label)).collect();
+    let version = u16::from_le_bytes([image[3], image[4]]);
+    let length = block_bytes(version) * usize::from(image[5]);
+    let (records, instructions) = image[HEADER_BYTES..].split_at(length);
+    let mut blocks = if version == VERSION_2 {
+        blocks::<{ block_bytes(VERSION_2) }>(records)
+    } else {
+        blocks::<{ block_bytes(VERSION_1) }>(records)
+    };
     let mut ops = Vec::with_capacity(instructions.len() / INSTRUCTION_BYTES);
     let mut rest = instructions;
     for label in 0..blocks.len() {
@@ -124,8 +131,18 @@ fn set_fault(op: &mut Op, number: u8) {
     op.operand = Operand(number.into());
 }
 
-fn block(record: &[u8], label: u8) -> Block {
-    let pairs: [u8; MAX_PAIRS] = record[6..].try_into().expect("four pairs");
+/// Of records of so many bytes.
+fn blocks<const BYTES: usize>(records: &[u8]) -> Vec<Block> {
+    let records = records.chunks_exact(BYTES).zip(0..);
+    records
+        .map(|(record, label)| block::<BYTES>(record, label))
+        .collect()
+}
+
+#[inline(always)]
+fn block<const BYTES: usize>(record: &[u8], label: u8) -> Block {
+    let mut pairs = [0; MAX_PAIRS];
+    pairs[..BYTES - PAIRS_AT].copy_from_slice(&record[PAIRS_AT..BYTES]);
     Block {
         to: Target {
             needs: 0,

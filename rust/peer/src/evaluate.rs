@@ -3,7 +3,7 @@
 use crate::job::Job;
 use crate::op::{Code, Target};
 use crate::run::{Innermost, Scene, Stop};
-use crate::task::{continuation, Task};
+use crate::task::{continuation, depth_bits, Task};
 use model::job::Report;
 use model::task::{MAX_DEPTH, ZEROS};
 use model::{End, WORK_LIMIT};
@@ -122,7 +122,7 @@ impl Evaluator<'_> {
 
     fn innermost(&self) -> Innermost {
         Innermost {
-            depth: self.depth as i64,
+            depth: depth_bits(self.depth),
             record: match self.depth {
                 // No record has this number.
                 0 => -1,
@@ -147,7 +147,7 @@ impl Evaluator<'_> {
         if parent.places < 2 {
             parent.beat = self.scene.limit + 1;
         }
-        *child = *parent;
+        child.become_child_of(parent);
         child.span = self.work - parent.span;
     }
 

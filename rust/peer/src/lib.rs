@@ -13,8 +13,8 @@
 //!   at there too: a run may be some instructions ahead when it is spent, and nobody sees them.
 //! - Whether registers hold integers is asked once for each block, and for each instruction only
 //!   where that does not settle it.
-//!
-//! Request 4's stack of 32 values would be a part of a `Task`; a child's starts empty.
+//! - A stack is a part of its task, and of those that a job can have open at once each has its own: a
+//!   fork and a join leave the values on them alone.
 
 #![forbid(unsafe_code)]
 
@@ -25,6 +25,7 @@ mod needs;
 mod op;
 mod rows;
 mod run;
+mod stack;
 mod task;
 
 use model::job::Report;

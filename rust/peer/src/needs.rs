@@ -2,7 +2,8 @@
 //!
 //! When all of them hold integers as the block is entered, they do so to its end, as long as the
 //! block sets none of them to anything else. Then neither its reads need ask, nor its results be
-//! marked as integers. A block that sets such a register otherwise is always gone through with care.
+//! marked as integers. A block that sets such a register otherwise is always gone through with care;
+//! one that pops into it, from there on if what is popped is no integer.
 
 use crate::op::{Op, OpCode};
 use crate::rows::Row;
@@ -17,8 +18,8 @@ pub struct Needs {
     pub integers: u32,
     /// Set to labels or records.
     pub others: u32,
-    /// Whether there are copies from register to register, which are left to the end.
-    pub copies: bool,
+    /// Whether values of any kind are copied, pushed or popped, which is left to the end.
+    pub moves: bool,
 }
 
 impl Needs {
@@ -27,14 +28,14 @@ impl Needs {
     pub fn add(&mut self, row: &Row, op: &Op) {
         self.integers |= op.r.bit() & row.r | op.s.bit() & row.s | op.v.bit() & row.v;
         self.others |= op.r.bit() & row.other;
-        self.copies |= row.is_copy;
+        self.moves |= row.is_move;
     }
 
-    /// The registers needed, with `CARE` where that is not enough. The block's copies are decoded as
-    /// ones of anything so far; those of integers become so.
+    /// The registers needed, with `CARE` where that is not enough. The block's copies, pushes and pops
+    /// are decoded as ones of anything so far; those of integers become so.
     pub fn settled(mut self, block: &mut [Op]) -> u32 {
-        if self.copies {
-            self.settle_copies(block);
+        if self.moves {
+            self.settle_moves(block);
         }
         if self.integers & self.others == 0 {
             self.integers
@@ -43,17 +44,23 @@ impl Needs {
         }
     }
 
-    fn settle_copies(&mut self, block: &mut [Op]) {
+    fn settle_moves(&mut self, block: &mut [Op]) {
         for op in block {
-            if op.code == OpCode::CopyAny {
-                let both = op.r.bit() | op.v.bit();
-                // Of an integer most likely, if one of the two is used as one.
-                if self.integers & both != 0 {
-                    self.integers |= both;
-                    op.code = OpCode::Copy;
-                } else {
-                    self.others |= op.r.bit();
+            match op.code {
+                OpCode::CopyAny => {
+                    let both = op.r.bit() | op.v.bit();
+                    // Of an integer most likely, if one of the two is used as one.
+                    if self.integers & both != 0 {
+                        self.integers |= both;
+                        op.code = OpCode::Copy;
+                    } else {
+                        self.others |= op.r.bit();
+                    }
                 }
+                OpCode::PushAny if self.integers & op.v.bit() != 0 => op.code = OpCode::Push,
+                OpCode::PopAny if self.integers & op.r.bit() != 0 => op.code = OpCode::Pop,
+                OpCode::PopAny => self.others |= op.r.bit(),
+                _ => {}
             }
         }
     }

@@ -99,6 +99,14 @@ pub enum OpCode {
     JumpBy,
     Halt,
     Join,
+    PushInteger,
+    PushLabel,
+    /// Of a register that the block needs an integer in.
+    Push,
+    PushAny,
+    /// To a register that the block needs an integer in.
+    Pop,
+    PopAny,
     /// What can only fault.
     Fault,
 }

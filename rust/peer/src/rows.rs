@@ -13,7 +13,8 @@ pub struct Row {
     pub v: u32,
     /// Whether r is set to anything else.
     pub other: u32,
-    pub is_copy: bool,
+    /// Whether the block's other operations settle what it comes to.
+    pub is_move: bool,
     /// 0 if the count begins anew after it.
     pub counts_on: u16,
     /// Of what can only fault.
@@ -29,7 +30,7 @@ const fn plain(code: OpCode) -> Row {
         s: 0,
         v: 0,
         other: 0,
-        is_copy: false,
+        is_move: false,
         counts_on: u16::MAX,
         fault: 0,
     }
@@ -90,10 +91,13 @@ const fn test(code: OpCode) -> Row {
     }
 }
 
-const COPY: Row = Row {
-    is_copy: true,
-    ..plain(OpCode::CopyAny)
-};
+/// A copy, a push or a pop of anything.
+const fn moved(code: OpCode) -> Row {
+    Row {
+        is_move: true,
+        ..plain(code)
+    }
+}
 
 const WORD: Row = Row {
     v: ALL,
@@ -108,12 +112,14 @@ const fn operation(register: OpCode, integer: OpCode) -> [Row; 4] {
     [NONE, combined(register), label, with_integer(integer)]
 }
 
-/// For each opcode: without an operand, with a register, with a label and with an integer.
-static ROWS: [[Row; 4]; 16] = {
+/// For each opcode: without an operand, with a register, with a label and with an integer. There are
+/// more than opcodes, so that the number of one needs no test.
+static ROWS: [[Row; 4]; 32] = {
     use OpCode::*;
-    [
+    let mut rows = [[NONE; 4]; 32];
+    let opcodes = [
         [NONE; 4],
-        [NONE, COPY, other(SetLabel), set(Set)],
+        [NONE, moved(CopyAny), other(SetLabel), set(Set)],
         operation(Add, AddInteger),
         operation(Subtract, SubtractInteger),
         operation(Multiply, MultiplyInteger),
@@ -138,11 +144,19 @@ static ROWS: [[Row; 4]; 16] = {
             fault(fault::RECORD),
             fault(fault::RECORD),
         ],
-    ]
+        [NONE, moved(PushAny), plain(PushLabel), plain(PushInteger)],
+        [moved(PopAny), NONE, NONE, NONE],
+    ];
+    let mut opcode = 0;
+    while opcode < opcodes.len() {
+        rows[opcode] = opcodes[opcode];
+        opcode += 1;
+    }
+    rows
 };
 
 /// The row of an instruction that questions 8 and 9 accept.
 #[inline(always)]
 pub fn row(opcode: u8, kind: u8) -> &'static Row {
-    &ROWS[usize::from(opcode & 15)][usize::from(kind & 3)]
+    &ROWS[usize::from(opcode & 31)][usize::from(kind & 3)]
 }

@@ -1,8 +1,9 @@
 //! One task from block to block, until it asks something of those who hold it.
 
 use crate::job::word;
+use crate::needs;
 use crate::op::{Code, Op, OpCode, Target};
-use crate::task::{continuation, depth, Task};
+use crate::task::{continuation, is_at, Held, Task};
 use model::fault;
 
 /// Why a task does not go on by itself.
@@ -19,7 +20,7 @@ pub enum Stop {
     Halt,
     /// More was done than the budget allows.
     Spent,
-    /// The block that is entered is to be gone through with care, or no longer so.
+    /// The block that is entered, or the rest of one, is to be gone through with care; or no longer so.
     Care(Target),
 }
 
@@ -36,6 +37,7 @@ pub struct Scene<'a> {
 /// The innermost open fork.
 #[derive(Clone, Copy)]
 pub struct Innermost {
+    /// The task's depth, as it stands in a record's number.
     pub depth: i64,
     pub record: i64,
 }
@@ -44,7 +46,7 @@ impl Innermost {
     /// Whether a record fits the task. Every fork opened beyond a record's depth was opened under a
     /// record that fitted then. So those beyond it belong to it if the innermost does.
     fn fits(self, record: i64) -> bool {
-        depth(record) == self.depth || record == self.record
+        is_at(record, self.depth) || record == self.record
     }
 }
 
@@ -321,7 +323,7 @@ impl Scene<'_> {
                     return Stop::Halt;
                 }
                 OpCode::Join => match task.record(op.v) {
-                    Some(record) if depth(record) == innermost.depth => {
+                    Some(record) if is_at(record, innermost.depth) => {
                         done += u64::from(op.count);
                         self.target(continuation(record))
                     }
@@ -330,6 +332,57 @@ impl Scene<'_> {
                         return Stop::Wait;
                     }
                     _ => break 'run fault::RECORD,
+                },
+                OpCode::PushInteger => {
+                    if task.stack.push(Held::integer(op.operand.integer())) {
+                        continue;
+                    }
+                    break 'run fault::FULL;
+                }
+                OpCode::PushLabel => {
+                    if task.stack.push(Held::label(op.operand.byte())) {
+                        continue;
+                    }
+                    break 'run fault::FULL;
+                }
+                OpCode::Push => {
+                    if task.stack.push(task.copied_integer::<CARE>(op.v)) {
+                        continue;
+                    }
+                    break 'run fault::FULL;
+                }
+                OpCode::PushAny => {
+                    if task.stack.push(task.copied(op.v)) {
+                        continue;
+                    }
+                    break 'run fault::FULL;
+                }
+                OpCode::Pop => {
+                    let held = match task.stack.pop() {
+                        Some(held) => held,
+                        None => break 'run fault::EMPTY,
+                    };
+                    if !CARE && held.kind.is_integer() {
+                        task.set::<CARE>(op.r, held.value);
+                        continue;
+                    }
+                    task.copy(op.r, &held);
+                    if CARE {
+                        continue;
+                    }
+                    *work = done;
+                    return Stop::Care(Target {
+                        needs: needs::CARE,
+                        first: (ops.len() - rest.as_slice().len()) as u16,
+                        label: 0,
+                    });
+                }
+                OpCode::PopAny => match task.stack.pop() {
+                    Some(held) => {
+                        task.copy(op.r, &held);
+                        continue;
+                    }
+                    None => break 'run fault::EMPTY,
                 },
                 OpCode::Fault => break 'run op.operand.byte(),
                 OpCode::WordInteger => unreachable!("decoded to the word, or to a fault"),

@@ -1,7 +1,8 @@
-//! A task: its registers, and what it counts.
+//! A task: its registers and its stack, and what it counts.
 
 use crate::needs::CARE;
 use crate::op::Register;
+use crate::stack::Stack;
 use model::{Record, Registers, Value, REGISTERS};
 
 /// The number of a register that holds a record: its continuation, and from here on its depth.
@@ -20,6 +21,7 @@ pub struct Task {
     /// While the task is evaluated, the work less its span; else its span.
     pub span: u64,
     pub places: u8,
+    pub stack: Stack,
 }
 
 impl Task {
@@ -31,7 +33,20 @@ impl Task {
             beat: 0,
             span: 0,
             places,
+            stack: Stack::EMPTY,
         }
+    }
+
+    /// All of the parent's but its stack: that of a child is empty.
+    #[inline(always)]
+    pub fn become_child_of(&mut self, parent: &Task) {
+        self.values = parent.values;
+        self.others = parent.others;
+        self.records = parent.records;
+        self.beat = parent.beat;
+        self.span = parent.span;
+        self.places = parent.places;
+        self.stack.clear();
     }
 
     #[inline(always)]
@@ -72,26 +87,29 @@ impl Task {
         self.records &= !r.bit();
     }
 
+    /// With a depth as `depth_bits` has it.
     pub fn set_record(&mut self, r: Register, continuation: u8, depth: i64) {
-        self.values[r.index()] = i64::from(continuation) | depth << DEPTH_AT;
+        self.values[r.index()] = i64::from(continuation) | depth;
         self.others |= r.bit();
         self.records |= r.bit();
     }
 
-    /// Of anything, from a register of a task.
+    /// Of anything, from a register of a task or from its stack.
     #[inline]
-    pub fn copy(&mut self, r: Register, from: &Copied) {
+    pub fn copy(&mut self, r: Register, from: &Held) {
         self.values[r.index()] = from.value;
-        self.others = self.others & !r.bit() | from.other << r.index();
-        self.records = self.records & !r.bit() | from.record << r.index();
+        let kind = u32::from(from.kind.0);
+        self.others = self.others & !r.bit() | (kind & 1) << r.index();
+        self.records = self.records & !r.bit() | (kind >> 1) << r.index();
     }
 
     #[inline]
-    pub fn copied(&self, v: Register) -> Copied {
-        Copied {
+    pub fn copied(&self, v: Register) -> Held {
+        let other = self.others >> v.index() & 1;
+        let record = self.records >> v.index() & 1;
+        Held {
             value: self.value(v),
-            other: self.others >> v.index() & 1,
-            record: self.records >> v.index() & 1,
+            kind: Kind((other | record << 1) as u8),
         }
     }
 
@@ -133,6 +151,16 @@ impl Task {
         }
     }
 
+    /// What is in a register that the block needs an integer in.
+    #[inline(always)]
+    pub fn copied_integer<const CARE: bool>(&self, v: Register) -> Held {
+        if CARE {
+            self.copied(v)
+        } else {
+            Held::integer(self.value(v))
+        }
+    }
+
     pub fn registers(&self) -> Registers {
         let mut registers = [Value::Int(0); REGISTERS];
         for (number, register) in (0..).zip(&mut registers) {
@@ -148,18 +176,50 @@ impl Task {
         match self.record(register) {
             Some(record) => Value::Record(Record {
                 continuation: continuation(record),
-                depth: depth(record) as u32,
+                depth: (record >> DEPTH_AT) as u32,
             }),
             None => Value::Int(self.value(register)),
         }
     }
 }
 
-/// What a register holds.
-pub struct Copied {
-    value: i64,
-    other: u32,
-    record: u32,
+/// What a register or a place on a stack holds.
+#[derive(Clone, Copy)]
+pub struct Held {
+    pub value: i64,
+    pub kind: Kind,
+}
+
+/// The lowest bit is 1 if it is no integer, and then the next if it is a record.
+#[derive(Clone, Copy)]
+pub struct Kind(u8);
+
+impl Kind {
+    pub const INTEGER: Kind = Kind(0);
+    const LABEL: Kind = Kind(1);
+
+    #[inline(always)]
+    pub fn is_integer(self) -> bool {
+        self.0 & 1 == 0
+    }
+}
+
+impl Held {
+    #[inline(always)]
+    pub fn integer(value: i64) -> Self {
+        Held {
+            value,
+            kind: Kind::INTEGER,
+        }
+    }
+
+    #[inline(always)]
+    pub fn label(label: u8) -> Self {
+        Held {
+            value: label.into(),
+            kind: Kind::LABEL,
+        }
+    }
 }
 
 #[inline(always)]
@@ -168,6 +228,12 @@ pub fn continuation(record: i64) -> u8 {
 }
 
 #[inline(always)]
-pub fn depth(record: i64) -> i64 {
-    record >> DEPTH_AT
+pub fn depth_bits(depth: usize) -> i64 {
+    (depth as i64) << DEPTH_AT
+}
+
+/// Whether a record was made at this depth, as `depth_bits` has it.
+#[inline(always)]
+pub fn is_at(record: i64, depth: i64) -> bool {
+    record & !i64::from(u8::MAX) == depth
 }

@@ -8,11 +8,11 @@ use crate::notation::{
 };
 use crate::text::quoted;
 use crate::token::Token;
-use model::{Block, MAX_PAIRS};
+use model::Block;
 
 const PLAIN: Block = Block::PLAIN;
 
-impl Parser<'_> {
+impl<'a> Parser<'a> {
     /// The block record, but for the first instruction. No annotation is the empty one.
     pub fn annotation(&mut self) -> Result<Block, Message> {
         if !self.accept("[") {
@@ -100,14 +100,13 @@ impl Parser<'_> {
     }
 
     /// A pair whose first token is `first` comes after these: a target of its own, and not too many.
-    fn check_pair(&mut self, pairs: &[Pair], first: Token, token: Token, target: u8) {
+    fn check_pair(&mut self, pairs: &[Pair], first: Token<'a>, token: Token<'a>, target: u8) {
         let is_again = pairs.iter().any(|pair| pair.target == target);
         if is_again && target != UNCLEAR {
             let found = format!("r{} again, as {}", target, quoted(token.text));
             self.report(Message::expected(token, "each target once", found));
-        } else if pairs.len() == MAX_PAIRS {
-            let expected = format!("at most {} pairs", MAX_PAIRS);
-            self.report(Message::expected(first, expected, "one more"));
+        } else if pairs.len() == self.most_pairs() {
+            self.report(self.too_many_pairs(first));
         }
     }
 }

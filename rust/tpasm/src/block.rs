@@ -7,7 +7,7 @@ use crate::notation;
 use crate::origins::Label;
 use crate::text::quoted;
 use crate::token::{Kind, Token};
-use model::{opcode, Block, Instruction, Program, MAX_BLOCKS, MAX_INSTRUCTIONS};
+use model::{opcode, Block, Instruction, Program, MAX_BLOCKS, MAX_INSTRUCTIONS, VERSION_1};
 
 const NEW_LABEL: &str = "a new name for a block";
 
@@ -37,6 +37,7 @@ impl<'a> Parser<'a> {
     /// All blocks, up to the file's end. `has_strays`: instructions stand before the first label.
     pub fn program(&mut self, has_strays: bool) -> Program {
         let mut program = Program {
+            version: VERSION_1,
             blocks: Vec::new(),
             instructions: Vec::new(),
         };
@@ -47,6 +48,7 @@ impl<'a> Parser<'a> {
         while self.at_label() && !self.is_full() {
             self.block(&mut program);
         }
+        program.version = self.version_of(&program);
         program
     }
 

@@ -8,6 +8,7 @@ use crate::origins::Origins;
 use crate::show::MAX_MESSAGES;
 use crate::text::quoted;
 use crate::token::{Kind, Token};
+use crate::version::Stated;
 use crate::warnings::Notes;
 use std::collections::HashSet;
 
@@ -21,6 +22,8 @@ pub struct Parser<'a> {
     /// Names whose declaration has an error. To use them is none.
     pub doubtful: HashSet<&'a str>,
     pub labels: Labels<'a>,
+    /// What a `version` line says.
+    pub version: Option<Stated>,
     pub notes: Notes,
     /// Of the blocks and instructions so far.
     pub origins: Origins,
@@ -36,6 +39,7 @@ impl<'a> Parser<'a> {
             at: 0,
             registers: Registers::default(),
             doubtful: HashSet::new(),
+            version: None,
             notes: Notes::default(),
             origins: Origins::default(),
             errors: Vec::new(),

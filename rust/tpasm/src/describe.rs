@@ -10,7 +10,7 @@ use crate::suggest::nearest;
 use crate::text::{cut, quoted};
 use crate::token::{Kind, Token};
 
-const SETTING: &str = "a setting (reg, places, interval, set or words) or a label and ':'";
+const SETTING: &str = "a setting (reg, version, places, interval, set or words) or a label and ':'";
 
 /// The names that would fit at a place.
 #[derive(Clone, Copy)]

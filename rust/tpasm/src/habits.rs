@@ -42,7 +42,13 @@ pub fn of_instruction(word: &str) -> Option<&'static str> {
         "goto" | "go" | "jmp" | "br" => "write 'jump LABEL'",
         "spawn" | "async" => "write 'fork r0, LABEL', where r0 holds a join record",
         "sync" | "wait" | "await" => "write 'join r0', where r0 holds a join record",
-        "ret" | "return" | "stop" | "end" | "exit" => {
+        "call" | "gosub" | "bl" | "jsr" => {
+            "push the label to come back to and jump: 'push back; jump LABEL'"
+        }
+        "ret" | "return" | "rts" => {
+            "write 'pop r0; jump r0' in a subroutine, 'join r0' in a side of a fork, 'halt' at the end"
+        }
+        "stop" | "end" | "exit" => {
             "write 'halt' to end the job, 'join r0' to end a side of a fork"
         }
         _ => return None,

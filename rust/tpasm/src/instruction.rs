@@ -10,6 +10,7 @@ use model::{opcode, Instruction};
 
 const INSTRUCTION: &str = "an instruction, or a label and ':'";
 const OPERAND: &str = "a register, a label or an integer";
+const POP: &str = "pop";
 const MOVED: &str = "a register, a label, an integer, 'word' or 'jralloc'";
 
 /// An operand v.
@@ -75,17 +76,19 @@ impl<'a> Parser<'a> {
         if row.form == Form::Result {
             return Err(self.unexpected(format!("'REGISTER :=' before '{}'", row.text)));
         }
-        self.next();
-        let (s, v) = match row.form {
+        let word = self.next();
+        self.check_version(word, row.opcode);
+        let (r, s, v) = match row.form {
             Form::Two => {
                 let s = self.register("a register")?;
                 self.expect(",", "','")?;
-                (s, Some(self.operand()?))
+                (0, s, Some(self.operand()?))
             }
-            Form::One => (0, Some(self.operand()?)),
-            _ => (0, None),
+            Form::One => (0, 0, Some(self.operand()?)),
+            Form::Into => (self.register("a register")?, 0, None),
+            _ => (0, 0, None),
         };
-        Ok(record(row.opcode, 0, s, v))
+        Ok(record(row.opcode, r, s, v))
     }
 
     /// `r := ..`
@@ -101,7 +104,11 @@ impl<'a> Parser<'a> {
             return self.result(row, r);
         }
         let left = self.peek();
-        let v = self.operand_among(MOVED, Fitting::MOVED)?;
+        let v = self.operand_among(MOVED, Fitting::MOVED);
+        let v = v.map_err(|error| match left.text {
+            POP => error.with_hint("a value is popped with 'pop r0'".to_string()),
+            _ => error,
+        })?;
         match self.operator() {
             None => Ok(record(opcode::MOVE, r, 0, Some(v))),
             Some(row) => {

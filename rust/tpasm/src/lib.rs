@@ -23,6 +23,7 @@ mod show;
 mod suggest;
 mod text;
 mod token;
+mod version;
 mod warnings;
 
 pub use assemble::{assemble, Assembly};

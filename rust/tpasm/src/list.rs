@@ -6,7 +6,7 @@ mod settings;
 
 use crate::refusal::Refusal;
 use line::{text, Line};
-use model::{Job, MARK};
+use model::{Job, Program, MARK};
 pub use program::written;
 
 /// Bytes of a job before its image.
@@ -15,7 +15,7 @@ const IMAGE_AT: usize = 2;
 /// The source of an image's program. Assembled again, it gives the same image.
 pub fn list(image: &[u8]) -> Result<String, Refusal> {
     let program = model::read(image).map_err(Refusal)?;
-    Ok(text(&program::lines(&program, image, 0), false))
+    Ok(text(&program_lines(&program, image), false))
 }
 
 /// The source of an image or of a job, with a comment that says which of them it is. Assembled again,
@@ -48,8 +48,18 @@ fn image_lines(image: &[u8]) -> Result<Vec<Line>, Refusal> {
         program::counts(&program)
     );
     let mut lines = vec![Line::alone(first)];
-    lines.extend(program::lines(&program, image, 0));
+    lines.extend(program_lines(&program, image));
     Ok(lines)
+}
+
+/// Of an image that is a file of its own.
+fn program_lines(program: &Program, image: &[u8]) -> Vec<Line> {
+    let mut lines = vec![
+        program::version_line(program, 0),
+        Line::alone(String::new()),
+    ];
+    lines.extend(program::lines(program, image, 0));
+    lines
 }
 
 fn job_lines(bytes: &[u8]) -> Result<Vec<Line>, Refusal> {
@@ -63,6 +73,7 @@ fn job_lines(bytes: &[u8]) -> Result<Vec<Line>, Refusal> {
         program::counts(&job.program)
     );
     let mut lines = vec![Line::alone(first)];
+    lines.push(program::version_line(&job.program, IMAGE_AT));
     lines.extend(settings::lines(&job, IMAGE_AT + image.len()));
     lines.push(Line::alone(String::new()));
     lines.extend(program::lines(&job.program, image, IMAGE_AT));

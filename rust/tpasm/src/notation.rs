@@ -14,6 +14,8 @@ pub enum Form {
     Two,
     /// `WORD v`
     One,
+    /// `WORD r`
+    Into,
     /// `WORD`
     Alone,
 }
@@ -30,7 +32,7 @@ const fn row(opcode: u8, text: &'static str, form: Form) -> Row {
 }
 
 /// In the order of the opcodes, from 1 on.
-const ROWS: [Row; 15] = [
+const ROWS: [Row; 17] = [
     row(opcode::MOVE, ":=", Form::Move),
     row(opcode::ADD, "+", Form::Operation),
     row(opcode::SUBTRACT, "-", Form::Operation),
@@ -46,10 +48,14 @@ const ROWS: [Row; 15] = [
     row(opcode::JUMP, "jump", Form::One),
     row(opcode::HALT, "halt", Form::Alone),
     row(opcode::JOIN, "join", Form::One),
+    row(opcode::PUSH, "push", Form::One),
+    row(opcode::POP, "pop", Form::Into),
 ];
 
 /// The instructions' words.
-pub const WORDS: [&str; 7] = ["word", "if-jump", "jralloc", "fork", "jump", "halt", "join"];
+pub const WORDS: [&str; 9] = [
+    "word", "if-jump", "jralloc", "fork", "jump", "halt", "join", "push", "pop",
+];
 
 /// The policies, each at its number.
 pub const POLICIES: [&str; 2] = ["assoc", "assoc-comm"];
@@ -80,7 +86,10 @@ pub fn of_text(text: &str) -> Option<&'static Row> {
 /// Whether it writes its register r.
 pub fn writes_register(opcode: u8) -> bool {
     let form = of_opcode(opcode).map(|row| row.form);
-    matches!(form, Some(Form::Move | Form::Operation | Form::Result))
+    matches!(
+        form,
+        Some(Form::Move | Form::Operation | Form::Result | Form::Into)
+    )
 }
 
 /// Jump, halt and join.

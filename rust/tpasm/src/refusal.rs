@@ -12,16 +12,17 @@ impl fmt::Display for Refusal {
         let words = match self.0 {
             question::HEADER => "the image has fewer than 8 bytes",
             question::MARK => "the image does not begin with the letters TPB",
-            question::VERSION => "the image's version is not 1",
+            question::VERSION => "the image's version is not 1 or 2",
             question::COUNTS => "there are not 1 to 128 blocks and 1 to 1024 instructions",
             question::LENGTH => "the image's length does not fit its blocks and instructions",
             question::BLOCK_START => {
                 "block 0 does not start at instruction 0, or a later block not after the one \
                  before it, or one starts beyond the last instruction"
             }
-            question::ANNOTATION => "a block's annotation is not as laid out",
+            question::ANNOTATION => "a block's annotation is not as its version lays it out",
             question::FIELDS => {
-                "an instruction's opcode, registers, label or zeros are not as laid out"
+                "an instruction's opcode, registers, label or zeros are not as its version lays \
+                 them out"
             }
             question::LAST_IN_BLOCK => {
                 "a jump, halt or join is not the last of its block, or a block ends with none"
@@ -53,6 +54,8 @@ impl fmt::Display for Fault {
             fault::JOIN_TARGET => "the operand of jralloc is not the label of a join target",
             fault::PLACES => "the task has not two places to fork",
             fault::OPEN_FORK => "a fork is open at halt",
+            fault::FULL => "the task's stack has no room for the value of a push",
+            fault::EMPTY => "there is no value on the task's stack, for a pop",
             _ => "a question without words",
         };
         write!(f, "fault {}: {}", self.0, words)

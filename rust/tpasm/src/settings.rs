@@ -1,4 +1,4 @@
-//! The lines before the first block: names of registers, and the job's settings.
+//! The lines before the first block: names of registers, the image's version, and the job's settings.
 
 use crate::cursor::Parser;
 use crate::describe::Fitting;
@@ -6,6 +6,7 @@ use crate::message::Message;
 use crate::names::numbered;
 use crate::text::quoted;
 use crate::token::{Kind, Token};
+use crate::version::{self, Stated};
 use model::{MAX_PLACES, MAX_WORDS, REGISTERS};
 
 /// What start accepts, in words.
@@ -13,7 +14,7 @@ pub const PLACES: &str = "1, 2, 4, 8, 16, 32 or 64";
 pub const INTERVALS: &str = "0 or 8 to 65535";
 
 /// The words that begin a setting. They mean nothing in a block, so a label may be called so.
-pub const SETTING_WORDS: [&str; 5] = ["reg", "places", "interval", "set", "words"];
+pub const SETTING_WORDS: [&str; 6] = ["reg", "version", "places", "interval", "set", "words"];
 
 /// A job's settings as far as they were given.
 #[derive(Clone, Debug, Default, PartialEq, Eq)]
@@ -78,6 +79,7 @@ impl<'a> Parser<'a> {
         self.next();
         match word.text {
             "reg" => self.reg_line(),
+            "version" => self.version_line(word),
             "places" => {
                 let allowed = Settings::allowed_places;
                 self.number_line(word, PLACES, allowed, &mut settings.places)
@@ -89,6 +91,15 @@ impl<'a> Parser<'a> {
             "set" => self.set_line(&mut settings.registers),
             _ => self.words_line(&mut settings.words),
         }
+    }
+
+    /// `version N`, once.
+    fn version_line(&mut self, word: Token<'a>) -> Result<(), Message> {
+        let stated = |number| version::allowed(number).map(|version| Stated::new(version, word));
+        let mut setting = self.version;
+        let line = self.number_line(word, version::IN_WORDS, stated, &mut setting);
+        self.version = setting;
+        line
     }
 
     /// `reg NAME = rN, ..`
@@ -126,7 +137,7 @@ impl<'a> Parser<'a> {
         Ok(number)
     }
 
-    /// `places N` or `interval N`, once.
+    /// `places N`, `interval N` or `version N`, once.
     fn number_line<T>(
         &mut self,
         word: Token,

@@ -1,8 +1,8 @@
 //! What each form of the notation means, against records made without the assembler.
 
 use checks::assemble::{
-    fork, halt, if_jump, join, jralloc, jump, mov, op, word, Annotation, Assembly, JobInput,
-    Operand,
+    fork, halt, if_jump, join, jralloc, jump, mov, op, pop, push, word, Annotation, Assembly,
+    JobInput, Operand,
 };
 use checks::layout::{pair, program_f};
 use checks::product::product;
@@ -49,6 +49,11 @@ fn instructions() {
         ("if-jump a, exit", if_jump(1, Lab(1))),
         ("a := jralloc exit", jralloc(1, Lab(1))),
         ("fork a, exit", fork(1, Lab(1))),
+        ("push a", push(Reg(1))),
+        ("push exit", push(Lab(1))),
+        ("push -5", push(Int(-5))),
+        ("pop a", pop(1)),
+        ("pop r15", pop(15)),
     ];
     for (text, record) in cases {
         let source = format!("reg a = r1\nmain:\n  {}\n  halt\nexit: halt\n", text);
@@ -100,6 +105,60 @@ fn annotations() {
             program.image()
         );
     }
+}
+
+/// The version that an image says.
+fn version(source: &str) -> u16 {
+    let image = image(source);
+    u16::from_le_bytes([image[3], image[4]])
+}
+
+#[test]
+fn versions() {
+    let pairs = |count: usize| {
+        let pairs: Vec<String> = (0..count).map(|n| format!("r0 -> r{}", n)).collect();
+        format!("x: [jtppt assoc; {}; x] halt\n", pairs.join(", "))
+    };
+    // The first that has all that the text uses.
+    assert_eq!(version("x: halt"), 1);
+    assert_eq!(version("x: push 1; halt"), 2);
+    assert_eq!(version("x: pop r1; halt"), 2);
+    for count in 0..=8 {
+        assert_eq!(version(&pairs(count)), if count > 4 { 2 } else { 1 });
+    }
+    // A line fixes it, where it has all that is used.
+    assert_eq!(version("version 1; x: halt"), 1);
+    assert_eq!(version("version 2; x: halt"), 2);
+    assert_eq!(
+        version("places 2\nversion 2\nreg a = r1\nx: pop a; halt"),
+        2
+    );
+    assert_eq!(version(&format!("version 1\n{}", pairs(4))), 1);
+    assert_eq!(version(&format!("version 2\n{}", pairs(8))), 2);
+    // It is the image's, and a job has it there.
+    let assembly = assemble(b"version 2; x: halt").unwrap();
+    assert_eq!(job(&assembly.image, &assembly.settings)[5], 2);
+    // Like the other settings' words it may be a name.
+    assert_eq!(version("version: jump version"), 1);
+}
+
+#[test]
+fn eight_pairs() {
+    let targets = [0, 1, 2, 3, 5, 8, 13, 15];
+    let pairs: Vec<String> = targets
+        .iter()
+        .map(|n| format!("r{} -> r{}", n / 2, n))
+        .collect();
+    let source = format!("x: [jtppt assoc-comm; {}; x] halt", pairs.join(", "));
+    let mut program = Assembly::default();
+    let target = Annotation::JoinTarget {
+        policy: 1,
+        combining: 0,
+        pairs: targets.map(|n| pair(n / 2, n)).to_vec(),
+    };
+    program.block(target, &[halt()]);
+    assert_eq!(image(&source), program.image());
+    assert_eq!(program.image().len(), 8 + 14 + 12);
 }
 
 #[test]
@@ -160,7 +219,8 @@ fn the_examples_of_document_01_are_the_proved_programs() {
 /// Lines and columns of labels and instructions, and these with the text's names.
 #[test]
 fn where_blocks_and_instructions_stand() {
-    let source = "reg x = r0\nmain: // first\n  x := x + -1 ;  jump  last // on\n\nlast: halt\n";
+    let source = "reg x = r0\nmain: // first\n  x := x + -1 ;  jump  last // on\n\n\
+                  last: push  last; pop x; halt\n";
     let assembly = assemble(source.as_bytes()).unwrap();
     let blocks = assembly.origins.blocks.iter();
     let blocks: Vec<_> = blocks
@@ -171,7 +231,13 @@ fn where_blocks_and_instructions_stand() {
     let spans: Vec<_> = spans
         .map(|span| (span.position.to_string(), span.width))
         .collect();
-    let expected = [("3:3", 11), ("3:18", 10), ("5:7", 4)];
+    let expected = [
+        ("3:3", 11),
+        ("3:18", 10),
+        ("5:7", 10),
+        ("5:19", 5),
+        ("5:26", 4),
+    ];
     assert_eq!(spans, expected.map(|(at, width)| (at.to_string(), width)));
 
     let names = Names::new(&assembly.origins, &assembly.registers);
@@ -180,12 +246,15 @@ fn where_blocks_and_instructions_stand() {
     let texts: Vec<String> = instructions
         .map(|instruction| written(instruction, &names))
         .collect();
-    assert_eq!(texts, ["x := x + -1", "jump last", "halt"]);
+    assert_eq!(
+        texts,
+        ["x := x + -1", "jump last", "push last", "pop x", "halt"]
+    );
 }
 
 /// The first of an instruction's fields is what it writes, where it has one.
 #[test]
 fn instructions_that_write_a_register() {
-    let writing = (1..=15).filter(|opcode| notation::writes_register(*opcode));
-    assert!(writing.eq([1, 2, 3, 4, 5, 6, 7, 8, 9, 11]));
+    let writing = (1..=17).filter(|opcode| notation::writes_register(*opcode));
+    assert!(writing.eq([1, 2, 3, 4, 5, 6, 7, 8, 9, 11, 17]));
 }

@@ -3,13 +3,14 @@
 
 use checks::generate::valid_image;
 use checks::random::Random;
+use model::{VERSION_1, VERSION_2};
 use tpasm::{assemble, list, show, Message};
 
 const SEED: u64 = 0x6461_6d61;
 const SOURCES: u64 = 50_000;
 
 /// Tokens that a change may put anywhere.
-const TOKENS: [&str; 60] = [
+const TOKENS: [&str; 63] = [
     "r0",
     "r15",
     "r16",
@@ -58,6 +59,9 @@ const TOKENS: [&str; 60] = [
     "mov",
     "ifjump",
     "lop",
+    "version",
+    "push",
+    "pop",
     "0xff",
     "1_0",
     "==",
@@ -76,7 +80,8 @@ const TOKENS: [&str; 60] = [
 fn source(random: &mut Random) -> String {
     let instructions = random.between(1, 12);
     let blocks = random.between(1, instructions);
-    let text = list(&valid_image(random.bits(), blocks, instructions)).unwrap();
+    let version = random.pick(&[VERSION_1, VERSION_2]);
+    let text = list(&valid_image(random.bits(), version, blocks, instructions)).unwrap();
     let mut words: Vec<&str> = text.split_inclusive(' ').collect();
     for _ in 0..random.pick(&[0, 1, 2, 3, 40]) {
         let at = random.below(words.len());

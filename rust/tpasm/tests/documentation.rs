@@ -21,6 +21,13 @@ fn the_error() {
 }
 
 #[test]
+fn a_version_that_is_too_low() {
+    let source = b"version 1\nmain:\n  push main\n  halt\n";
+    let errors = assemble(source).unwrap_err();
+    has(&show("card.tpal", source, &errors));
+}
+
+#[test]
 fn the_warning() {
     let source = include_bytes!("../../../examples/two-faults/two-faults.tpal");
     let warnings = assemble(source).unwrap().warnings;
@@ -32,7 +39,7 @@ fn the_listing() {
     let assembly = assemble(include_bytes!("../../../examples/f/f.tpal")).unwrap();
     let job = job(&assembly.image, &assembly.settings);
     let listing = list_file(&job, true).unwrap();
-    let first: Vec<&str> = listing.lines().take(9).collect();
+    let first: Vec<&str> = listing.lines().take(10).collect();
     has(&first.join("\n"));
 }
 
@@ -40,7 +47,7 @@ fn the_listing() {
 #[test]
 fn the_words_of_faults() {
     let header = include_str!("../../../c/tpal.h");
-    for number in model::fault::FIRST..=model::fault::LAST {
+    for number in model::fault::ALL {
         let said = Fault(number).to_string();
         let words = said.strip_prefix(&format!("fault {}: ", number)).unwrap();
         assert!(

@@ -260,14 +260,43 @@ fn the_beat_forks_and_the_result_stays() {
     }
 }
 
+/// Document 02's request 4: version 2 where a stack is used, and else version 1. What `calls` and
+/// `halves` come to was worked out by hand.
 #[test]
-fn the_first_program_stands_in_the_documentation() {
+fn subroutines() {
+    for example in all() {
+        let is = |name| example.out.parent() == Some(&folder().join(name));
+        let version = if is("calls") || is("halves") { 2 } else { 1 };
+        let job = example.job();
+        assert_eq!(job[5..7], [version, 0], "{}", example.out.display());
+    }
+    for (name, work, span, result) in [
+        ("calls/calls", 21, 21, "int 1950"),
+        ("halves/halves", 203, 76, "int 119"),
+        ("halves/serial", 194, 194, "int 119"),
+    ] {
+        let example = Example::named(name);
+        assert_eq!(
+            (example.number("work"), example.number("span")),
+            (work, span)
+        );
+        assert_eq!(example.line("r0"), result, "{}", name);
+    }
+}
+
+fn indented(text: &str) -> String {
+    let line = |line: &str| format!("    {}\n", line).replace("    \n", "\n");
+    text.lines().map(line).collect()
+}
+
+#[test]
+fn two_programs_stand_in_the_documentation() {
     let page = fs::read_to_string(folder().join("../docs/assembly.md")).unwrap();
-    let indented = |text: String| -> String {
-        let line = |line: &str| format!("    {}\n", line).replace("    \n", "\n");
-        text.lines().map(line).collect()
-    };
-    let source = fs::read_to_string(folder().join("first/first.tpal")).unwrap();
-    assert!(page.contains(&indented(source)));
-    assert!(page.contains(&indented(Example::named("first/first").expected())));
+    let source = |name: &str| fs::read_to_string(folder().join(name)).unwrap();
+    assert!(page.contains(&indented(&source("first/first.tpal"))));
+    assert!(page.contains(&indented(&Example::named("first/first").expected())));
+    // From its first block on.
+    let calls = source("calls/calls.tpal");
+    let blocks = calls.find("main:").expect("a first block");
+    assert!(page.contains(&indented(&calls[blocks..])));
 }

@@ -2,8 +2,9 @@
 //! reader.
 
 use checks::generate::{case, valid_image};
-use checks::layout::{even_blocks, every_form, program_f};
+use checks::layout::{even_blocks_of, every_form, program_f};
 use checks::{hand, jobs};
+use model::VERSIONS;
 use tpasm::{assemble, job, list, list_file, Refusal};
 
 const SEED: u64 = 0x7470_6173;
@@ -68,12 +69,14 @@ fn pairs_reversed(line: &str) -> String {
 #[test]
 fn images_tried_by_hand() {
     comes_back(&program_f());
-    comes_back(&every_form());
     comes_back_from_a_file(&program_f());
-    comes_back_from_a_file(&every_form());
-    for (blocks, instructions) in [(1, 1), (1, 1024), (128, 128), (128, 1024)] {
-        comes_back(&even_blocks(blocks, instructions));
-        comes_back(&valid_image(SEED, blocks, instructions));
+    for version in VERSIONS {
+        comes_back(&every_form(version));
+        comes_back_from_a_file(&every_form(version));
+        for (blocks, instructions) in [(1, 1), (1, 1024), (128, 128), (128, 1024)] {
+            comes_back(&even_blocks_of(version, blocks, instructions));
+            comes_back(&valid_image(SEED, version, blocks, instructions));
+        }
     }
 }
 

@@ -21,6 +21,16 @@ pub struct Pick<'a> {
 pub enum Effect {
     /// On to the next instruction, with a register written or with none.
     Onward(Option<Change>),
+    /// The same, with a value more on the stack, which then has so many.
+    Pushed {
+        value: Value,
+        height: usize,
+    },
+    /// The same, with the stack's last value in a register; so many are left.
+    Popped {
+        change: Change,
+        height: usize,
+    },
     /// Into a block.
     Entered {
         block: usize,
@@ -88,7 +98,7 @@ fn effect(player: &Player, program: &Program, [before, after]: [&State; 2], slot
         };
     }
     if !ends_block(instruction.opcode) && new.task.pc == old.task.pc + 1 {
-        return Effect::Onward(change(instruction, &old.task, &new.task));
+        return onward(instruction, &old.task, &new.task);
     }
     let block = block_of(program, new.task.pc.into());
     // Each other instruction leaves the counter above 0.
@@ -98,6 +108,19 @@ fn effect(player: &Player, program: &Program, [before, after]: [&State; 2], slot
             handler: block,
         },
         _ => Effect::Entered { block },
+    }
+}
+
+/// What an instruction writes that is followed by the next.
+fn onward(instruction: &Instruction, old: &Task, new: &Task) -> Effect {
+    let height = new.stack.height();
+    match (instruction.opcode, change(instruction, old, new)) {
+        (opcode::PUSH, _) => Effect::Pushed {
+            value: new.stack.values()[height - 1],
+            height,
+        },
+        (opcode::POP, Some(change)) => Effect::Popped { change, height },
+        (_, change) => Effect::Onward(change),
     }
 }
 

@@ -4,7 +4,7 @@
 use crate::faults::{Fault, Faults};
 use crate::state::State;
 use crate::subject::Subject;
-use crate::words::ASIDE;
+use crate::words::{on_the_stack, ASIDE};
 use model::job::{text_of, Report};
 use model::task::ZEROS;
 use model::{End, Status};
@@ -97,10 +97,11 @@ impl Outcome<'_> {
     fn standing(&self) -> String {
         let lines = self.state.live().map(|(number, slot)| {
             let task = &slot.task;
-            match slot.status {
+            let stands = match slot.status {
                 Status::Running => self.runs(number, task.pc.into()),
                 status => self.waits(number, status, task.depth()),
-            }
+            };
+            stands + &held(task.stack.height()) + "\n"
         });
         format!("\n{}:\n", self.stopped) + &lines.collect::<String>()
     }
@@ -108,7 +109,7 @@ impl Outcome<'_> {
     fn runs(&self, slot: usize, pc: usize) -> String {
         let subject = self.subject;
         format!(
-            "slot {} stands at {}: block {}, {}\n",
+            "slot {} stands at {}: block {}, {}",
             slot,
             subject.place(pc),
             subject.block(pc),
@@ -126,7 +127,15 @@ impl Outcome<'_> {
             }
             _ => String::new(),
         };
-        format!("slot {} {}waits for slot {}\n", slot, faulted, other)
+        format!("slot {} {}waits for slot {}", slot, faulted, other)
+    }
+}
+
+/// What a task has on its stack, where there is something.
+fn held(height: usize) -> String {
+    match height {
+        0 => String::new(),
+        _ => format!("; {}", on_the_stack(height)),
     }
 }
 

@@ -21,11 +21,31 @@ pub fn value(subject: &Subject, value: Value) -> String {
     }
 }
 
+fn several(values: usize) -> String {
+    let plural = if values == 1 { "" } else { "s" };
+    format!("{} value{}", values, plural)
+}
+
+/// What a stack of this height holds.
+pub fn on_the_stack(height: usize) -> String {
+    match height {
+        0 => "the stack is empty".to_string(),
+        _ => format!("{} on the stack", several(height)),
+    }
+}
+
 /// What this pick changed, and how it passed faults outward.
 pub fn words(subject: &Subject, pick: &Pick, passed: &[Passed]) -> String {
     match &pick.effect {
         Effect::Onward(Some(change)) => changed(subject, change),
         Effect::Onward(None) => format!("{}on", condition(subject, pick)),
+        Effect::Pushed { value: new, height } => {
+            let new = value(subject, *new);
+            format!("pushes {}: {}", new, on_the_stack(*height))
+        }
+        Effect::Popped { change, height } => {
+            format!("{}; {}", changed(subject, change), on_the_stack(*height))
+        }
         Effect::Entered { block } => {
             let to = subject.names.block(*block);
             format!("{}on to {}", condition(subject, pick), to)
@@ -83,9 +103,23 @@ fn forked(subject: &Subject, pick: &Pick, child: usize) -> String {
     };
     let block = subject.block(task.pc.into());
     format!(
-        "forks: the child in slot {} at {}, {} each",
-        child, block, each
+        "forks: the child in slot {} at {}, {} each{}",
+        child,
+        block,
+        each,
+        kept(pick)
     )
+}
+
+/// What a parent has on its stack, and its child has not.
+fn kept(pick: &Pick) -> String {
+    match pick.before.slot(pick.slot).task.stack.height() {
+        0 => String::new(),
+        height => {
+            let values = several(height);
+            format!("; the child's stack is empty, the parent's has {}", values)
+        }
+    }
 }
 
 fn ended(subject: &Subject, pick: &Pick, side: &Side, passed: &[Passed]) -> String {
@@ -121,17 +155,23 @@ fn joined(subject: &Subject, pick: &Pick, side: &Side) -> String {
     let forks = old.forks();
     let continuation = forks[forks.len() - 1].continuation;
     let pairs = subject.program.blocks[usize::from(continuation)].register_pairs();
-    let pairs: Vec<String> = pairs
+    let pairs: String = pairs
         .map(|(_, target)| {
             let name = subject.names.register(target as u8);
-            format!("{} = {}", name, value(subject, task.registers[target]))
+            format!(", {} = {}", name, value(subject, task.registers[target]))
         })
         .collect();
     let block = subject.block(task.pc.into());
     let at = format!("one task in slot {}, at {}", side.now.slot, block);
-    match pairs.is_empty() {
-        true => format!("joins slot {}: {}", other, at),
-        false => format!("joins slot {}: {}, {}", other, at, pairs.join(", ")),
+    let dropped = dropped(pick, side.own.slot.max(other));
+    format!("joins slot {}: {}{}{}", other, at, pairs, dropped)
+}
+
+/// What a child has left on its stack, which the joined task has not.
+fn dropped(pick: &Pick, child: usize) -> String {
+    match pick.before.slot(child).task.stack.height() {
+        0 => String::new(),
+        height => format!("; dropped: {} on the child's stack", several(height)),
     }
 }
 

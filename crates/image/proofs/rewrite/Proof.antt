@@ -4,7 +4,7 @@ use borrow.Author.Tests.{eq-eqb, ne-eqb}
 use Rattle.image.proofs.Asked.{or-else-no, or-else-yes}
 use Rattle.image.specs.Layout.{imageOf}
 use Rattle.image.specs.Doors.{rewriteNo, imageNo, unlessRefused}
-use Rattle.image.proofs.Header.{cells-in-blocks, cells-in-instructions, cells-in-counts, cells-in-length}
+use Rattle.image.proofs.Header.{cells-in-version, cells-in-blocks, cells-in-instructions, cells-in-counts, cells-in-length}
 use Rattle.image.proofs.Walked.{scanned-accepted}
 use Rattle.image.proofs.RoundTrip.{image-accepted, same-bytes}
 use borrow.Author.Needs.{needs}
@@ -44,7 +44,7 @@ encode-requires c κs =
     rw (s .scan .ensures .1 ∙ scanned-accepted image accepted) (
       cells-in-length image,
       cells-in-counts image (h .counts),
-      rw (cells-in-blocks image, cells-in-instructions image) (asked .if2 .left ∙ h .size),
+      rw (cells-in-version image, cells-in-blocks image, cells-in-instructions image) (asked .if2 .left ∙ h .size),
     )
 
 same-length : tie.Need-same-length

@@ -36,8 +36,16 @@ slice-aggregate-run-job-2 c =
 run-job-requires-2 : tie.Need-run-job-requires-2
 run-job-requires-2 c κs =
     let c5 = c .before .before .before .before .before in
-    let c5 = c5 in
-    (c5 .pre .0, c5 .pre .1, front-length 4096 (c .before .before .word-count .result) (pos 0) (omega (arith, c .before .before .word-count .ensures .0, few-words (c5 .args .job .now) (c5 .pre .0))) ∙ c .before .before .word-count .ensures .0)
+    let c5 = c5 in (
+      c5 .pre .0,
+      c5 .pre .1,
+      front-length 4096 (c .before .before .word-count .result) (pos 0) (omega (
+        arith,
+        c .before .before .word-count .ensures .0,
+        few-words (c5 .args .job .now)
+            (c5 .pre .0),
+      )) ∙ c .before .before .word-count .ensures .0,
+    )
 
 returns-2 : tie.Need-returns-2
 returns-2 c = search needs

@@ -23,7 +23,7 @@ abbrev start-of : tie.After-start → tie.Start
 start-of c = c .before .before .before .before
 
 sized-at : (c : tie.After-start) → Sized (c .start .result .machine .state)
-sized-at c = record { of-bank = search (needs, length-by); of-tasks = search (needs, length-by) }
+sized-at c = record { of-bank = search (needs, length-by); of-stacks = search (needs, length-by); of-tasks = search (needs, length-by) }
 
 fresh-at : (c : tie.After-start) → c .start .result .machine .state ≡ startOn (job-of (start-of c)) (empty 0 0)
 fresh-at c = c .start .ensures .1 ∙ ap (λ (b : State). startOn (job-of (start-of c)) b) (c .before .blank .ensures)

@@ -1,12 +1,14 @@
 //! Code that faults, with each number and in several ways.
 
 use super::integer;
-use crate::assemble::{fork, halt, if_jump, join, jralloc, jump, mov, op, word, Operand};
+use crate::assemble::{
+    fork, halt, if_jump, join, jralloc, jump, mov, op, pop, push, word, Assembly, Operand,
+};
 use crate::layout::InstructionRecord;
 use crate::random::Random;
 use model::opcode::{ADD, DIVIDE, EQUAL, REMAINDER};
 use model::task::MAX_DEPTH;
-use model::{fault, MAX_WORDS};
+use model::{fault, MAX_WORDS, VERSION_2};
 use Operand::{Int, Lab, Reg};
 
 /// A register that no other code counts on.
@@ -23,13 +25,43 @@ pub struct Place {
     pub target: u8,
     /// A block that joins by the scratch register.
     pub joiner: u8,
+    /// In version 2, the blocks that push and pop for ever.
+    pub stackers: Option<Stackers>,
     pub word_count: usize,
 }
 
+/// Blocks that end with the stack full, and empty, whatever it held before.
+#[derive(Clone, Copy)]
+pub struct Stackers {
+    full: u8,
+    empty: u8,
+}
+
+impl Stackers {
+    /// Of a program of this version.
+    pub fn of(random: &mut Random, version: u16, assembly: &mut Assembly) -> Option<Self> {
+        if version != VERSION_2 {
+            return None;
+        }
+        let [full, empty] = [(); 2].map(|()| assembly.reserve());
+        let pushed = random.pick(&[Int(-1), Lab(full), Reg(SCRATCH)]);
+        assembly.fill(full, vec![push(pushed), jump(Lab(full))]);
+        assembly.fill(empty, vec![pop(SCRATCH), jump(Lab(empty))]);
+        Some(Stackers { full, empty })
+    }
+}
+
 /// Code that faults with this number, with what it needs before. Its last instruction ends a block
-/// or not, as it comes. 37 takes as many forks as there are places left, 38 an open fork.
+/// or not, as it comes. 37 takes as many forks as there are places left, 38 an open fork, 42 and 43
+/// version 2.
 pub fn code(random: &mut Random, number: u8, place: Place) -> Vec<InstructionRecord> {
     match number {
+        fault::FULL => place
+            .stackers
+            .map_or_else(Vec::new, |s| vec![jump(Lab(s.full))]),
+        fault::EMPTY => place
+            .stackers
+            .map_or_else(Vec::new, |s| vec![jump(Lab(s.empty))]),
         fault::INTEGERS => not_integers(random, place),
         fault::DIVISOR => by_zero(random),
         fault::INDEX => outside(random, place),

@@ -1,16 +1,20 @@
 //! Programs whose forks, joins and loops are nested in the text. A record lives in a register of
 //! its own level, so that those of the levels around it stay at hand.
 
+mod held;
 mod loops;
 
 use super::integer;
-use super::mishap::{self, Place, SCRATCH};
-use crate::assemble::{fork, halt, join, jralloc, mov, op, word, Annotation, Assembly, Operand};
+use super::mishap::{self, Place, Stackers, SCRATCH};
+use crate::assemble::{
+    fork, halt, join, jralloc, mov, op, pop, push, word, Annotation, Assembly, Operand,
+};
 use crate::layout::{pair, InstructionRecord};
 use crate::random::Random;
-use model::fault;
+use held::Held;
 use model::opcode::{DIVIDE, EQUAL, LESS, REMAINDER};
 use model::MAX_BLOCKS;
+use model::{fault, most_pairs, VERSION_2};
 use Operand::{Int, Lab, Reg};
 
 /// r0 to r7 hold integers, r8 to r14 records.
@@ -21,6 +25,7 @@ const SPARE_BLOCKS: usize = 12;
 
 struct Nested<'a> {
     random: &'a mut Random,
+    version: u16,
     assembly: Assembly,
     word_count: usize,
     /// One statement in so many goes wrong; 0: none does.
@@ -31,6 +36,7 @@ struct Nested<'a> {
     most_depth: usize,
     target: u8,
     joiner: u8,
+    stackers: Option<Stackers>,
 }
 
 /// What the code being written is a part of.
@@ -42,9 +48,40 @@ struct Scene {
     record: Option<u8>,
     /// The register for the next record.
     free: u8,
+    /// What the stack holds here.
+    held: Held,
+    /// The height that the code ends with: of a parent's side that which it began with, since the
+    /// code after the join counts on it. None: any, for the stack is dropped or the job at its end.
+    floor: Option<usize>,
 }
 
-pub fn program(random: &mut Random, halvings: usize, word_count: usize) -> Vec<u8> {
+impl Scene {
+    /// After a fork under this record, which is new or the one that the code ends with.
+    fn parents_side(self, record: u8, is_new: bool) -> Self {
+        Scene {
+            depth: self.depth + 1,
+            record: Some(record),
+            free: self.free.max(record + 1),
+            held: self.held,
+            floor: if is_new {
+                Some(self.held.height)
+            } else {
+                self.floor
+            },
+        }
+    }
+
+    /// Of the child, where this is the parent's side.
+    fn childs(self) -> Self {
+        Scene {
+            held: Held::NOTHING,
+            floor: None,
+            ..self
+        }
+    }
+}
+
+pub fn program(random: &mut Random, version: u16, halvings: usize, word_count: usize) -> Vec<u8> {
     let mishaps = random.pick(&[0, 0, 40, 12, 5]);
     let endless = random.pick(&[0, 0, 0, 0, 0, 0, 0, 60]);
     let most_depth = if mishaps == 0 {
@@ -64,8 +101,10 @@ pub fn program(random: &mut Random, halvings: usize, word_count: usize) -> Vec<u
         },
         &[halt()],
     );
+    let stackers = Stackers::of(random, version, &mut assembly);
     let mut nested = Nested {
         random,
+        version,
         assembly,
         word_count,
         mishaps,
@@ -73,14 +112,17 @@ pub fn program(random: &mut Random, halvings: usize, word_count: usize) -> Vec<u
         most_depth,
         target,
         joiner,
+        stackers,
     };
     let scene = Scene {
         depth: 0,
         record: None,
         free: FIRST_RECORD,
+        held: Held::NOTHING,
+        floor: None,
     };
     nested.fill(entry, Vec::new(), scene, size);
-    nested.assembly.image()
+    nested.assembly.image_of(version)
 }
 
 impl Nested<'_> {
@@ -95,6 +137,10 @@ impl Nested<'_> {
             if self.endless > 0 && self.random.one_in(self.endless) {
                 return self.endless(label, code);
             }
+            if self.version == VERSION_2 && self.random.one_in(4) {
+                scene.held = self.push_or_pop(&mut code, scene);
+                continue;
+            }
             match self.random.below(16) {
                 0..=4 if scene.depth < self.most_depth => {
                     let parts = self.parts(left);
@@ -107,6 +153,9 @@ impl Nested<'_> {
                 8 => return self.join_alone(label, code, scene, left),
                 _ => code.push(self.simple()),
             }
+        }
+        for _ in scene.floor.unwrap_or(scene.held.height)..scene.held.height {
+            code.push(pop(SCRATCH));
         }
         code.push(match scene.record {
             Some(record) => join(Reg(record)),
@@ -166,9 +215,10 @@ impl Nested<'_> {
     /// scratch register.
     fn join_target(&mut self, combining: u8) -> Annotation {
         let mut pairs = Vec::new();
-        let wanted = self.random.between(0, 4);
+        let wanted = self.random.between(0, most_pairs(self.version));
         for target in 0..DATA {
-            if pairs.len() < wanted && self.random.one_in(3) {
+            let room = usize::from(DATA - target) + pairs.len();
+            if pairs.len() < wanted && (room <= wanted || self.random.one_in(3)) {
                 pairs.push(pair(self.data(), target));
             }
         }
@@ -187,6 +237,10 @@ impl Nested<'_> {
         let mut code = Vec::new();
         for _ in 0..self.random.between(0, 3) {
             code.push(self.simple());
+        }
+        if self.version == VERSION_2 && self.random.one_in(4) {
+            // Over whatever the parent's side has left.
+            code.extend([push(Reg(record)), pop(SCRATCH)]);
         }
         if self.mishaps > 0 && self.random.one_in(4 * self.mishaps) {
             code.push(op(DIVIDE, 0, 0, Int(0)));
@@ -211,12 +265,9 @@ impl Nested<'_> {
             }
             _ => scene.free,
         };
-        let side = Scene {
-            depth: scene.depth + 1,
-            record: Some(record),
-            free: scene.free.max(record + 1),
-        };
-        if scene.record != Some(record) {
+        let is_new = scene.record != Some(record);
+        let side = scene.parents_side(record, is_new);
+        if is_new {
             let continuation = self.assembly.reserve();
             let combining = self.combining(record);
             let annotation = self.join_target(combining);
@@ -229,7 +280,7 @@ impl Nested<'_> {
         }
         let child = self.assembly.reserve();
         code.push(fork(record, Lab(child)));
-        self.fill(child, Vec::new(), side, in_child);
+        self.fill(child, Vec::new(), side.childs(), in_child);
         side
     }
 
@@ -253,12 +304,13 @@ impl Nested<'_> {
     /// A fault of some number, or a join or fork by whatever a record's register holds.
     fn mishap(&mut self, label: u8, mut code: Vec<InstructionRecord>, scene: Scene) {
         let any_record = self.random.between(FIRST_RECORD.into(), SCRATCH.into()) as u8;
-        let number = self.random.between(fault::FIRST.into(), fault::LAST.into()) as u8;
+        let number = self.random.pick(fault::of(self.version));
         let place = Place {
             record: scene.record,
             plain: 0,
             target: self.target,
             joiner: self.joiner,
+            stackers: self.stackers,
             word_count: self.word_count,
         };
         match self.random.below(8) {

@@ -2,6 +2,7 @@
 
 use super::job;
 use crate::generate;
+use crate::layout::HEADER;
 use crate::random::Random;
 use model::{question, MAX_WORDS};
 
@@ -9,6 +10,15 @@ pub struct Refused {
     pub bytes: Vec<u8>,
     /// The number of the first question that is answered with no.
     pub number: u8,
+}
+
+/// A version that there is not, and a number of blocks that there may not be.
+fn spoil_header(image: &mut [u8], random: &mut Random) {
+    if image.len() >= HEADER {
+        let version: u16 = random.pick(&[0, 3, 256, 257, u16::MAX]);
+        image[3..5].copy_from_slice(&version.to_le_bytes());
+        image[5] = random.pick(&[0, 129]);
+    }
 }
 
 /// The refused job of this number under this seed.
@@ -23,6 +33,9 @@ pub fn refused(seed: u64, number: u64) -> Refused {
     }
     if random.one_in(2) {
         input.image = generate::case(seed, number).image;
+        if random.one_in(12) {
+            spoil_header(&mut input.image, random);
+        }
         wrong.extend(model::read(&input.image).err());
     }
     if random.one_in(3) || wrong.is_empty() {

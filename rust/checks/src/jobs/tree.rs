@@ -1,16 +1,16 @@
 //! Programs of one block that forks itself, all under one record, until each task has gone down a
 //! given number of forks. The tasks at the leaves are told apart by their paths, and some of them
-//! fault.
+//! fault. In version 2 each task pushes its path before it forks, and the joined one pops it.
 
-use super::mishap::{self, Place, SCRATCH};
+use super::mishap::{self, Place, Stackers, SCRATCH};
 use super::nested::end_block;
 use crate::assemble::{
-    fork, halt, if_jump, join, jralloc, jump, mov, op, Annotation, Assembly, Operand,
+    fork, halt, if_jump, join, jralloc, jump, mov, op, pop, push, Annotation, Assembly, Operand,
 };
 use crate::layout::{pair, InstructionRecord};
 use crate::random::Random;
-use model::fault;
 use model::opcode::{ADD, EQUAL, LESS, MULTIPLY, REMAINDER, SUBTRACT};
+use model::{fault, VERSION_1, VERSION_2};
 use Operand::{Int, Lab, Reg};
 
 const LEFT: u8 = 0;
@@ -22,7 +22,7 @@ const SPIN: u8 = 5;
 const ROUNDS: u8 = 6;
 const RECORD: u8 = 8;
 
-pub fn program(random: &mut Random, halvings: usize, word_count: usize) -> Vec<u8> {
+pub fn program(random: &mut Random, version: u16, halvings: usize, word_count: usize) -> Vec<u8> {
     // As deep as the places go, mostly; sometimes deeper.
     let depth = match random.below(8) {
         0 => random.between(0, halvings),
@@ -41,6 +41,7 @@ pub fn program(random: &mut Random, halvings: usize, word_count: usize) -> Vec<u
     let combining = tree.reserve();
     let over = tree.reserve();
     let joiner = tree.block(Annotation::None, &[join(Reg(SCRATCH))]);
+    let stackers = Stackers::of(random, version, &mut tree);
 
     let rounds = random.pick(&[1, 1, 2]);
     let mut code = vec![mov(ROUNDS, Int(rounds)), jump(Lab(round))];
@@ -51,6 +52,7 @@ pub fn program(random: &mut Random, halvings: usize, word_count: usize) -> Vec<u
             plain: entry,
             target: continuation,
             joiner,
+            stackers,
             word_count,
         };
         code = fault_code(random, place);
@@ -65,17 +67,18 @@ pub fn program(random: &mut Random, halvings: usize, word_count: usize) -> Vec<u
             jump(Lab(split)),
         ],
     );
-    tree.fill(
-        split,
-        vec![
-            op(LESS, TEST, LEFT, Int(1)),
-            if_jump(TEST, Lab(leaf)),
-            op(SUBTRACT, LEFT, LEFT, Int(1)),
-            op(MULTIPLY, PATH, PATH, Int(2)),
-            fork(RECORD, Lab(child)),
-            jump(Lab(split)),
-        ],
-    );
+    let mut code = vec![
+        op(LESS, TEST, LEFT, Int(1)),
+        if_jump(TEST, Lab(leaf)),
+        op(SUBTRACT, LEFT, LEFT, Int(1)),
+        op(MULTIPLY, PATH, PATH, Int(2)),
+        fork(RECORD, Lab(child)),
+        jump(Lab(split)),
+    ];
+    if version == VERSION_2 {
+        code.insert(4, push(Reg(PATH)));
+    }
+    tree.fill(split, code);
     tree.fill(child, vec![op(ADD, PATH, PATH, Int(1)), jump(Lab(split))]);
 
     let place = Place {
@@ -83,6 +86,7 @@ pub fn program(random: &mut Random, halvings: usize, word_count: usize) -> Vec<u
         plain: entry,
         target: continuation,
         joiner,
+        stackers,
         word_count,
     };
     let mut code = Vec::new();
@@ -119,6 +123,9 @@ pub fn program(random: &mut Random, halvings: usize, word_count: usize) -> Vec<u
         op(MULTIPLY, SUM, SUM, Int(3)),
         op(ADD, SUM, SUM, Reg(CHILDS_SUM)),
     ];
+    if version == VERSION_2 {
+        code.extend([pop(TEST), op(SUBTRACT, SUM, SUM, Reg(TEST))]);
+    }
     if random.one_in(8) {
         code.extend(fault_code(random, place));
     }
@@ -139,11 +146,12 @@ pub fn program(random: &mut Random, halvings: usize, word_count: usize) -> Vec<u
     ];
     tree.fill(continuation, again.to_vec());
     tree.fill(over, vec![halt()]);
-    tree.image()
+    tree.image_of(version)
 }
 
 fn fault_code(random: &mut Random, place: Place) -> Vec<InstructionRecord> {
-    let number = random.between(fault::FIRST.into(), fault::LAST.into()) as u8;
+    let version = place.stackers.map_or(VERSION_1, |_| VERSION_2);
+    let number = random.pick(fault::of(version));
     let mut code = mishap::code(random, number, place);
     end_block(&mut code, place.record);
     code

@@ -2,13 +2,15 @@
 
 use super::integer;
 use crate::assemble::{
-    fork, halt, if_jump, join, jralloc, jump, mov, op, word, Annotation, Assembly, Operand,
+    fork, halt, if_jump, join, jralloc, jump, mov, op, pop, push, word, Annotation, Assembly,
+    Operand,
 };
 use crate::layout::{pair, InstructionRecord};
 use crate::random::Random;
+use model::{most_pairs, VERSION_2};
 use Operand::{Int, Lab, Reg};
 
-pub fn program(random: &mut Random, word_count: usize) -> Vec<u8> {
+pub fn program(random: &mut Random, version: u16, word_count: usize) -> Vec<u8> {
     let block_count = random.between(3, 12);
     let label = |random: &mut Random| random.between(1, block_count - 1) as u8;
     let mut wild = Assembly::default();
@@ -17,15 +19,19 @@ pub fn program(random: &mut Random, word_count: usize) -> Vec<u8> {
     for number in 1..block_count {
         let linked = label(random);
         let annotation = match random.below(3) {
-            _ if number == 1 => join_target(random, linked),
+            _ if number == 1 => join_target(random, version, linked),
             0 => Annotation::None,
             1 => Annotation::PromotionReady { handler: linked },
-            _ => join_target(random, linked),
+            _ => join_target(random, version, linked),
         };
         let mut code = Vec::new();
         for _ in 0..random.between(0, 7) {
             let target = label(random);
-            code.push(any(random, target, word_count));
+            code.push(if version == VERSION_2 && random.one_in(4) {
+                stacking(random, target)
+            } else {
+                any(random, target, word_count)
+            });
         }
         let target = label(random);
         code.push(match random.below(8) {
@@ -40,13 +46,13 @@ pub fn program(random: &mut Random, word_count: usize) -> Vec<u8> {
     code.extend((12..16).map(|r| mov(r, Lab(label(random)))));
     code.push(jump(Lab(label(random))));
     wild.fill(entry, code);
-    wild.image()
+    wild.image_of(version)
 }
 
-fn join_target(random: &mut Random, combining: u8) -> Annotation {
+fn join_target(random: &mut Random, version: u16, combining: u8) -> Annotation {
     let mut pairs = Vec::new();
     for target in 0..16 {
-        if pairs.len() < 4 && random.one_in(6) {
+        if pairs.len() < most_pairs(version) && random.one_in(6) {
             pairs.push(pair(random.below(16) as u8, target));
         }
     }
@@ -54,6 +60,17 @@ fn join_target(random: &mut Random, combining: u8) -> Annotation {
         policy: random.below(2) as u8,
         combining,
         pairs,
+    }
+}
+
+/// A push of any value, or a pop, mostly into a register for labels.
+fn stacking(random: &mut Random, target: u8) -> InstructionRecord {
+    match random.below(8) {
+        0..=2 => push(Lab(target)),
+        3 => push(Reg(random.below(16) as u8)),
+        4 => push(Int(integer(random))),
+        5 => pop(random.below(16) as u8),
+        _ => pop(random.between(12, 15) as u8),
     }
 }
 

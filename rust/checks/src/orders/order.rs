@@ -157,6 +157,9 @@ impl<'a> Order<'a> {
     ) -> Result<(), String> {
         let mut carried_out = 0;
         let mut slot = 0;
+        if let Some(coverage) = &mut coverage {
+            coverage.begin(self.job);
+        }
         while self.machine.end().is_none() {
             if self.expected.is_none() && carried_out == ENDLESS_PICKS {
                 return Ok(());

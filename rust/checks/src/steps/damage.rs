@@ -1,61 +1,16 @@
 //! Calls made wrong: a state's number or a program's cell changed, a buffer of another length, other
 //! numbers.
 
+mod program;
+mod state;
+
+pub use program::{damage_program, CELL_FIELDS};
+pub use state::{damage_state, is_fault_number, JOB_FIELDS, SITTERS, SLOT_FIELDS};
+
 use super::call::{Buffer, Call, Door};
-use crate::numbers::number_at;
 use crate::random::Random;
-use model::state::{FORKS_AT, JOB_NUMBERS, REGISTERS_AT, SLOT_NUMBERS};
-use model::task::MAX_DEPTH;
-use model::{MAX_BLOCKS, MAX_INSTRUCTIONS, MAX_PLACES, MAX_WORDS, REGISTERS, WORK_LIMIT};
-
-/// A number's kind in a state: the job's first, then a slot's.
-pub const JOB_FIELDS: [&str; 3] = ["P", "interval", "work"];
-pub const SLOT_FIELDS: [&str; 12] = [
-    "status",
-    "fault number",
-    "places",
-    "program counter",
-    "counter",
-    "span",
-    "depth",
-    "fork's continuation",
-    "fork's depth",
-    "register's kind",
-    "register's first number",
-    "register's second number",
-];
-
-/// What sits in the slot of a damaged number.
-pub const SITTERS: [&str; 6] = [
-    "nobody",
-    "a running task",
-    "a waiting task",
-    "a halted task",
-    "a faulted task",
-    "nobody, from P on",
-];
-
-/// A cell's kind in a program buffer.
-pub const CELL_FIELDS: [&str; 14] = [
-    "B",
-    "I",
-    "first",
-    "annotation",
-    "policy",
-    "label",
-    "pair count",
-    "pairs",
-    "opcode",
-    "r",
-    "s",
-    "kind",
-    "operand",
-    "unused",
-];
-const BLOCKS_AT: usize = 2;
-const BLOCK_CELLS: usize = 6;
-const INSTRUCTIONS_AT: usize = BLOCKS_AT + BLOCK_CELLS * MAX_BLOCKS;
-const INSTRUCTION_CELLS: usize = 5;
+use model::MAX_WORDS;
+use program::used_lengths;
 
 /// How a number is changed.
 pub const MANNERS: [&str; 5] = [
@@ -66,6 +21,7 @@ pub const MANNERS: [&str; 5] = [
     "to a likely one",
 ];
 const HIGH_BITS: usize = 2;
+const LIKELY: usize = 4;
 
 /// What was changed, in words: the field, and the manner.
 #[derive(Clone, Copy, Debug, PartialEq, Eq)]
@@ -78,7 +34,13 @@ pub enum Damage {
         field: usize,
         sitter: usize,
         manner: usize,
+        /// Of an entry's numbers, whether it is below the stack's height.
+        below_height: Option<bool>,
+        /// The number that was put there.
+        number: u64,
     },
+    /// A version that there is not, and a count that there may not be.
+    VersionAndCount,
     Cell {
         field: usize,
         manner: usize,
@@ -87,47 +49,6 @@ pub enum Damage {
         buffer: Buffer,
     },
     Numbers,
-}
-
-/// The field of a slot's number.
-fn slot_field(at: usize) -> usize {
-    if at < FORKS_AT {
-        at
-    } else if at < REGISTERS_AT {
-        FORKS_AT + (at - FORKS_AT) % 2
-    } else {
-        FORKS_AT + 2 + (at - REGISTERS_AT) % 3
-    }
-}
-
-/// The index of one of a field's numbers in a slot. Of registers, those that hold no integer are as
-/// likely as all together.
-fn slot_index(random: &mut Random, state: &[u8], slot: usize, field: usize) -> usize {
-    let first = JOB_NUMBERS + SLOT_NUMBERS * slot;
-    match field.checked_sub(FORKS_AT) {
-        None => first + field,
-        Some(part @ 0..=1) => first + FORKS_AT + 2 * random.below(MAX_DEPTH) + part,
-        Some(part) => {
-            let at = |register: usize| first + REGISTERS_AT + 3 * register;
-            let others: Vec<usize> = (0..REGISTERS)
-                .filter(|&register| number_at(state, at(register)) != 0)
-                .collect();
-            let register = if others.is_empty() || random.one_in(2) {
-                random.below(REGISTERS)
-            } else {
-                random.pick(&others)
-            };
-            at(register) + part - 2
-        }
-    }
-}
-
-fn sitter(state: &[u8], slot: usize) -> usize {
-    if slot as u64 >= number_at(state, 0) {
-        return SITTERS.len() - 1;
-    }
-    let status = number_at(state, JOB_NUMBERS + SLOT_NUMBERS * slot);
-    status.min(4) as usize
 }
 
 fn set(bytes: &mut [u8], index: usize, number: u64) {
@@ -152,81 +73,6 @@ fn other(random: &mut Random, old: u64, likely: &[u64]) -> (u64, usize) {
     }
 }
 
-/// Changes one number of a state that has its length.
-pub fn damage_state(random: &mut Random, state: &mut [u8]) -> Damage {
-    if random.one_in(6) {
-        let field = random.below(JOB_NUMBERS);
-        let old = number_at(state, field);
-        let likely = [
-            0,
-            1,
-            2,
-            4,
-            7,
-            8,
-            64,
-            65,
-            128,
-            65_535,
-            65_536,
-            WORK_LIMIT.into(),
-            1 << 32,
-            u64::MAX,
-        ];
-        let (new, manner) = other(random, old, &likely);
-        set(state, field, new);
-        return Damage::JobNumber { field, manner };
-    }
-    let live: Vec<usize> = (0..MAX_PLACES as usize)
-        .filter(|&slot| matches!(sitter(state, slot), 1..=4))
-        .collect();
-    let slot = if live.is_empty() || random.one_in(3) {
-        random.below(MAX_PLACES as usize)
-    } else {
-        random.pick(&live)
-    };
-    let field = random.below(SLOT_FIELDS.len());
-    let index = slot_index(random, state, slot, field);
-    damage_number(random, state, index)
-}
-
-/// Changes the slot's number at this index of a state.
-fn damage_number(random: &mut Random, state: &mut [u8], index: usize) -> Damage {
-    let (slot, at) = (
-        (index - JOB_NUMBERS) / SLOT_NUMBERS,
-        (index - JOB_NUMBERS) % SLOT_NUMBERS,
-    );
-    let sitter = sitter(state, slot);
-    let work = number_at(state, 2);
-    let likely = [
-        0,
-        1,
-        2,
-        3,
-        4,
-        5,
-        9,
-        random.between(30, 39) as u64,
-        random.below(130) as u64,
-        random.below(1025) as u64,
-        255,
-        256,
-        65_536,
-        work,
-        work.wrapping_add(1),
-        u32::MAX.into(),
-        1 << 32,
-        u64::MAX,
-    ];
-    let (new, manner) = other(random, number_at(state, index), &likely);
-    set(state, index, new);
-    Damage::SlotNumber {
-        field: slot_field(at),
-        sitter,
-        manner,
-    }
-}
-
 /// Numbers in place of the one at this index of a state: beside it, and each that is the same when
 /// it is cut to fewer bits.
 pub fn others(old: u64) -> [u64; 8] {
@@ -240,67 +86,6 @@ pub fn others(old: u64) -> [u64; 8] {
         !old,
         9,
     ]
-}
-
-/// Changes one cell of a program buffer that has its length.
-pub fn damage_program(random: &mut Random, program: &mut [u8]) -> Damage {
-    let count = |cell, most: usize| (number_at(program, cell) as usize).clamp(1, most);
-    let (blocks, instructions) = (count(0, MAX_BLOCKS), count(1, MAX_INSTRUCTIONS));
-    let near = |random: &mut Random, count: usize| match random.below(4) {
-        0 => 0,
-        1 => count - 1,
-        _ => random.below(count),
-    };
-    let (cell, field) = match random.below(16) {
-        0 => (0, 0),
-        1 => (1, 1),
-        2..=7 => {
-            let at = random.below(BLOCK_CELLS);
-            (BLOCKS_AT + BLOCK_CELLS * near(random, blocks) + at, 2 + at)
-        }
-        8..=14 => {
-            let at = random.below(INSTRUCTION_CELLS);
-            let number = near(random, instructions);
-            (INSTRUCTIONS_AT + INSTRUCTION_CELLS * number + at, 8 + at)
-        }
-        _ => {
-            let after_blocks = BLOCKS_AT + BLOCK_CELLS * blocks;
-            let after = INSTRUCTIONS_AT + INSTRUCTION_CELLS * instructions;
-            let cells = (after_blocks..INSTRUCTIONS_AT).chain(after..program.len() / 8);
-            let cells: Vec<usize> = cells.collect();
-            match cells.is_empty() {
-                true => (0, 0),
-                false => (random.pick(&cells), CELL_FIELDS.len() - 1),
-            }
-        }
-    };
-    let (b, i) = (blocks as u64, instructions as u64);
-    let likely = [
-        0,
-        1,
-        2,
-        3,
-        4,
-        12,
-        13,
-        15,
-        16,
-        b - 1,
-        b,
-        b + 1,
-        i - 1,
-        i,
-        i + 1,
-        128,
-        129,
-        1024,
-        1025,
-        1 << 32,
-        u64::MAX,
-    ];
-    let (new, manner) = other(random, number_at(program, cell), &likely);
-    set(program, cell, new);
-    Damage::Cell { field, manner }
 }
 
 /// Gives one buffer of a call another length: what it has is cut off, or goes on with any bytes.
@@ -329,20 +114,6 @@ pub fn damage_length(random: &mut Random, call: &mut Call) -> Damage {
     let fill = random.byte();
     bytes.resize(new, fill);
     Damage::Length { buffer }
-}
-
-/// Where a program's counts, its last block and its last instruction end.
-fn used_lengths(program: &[u8]) -> [usize; 3] {
-    let count = |cell: usize, most: usize| match program.get(8 * cell..8 * cell + 8) {
-        Some(_) => (number_at(program, cell) as usize).min(most),
-        None => 0,
-    };
-    [
-        BLOCKS_AT,
-        BLOCKS_AT + BLOCK_CELLS * count(0, MAX_BLOCKS),
-        INSTRUCTIONS_AT + INSTRUCTION_CELLS * count(1, MAX_INSTRUCTIONS),
-    ]
-    .map(|cells| 8 * cells)
 }
 
 /// Other numbers than start, pick or run would take.

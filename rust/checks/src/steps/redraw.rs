@@ -3,8 +3,8 @@
 use super::walk::slots_with;
 use crate::random::Random;
 use model::numbers::{number_at, write};
-use model::state::{FORKS_AT, JOB_NUMBERS, REGISTERS_AT, SLOT_NUMBERS};
-use model::{Program, REGISTERS, WORK_LIMIT};
+use model::state::{FORKS_AT, HEIGHT_AT, JOB_NUMBERS, REGISTERS_AT, SLOT_NUMBERS, STACK_AT};
+use model::{Program, REGISTERS, STACK, WORK_LIMIT};
 
 const RUNNING: u64 = 1;
 const WAITING: u64 = 2;
@@ -31,7 +31,8 @@ fn depth(random: &mut Random) -> u64 {
 }
 
 /// Draws anew what the shape test leaves open: the interval; of each task where it stands, what it has
-/// counted, and what its open forks and registers name; of a task that is alone its places.
+/// counted, what its open forks and registers name, and its stack; of a task that is alone its
+/// places.
 pub fn redraw(random: &mut Random, program: &Program, state: &mut [u8]) {
     let targets: Vec<u64> = (0..)
         .zip(&program.blocks)
@@ -66,15 +67,39 @@ pub fn redraw(random: &mut Random, program: &Program, state: &mut [u8]) {
             }
             for register in 0..REGISTERS {
                 let at = first + REGISTERS_AT + 3 * register;
-                let value = match random.below(8) {
-                    0 | 1 => continue,
-                    2 | 3 if !targets.is_empty() => [2, random.pick(&targets), depth(random)],
-                    4 => [1, random.below(program.blocks.len()) as u64, 0],
-                    _ => [0, random.bits() >> random.below(64), 0],
-                };
-                write(value, &mut state[8 * at..]);
+                if !random.one_in(4) {
+                    let value = value(random, program, &targets);
+                    write(value, &mut state[8 * at..]);
+                }
+            }
+            if random.one_in(2) {
+                redraw_stack(random, program, &targets, &mut state[8 * first..]);
             }
         }
+    }
+}
+
+/// The numbers of a value that is the program's.
+fn value(random: &mut Random, program: &Program, targets: &[u64]) -> [u64; 3] {
+    match random.below(6) {
+        0 | 1 if !targets.is_empty() => [2, random.pick(targets), depth(random)],
+        2 => [1, random.below(program.blocks.len()) as u64, 0],
+        _ => [0, random.bits() >> random.below(64), 0],
+    }
+}
+
+/// Of a task whose numbers begin here. A program of version 1 may find values there too.
+fn redraw_stack(random: &mut Random, program: &Program, targets: &[u64], slot: &mut [u8]) {
+    let any = random.below(STACK + 1);
+    let height = random.pick(&[0, 1, STACK - 1, STACK, any]);
+    set(slot, HEIGHT_AT, height as u64);
+    for entry in 0..STACK {
+        let numbers = if entry < height {
+            value(random, program, targets)
+        } else {
+            [0; 3]
+        };
+        write(numbers, &mut slot[8 * (STACK_AT + 3 * entry)..]);
     }
 }
 

@@ -56,12 +56,11 @@ impl Trial<'_> {
 
     /// Puts the call with something wrong.
     pub(super) fn put_damaged(&mut self, mut call: Call) -> Result<Answered, String> {
-        let door = call.door;
         let damages = damage(&mut self.random, &mut call);
         let answered = self
             .put(&call)
             .map_err(|what| format!("{}\nafter {:?}", what, damages))?;
-        self.coverage.count_damage(door, &damages, answered.number);
+        self.coverage.count_damage(&call, &damages, answered.number);
         Ok(answered)
     }
 

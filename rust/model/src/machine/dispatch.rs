@@ -1,6 +1,7 @@
 //! The dispatcher of document 02: rounds over 1 to 8 lanes.
 
 use super::{Answer, Call, Machine, WORK_LIMIT};
+use crate::task::Surroundings;
 use crate::{question, Program};
 use std::iter;
 
@@ -54,6 +55,7 @@ impl Machine {
     /// A dispatch whose questions have been put.
     pub(crate) fn dispatch_in(&mut self, call: Call, lanes: usize, budget: u64) -> Dispatched {
         let before = self.work;
+        let surroundings = self.surroundings(call);
         let mut rounds = 0;
         let answer = loop {
             if self.end().is_some() {
@@ -63,7 +65,7 @@ impl Machine {
                 break Answer::Spent;
             }
             rounds += 1;
-            self.round(call, lanes);
+            self.round(&surroundings, lanes);
         };
         Dispatched {
             answer,
@@ -74,12 +76,12 @@ impl Machine {
 
     /// Picks the first tasks that are running now, one a lane. A pick stops no other running task,
     /// so each is still running in its turn; what the picks make is not among them.
-    fn round(&mut self, call: Call, lanes: usize) {
+    fn round(&mut self, surroundings: &Surroundings, lanes: usize) {
         for slot in slots(self.running).take(lanes) {
             if self.work == WORK_LIMIT {
                 return;
             }
-            self.carry_out(call, slot);
+            self.carry_out(surroundings, slot);
         }
     }
 }

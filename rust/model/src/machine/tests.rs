@@ -1,8 +1,14 @@
 //! The questions of start, pick and run, and where the tasks sit.
 
 use super::*;
-use crate::sample::{countdown, f, forks};
-use crate::task::Value;
+use crate::image::Instruction;
+use crate::opcode;
+use crate::sample::{
+    calls, countdown, f, forks, instruction, pop, push, second, stacked, Operand, HALT, PLAIN,
+};
+use crate::task::{Value, ZEROS};
+use crate::STACK;
+use Operand::{Int, Lab};
 
 const ZERO: [i64; 16] = [0; 16];
 
@@ -28,6 +34,11 @@ fn start_puts_the_programs_questions_and_then_its_own_in_order() {
         Machine::start(program, places, interval, registers, words).err()
     };
     let many = [0; 4097];
+    let no_version = Program {
+        version: 3,
+        ..bad.clone()
+    };
+    assert_eq!(refusal(&no_version, 3, 7, &[], &many), Some(3));
     assert_eq!(refusal(&bad, 3, 7, &[], &many), Some(9));
     assert_eq!(refusal(&good, 3, 7, &[], &many), Some(11));
     assert_eq!(refusal(&good, 2, 7, &[], &many), Some(12));
@@ -62,6 +73,7 @@ fn a_fresh_start_has_one_task_with_all_places() {
         (0, 0, 0, 0)
     );
     assert_eq!(task.registers, registers.map(Value::Int));
+    assert_eq!(task.stack.height(), 0);
 }
 
 #[test]
@@ -222,6 +234,10 @@ fn run_puts_the_questions_of_a_pick_up_to_20() {
     let mut bad = f();
     bad.blocks.clear();
     assert_eq!(machine.run(&bad, &[0; 4097], 0), Err(4));
+    bad.version = 0;
+    assert_eq!(machine.run(&bad, &[0; 4097], 0), Err(3));
+    assert_eq!(machine.pick(&bad, &[0; 4097], 0), Err(3));
+    assert_eq!(machine.dispatch(&bad, &[0; 4097], 9, 0), Err(3));
     assert_eq!(machine.run(&f(), &[0; 4097], 0), Err(14));
     assert_eq!(machine, start(&f(), 2));
     machine.interval = 7;
@@ -244,4 +260,124 @@ fn run_reaches_a_task_that_the_same_pass_has_made() {
     machine.run(&program, &[], 1).unwrap();
     assert_eq!(machine.slots()[0].task.pc, 3);
     assert_eq!(machine.slots()[1].task.pc, 4);
+}
+
+#[test]
+fn a_subroutine_goes_back_to_where_it_was_called() {
+    let program = calls();
+    let mut machine = start(&program, 1);
+    assert_eq!(machine.run(&program, &[], 100), Ok((Answer::Ended, 11)));
+    assert_eq!(machine.end(), Some(End::Halt));
+    let task = machine.last_task();
+    assert_eq!(task.registers[..2], [Value::Int(10), Value::Label(3)]);
+    assert_eq!(task.stack.height(), 0);
+}
+
+/// The values of a slot's stack, all integers.
+fn stack(machine: &Machine, slot: usize) -> Vec<Value> {
+    machine.slots()[slot].task.stack.values().to_vec()
+}
+
+#[test]
+fn a_joined_task_has_the_stack_that_the_parents_side_left() {
+    let program = stacked(&[push(Int(7)), push(Int(8))]);
+    // The parent's side is first, or the child's.
+    for order in [[0, 0, 1, 1, 1], [1, 1, 1, 0, 0]] {
+        let mut machine = start(&program, 2);
+        for slot in [0, 0, 0] {
+            assert_eq!(machine.pick(&program, &[], slot), Ok(()));
+        }
+        assert_eq!(stack(&machine, 0), [Value::Int(10)]);
+        assert_eq!(stack(&machine, 1), []);
+        for &slot in &order[..4] {
+            assert_eq!(machine.pick(&program, &[], slot), Ok(()));
+        }
+        // A waiting side keeps its stack.
+        assert!(machine
+            .slots()
+            .iter()
+            .any(|slot| slot.status == Status::Waiting));
+        assert!(machine
+            .slots()
+            .iter()
+            .all(|slot| slot.task.stack.height() > 0));
+        assert_eq!(machine.pick(&program, &[], order[4]), Ok(()));
+        assert_eq!(stack(&machine, 0), [10, 20].map(Value::Int));
+        assert_eq!(machine.slots()[1], Slot::VACANT);
+        assert_eq!(machine.run(&program, &[], 9), Ok((Answer::Ended, 4)));
+        let task = machine.last_task();
+        assert_eq!(task.registers[3..5], [20, 10].map(Value::Int));
+    }
+}
+
+#[test]
+fn a_child_starts_with_an_empty_stack() {
+    let program = stacked(&[pop(2)]);
+    let mut machine = start(&program, 2);
+    for slot in [0, 0, 0, 1] {
+        assert_eq!(machine.pick(&program, &[], slot), Ok(()));
+    }
+    assert_eq!(machine.slots()[1].status, Status::Faulted(43));
+    // What is left of the parent's goes with the fault.
+    assert_eq!(stack(&machine, 0), [Value::Int(10)]);
+    assert_eq!(machine.run(&program, &[], 9), Ok((Answer::Ended, 2)));
+    assert_eq!(machine.end(), Some(End::Fault(43)));
+    let task = machine.last_task();
+    assert_eq!((task.registers, task.stack.height()), (ZEROS, 0));
+}
+
+#[test]
+fn a_child_in_a_slot_that_was_used_has_an_empty_stack_too() {
+    let target = |label| Block {
+        annotation: 2,
+        label,
+        ..PLAIN
+    };
+    let fork = |exit, child| {
+        [
+            instruction(opcode::JRALLOC, 1, 0, Lab(exit)),
+            instruction(opcode::FORK, 0, 1, Lab(child)),
+            JOIN,
+        ]
+    };
+    const JOIN: Instruction = Instruction {
+        opcode: opcode::JOIN,
+        r: 0,
+        s: 0,
+        kind: 1,
+        operand: 1,
+    };
+    let program = second(&[
+        (PLAIN, &fork(1, 2)),
+        (target(3), &fork(4, 5)),
+        (PLAIN, &[push(Int(7)), JOIN]),
+        (PLAIN, &[JOIN]),
+        (target(3), &[HALT]),
+        (PLAIN, &[pop(2), JOIN]),
+    ]);
+    let mut machine = start(&program, 2);
+    while machine.end().is_none() {
+        assert_eq!(machine.run(&program, &[], 1).map(|(_, picks)| picks), Ok(1));
+        let other = &machine.slots()[1];
+        assert!(other.status != Status::Vacant || *other == Slot::VACANT);
+    }
+    // Its pop finds nothing of the first child's.
+    assert_eq!(machine.end(), Some(End::Fault(43)));
+}
+
+#[test]
+fn a_halt_keeps_the_stack() {
+    let mut code = vec![push(Int(1)); STACK];
+    code.push(HALT);
+    let program = second(&[(PLAIN, &code)]);
+    let mut machine = start(&program, 1);
+    assert_eq!(machine.run(&program, &[], 99), Ok((Answer::Ended, 33)));
+    assert_eq!(stack(&machine, 0), [Value::Int(1); STACK]);
+    // One more is a fault, and leaves none.
+    code.insert(0, push(Int(2)));
+    let program = second(&[(PLAIN, &code)]);
+    let mut machine = start(&program, 1);
+    assert_eq!(machine.run(&program, &[], 99), Ok((Answer::Ended, 33)));
+    assert_eq!(machine.end(), Some(End::Fault(42)));
+    assert_eq!(stack(&machine, 0), []);
 }

@@ -1,9 +1,12 @@
 //! States that orders reach, and damaged ones.
 
 use super::*;
-use crate::sample::{countdown, f, forks, program, HALT, PLAIN};
+use crate::sample::{
+    calls, countdown, f, forks, pop, program, push, stacked, Operand, HALT, PLAIN,
+};
+use crate::stack::Stack;
 use crate::task::Record;
-use crate::WORK_LIMIT;
+use crate::{VERSION_1, VERSION_2, WORK_LIMIT};
 
 const PLACES: [u64; 7] = [1, 2, 4, 8, 16, 32, 64];
 
@@ -63,7 +66,12 @@ fn random(state: &mut u64, bound: usize) -> usize {
 #[test]
 fn every_state_of_random_orders_meets_it() {
     let mut state = 1;
-    for program in [f(), forks(), countdown()] {
+    let stacks = [
+        calls(),
+        stacked(&[push(Operand::Int(7))]),
+        stacked(&[pop(2)]),
+    ];
+    for program in [f(), forks(), countdown()].into_iter().chain(stacks) {
         for places in PLACES {
             for _ in 0..20 {
                 let mut machine = start(&program, places);
@@ -184,9 +192,14 @@ fn statuses() {
     for number in 0..=u8::MAX {
         let allowed = (31..=38).contains(&number);
         assert_eq!(meets(&faulted(number), &f()), allowed, "{}", number);
+        let allowed = allowed || [42, 43].contains(&number);
+        assert_eq!(meets(&faulted(number), &f_second()), allowed, "{}", number);
     }
     assert_damaged(faulted(33), |machine| {
         machine.slots[0].task.registers[15] = Value::Int(1);
+    });
+    assert_damaged(faulted(33), |machine| {
+        machine.slots[0].task.stack = Stack::of(vec![Value::Int(0)]);
     });
 }
 
@@ -227,6 +240,60 @@ fn what_tasks_name_is_in_the_program() {
         depth: 255,
     });
     assert!(meets(&machine, &f()));
+}
+
+/// F of version 2.
+fn f_second() -> Program {
+    Program {
+        version: VERSION_2,
+        ..f()
+    }
+}
+
+/// F's two sides with these values on the child's stack.
+fn with_stack(values: Vec<Value>) -> Machine {
+    let mut machine = forked();
+    machine.slots[2].task.stack = Stack::of(values);
+    machine
+}
+
+#[test]
+fn stacks() {
+    let values = [
+        Value::Int(i64::MIN),
+        Value::Label(3),
+        Value::Record(Record {
+            continuation: 2,
+            depth: u32::MAX,
+        }),
+    ];
+    for height in 0..40 {
+        let values: Vec<Value> = values.into_iter().cycle().take(height).collect();
+        let machine = with_stack(values);
+        // Whether there may be something on it is not for the version to say.
+        for version in [VERSION_1, VERSION_2] {
+            let program = Program { version, ..f() };
+            assert_eq!(meets(&machine, &program), height <= 32);
+        }
+    }
+    for wrong in [
+        Value::Label(4),
+        Value::Record(record(1)),
+        Value::Record(record(4)),
+    ] {
+        for at in [0, 7, 31] {
+            assert_damaged(with_stack(vec![Value::Int(0); 32]), |machine| {
+                let mut values = vec![Value::Int(0); 32];
+                values[at] = wrong;
+                machine.slots[2].task.stack = Stack::of(values);
+            });
+        }
+    }
+    for slot in [1, 3] {
+        assert_damaged(forked(), |machine| {
+            machine.slots[slot].task.stack = Stack::of(vec![Value::Int(0)]);
+        });
+    }
 }
 
 #[test]

@@ -2,7 +2,7 @@
 
 use super::*;
 use crate::numbers::number_at;
-use crate::sample::{countdown, f};
+use crate::sample::{calls, countdown, f};
 use crate::{Program, WORK_LIMIT};
 
 const ZEROS: [u8; REGISTERS_BYTES] = [0; REGISTERS_BYTES];
@@ -31,7 +31,7 @@ fn with(mut bytes: Vec<u8>, at: usize, number: u64) -> Vec<u8> {
 
 /// F with an instruction that question 8 refuses.
 fn bad() -> Vec<u8> {
-    with(cells_of(&f()), 770, 16)
+    with(cells_of(&f()), 771, 16)
 }
 
 /// What a pick is answered with; a refused one changes nothing.
@@ -61,7 +61,7 @@ fn run_answer(program: &[u8], words: &[u8], state: &[u8], report_len: usize) -> 
 
 #[test]
 fn an_image_is_read_and_written_back() {
-    for program in [f(), countdown()] {
+    for program in [f(), countdown(), calls()] {
         let image = image::write(&program).unwrap();
         let mut cells = vec![0xa5; cells::BYTES];
         assert_eq!(program_read(&image, &mut cells), Ok(()));
@@ -87,8 +87,8 @@ fn reader_and_writer_put_15_last() {
         (&cells_of(&f())[..], 155, 15),
         (&cells_of(&f()), 157, 15),
         (&long, 156, 15),
-        (&long[..8 * 815], 156, 15),
-        (&long[..8 * 814], 156, 8),
+        (&long[..8 * 816], 156, 15),
+        (&long[..8 * 815], 156, 8),
         (&bad(), 155, 8),
     ] {
         let mut image = vec![0xa5; length];
@@ -106,7 +106,8 @@ fn start_puts_its_questions_in_order() {
         assert!(answer.is_ok() || state == vec![0xa5; length]);
         answer.err().unwrap_or(0)
     };
-    assert_eq!(answer(&bad()[1..], 3, 7, &[], &MANY, 0), 4);
+    assert_eq!(answer(&bad()[1..], 3, 7, &[], &MANY, 0), 3);
+    assert_eq!(answer(&bad()[..23], 3, 7, &[], &MANY, 0), 4);
     assert_eq!(answer(&bad(), 3, 7, &[], &MANY, 0), 8);
     assert_eq!(answer(&good, 3, 7, &[], &MANY, 0), 11);
     assert_eq!(answer(&good, 2, 7, &[], &MANY, 0), 12);
@@ -120,7 +121,7 @@ fn start_puts_its_questions_in_order() {
     // 4,096 words and a part of one.
     assert_eq!(answer(&good, 2, 8, &ZEROS, &MANY[8..], right), 15);
     assert_eq!(answer(&good, 2, 8, &[0; 135], &[], right), 15);
-    assert_eq!(answer(&good[..8 * 815], 2, 8, &ZEROS, &[], right), 15);
+    assert_eq!(answer(&good[..8 * 816], 2, 8, &ZEROS, &[], right), 15);
     for length in [0, right - 8, right - 1, right + 1, right + 8] {
         assert_eq!(answer(&good, 2, 8, &ZEROS, &[], length), 15);
     }
@@ -141,8 +142,9 @@ fn pick_puts_its_questions_in_order() {
     assert_eq!(pick_answer(&bad(), &MANY, 9, &damaged[1..]), 8);
     assert_eq!(pick_answer(&good, &MANY, 9, &damaged[1..]), 14);
     assert_eq!(pick_answer(&good, &MANY[8..], 9, &damaged), 15);
-    assert_eq!(pick_answer(&good[8..], &[], 9, &state), 4);
-    assert_eq!(pick_answer(&good[..8 * 815], &[], 9, &damaged), 15);
+    assert_eq!(pick_answer(&good[8..], &[], 9, &state), 3);
+    assert_eq!(pick_answer(&good[..16], &[], 9, &state), 4);
+    assert_eq!(pick_answer(&good[..8 * 816], &[], 9, &damaged), 15);
     // 15 before 20, whatever the state's bytes are.
     assert_eq!(pick_answer(&good, &[], 9, &damaged[..8]), 15);
     assert_eq!(pick_answer(&good, &[], 9, &[]), 15);
@@ -176,6 +178,21 @@ fn run_puts_a_picks_questions_up_to_20() {
     }
     assert_eq!(run_answer(&good, &[], &damaged, 424), 20);
     assert_eq!(run_answer(&good, &[], &state, 424), 0);
+}
+
+#[test]
+fn every_call_that_is_lent_a_program_asks_for_its_version_first() {
+    let state = started(&f(), 2, 4);
+    for version in [0, 3, 65_535, 65_536 + 1, (1 << 32) + 2, u64::MAX] {
+        // No blocks either, which is question 4.
+        let wrong = with(with(cells_of(&f()), 0, version), 1, 0);
+        assert_eq!(program_write(&wrong, &mut [0; 156]), Err(3));
+        assert_eq!(start(&wrong, 3, 7, &[], &MANY, &mut []), Err(3));
+        assert_eq!(pick_answer(&wrong, &MANY, 9, &[]), 3);
+        assert_eq!(run_answer(&wrong, &MANY, &[], 0), 3);
+        let none = with(cells_of(&f()), 1, 0);
+        assert_eq!(pick_answer(&none, &MANY, 9, &state), 4);
+    }
 }
 
 /// F by picks, and by runs of one pick each that begin at slot 0.

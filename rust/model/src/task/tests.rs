@@ -3,7 +3,8 @@
 use super::*;
 use crate::image::Block;
 use crate::opcode::*;
-use crate::sample::{instruction, program, Operand, HALT, PLAIN as BLOCK};
+use crate::sample::{instruction, pop, push, second, Operand, HALT, PLAIN as BLOCK};
+use crate::STACK;
 use Operand::{Int, Lab, Reg};
 
 /// The blocks of the program that an instruction is tried in.
@@ -52,7 +53,7 @@ fn program_with(tried: Instruction) -> Program {
         label: HANDLER,
         ..BLOCK
     };
-    program(&[
+    second(&[
         (BLOCK, &[tried, HALT]),
         (BLOCK, &[HALT]),
         (ready, &[HALT]),
@@ -64,7 +65,7 @@ fn program_with(tried: Instruction) -> Program {
 
 fn issue_with(task: &mut Task, tried: Instruction, interval: u16) -> Step {
     let program = program_with(tried);
-    task.step(Surroundings {
+    task.step(&Surroundings {
         program: &program,
         words: &WORDS,
         interval,
@@ -77,7 +78,11 @@ fn issue(task: &mut Task, tried: Instruction) -> Step {
 
 /// The fault of an instruction on a fresh task of this depth, 0 if there is none.
 fn fault_at(depth: usize, tried: Instruction) -> u8 {
-    match issue(&mut task(depth), tried) {
+    fault_of(issue(&mut task(depth), tried))
+}
+
+fn fault_of(step: Step) -> u8 {
+    match step {
         Step::Fault(number) => number,
         _ => 0,
     }
@@ -320,6 +325,55 @@ fn a_record_fits_when_all_forks_beyond_its_depth_belong_to_it() {
     assert!(task.fits(outer));
 }
 
+/// A task with so many integers on its stack, the last of them 0.
+fn stacked(depth: usize, height: usize) -> Task {
+    let mut task = task(depth);
+    for left in (0..height).rev() {
+        assert_eq!(task.stack.push(Value::Int(left as i64)), Ok(()));
+    }
+    task
+}
+
+#[test]
+fn push_takes_any_value_and_pop_gives_it_back() {
+    for (v, value) in [
+        (Int(i64::MIN), Value::Int(i64::MIN)),
+        (Lab(READY), Value::Label(READY)),
+        (Reg(LABEL), Value::Label(PLAIN)),
+        (Reg(DEEPER_RECORD), Value::Record(record(TARGET, 3))),
+    ] {
+        let before = stacked(2, 3);
+        let mut task = before.clone();
+        assert_eq!(issue(&mut task, push(v)), Step::Onward);
+        assert_eq!((task.pc, task.counter, task.span), (1, 1, 1));
+        assert_eq!(task.stack.values().last(), Some(&value));
+        assert_eq!(task.registers, before.registers);
+        task.pc = 0;
+        assert_eq!(issue(&mut task, pop(9)), Step::Onward);
+        assert_eq!((task.pc, task.counter, task.span), (1, 2, 2));
+        assert_eq!((task.registers[9], &task.stack), (value, &before.stack));
+    }
+}
+
+#[test]
+fn a_stack_holds_32_values() {
+    for depth in 0..=6 {
+        for height in 0..=STACK {
+            let mut task = stacked(depth, height);
+            let expected = if height == STACK { 42 } else { 0 };
+            assert_eq!(fault_of(issue(&mut task, push(Int(5)))), expected);
+            let after = if height == STACK { 0 } else { height + 1 };
+            assert_eq!(task.stack.height(), after);
+
+            let mut task = stacked(depth, height);
+            let expected = if height == 0 { 43 } else { 0 };
+            assert_eq!(fault_of(issue(&mut task, pop(3))), expected);
+            assert_eq!(task.stack.height(), height.saturating_sub(1));
+            assert_eq!(task.registers[3], Value::Int(0));
+        }
+    }
+}
+
 #[test]
 fn halt_in_a_side_is_a_fault() {
     assert_eq!(issue(&mut task(0), HALT), Step::Halt);
@@ -383,11 +437,12 @@ fn every_instruction_counts_and_a_fault_leaves_zeros() {
     issue(&mut moved, instruction(MOVE, 0, 0, Int(1)));
     assert_eq!((moved.counter, moved.span), (1, 1));
 
-    let mut faulted = task(2);
+    let mut faulted = stacked(2, 4);
     faulted.counter = 5;
     faulted.span = 9;
     issue(&mut faulted, instruction(DIVIDE, 0, 0, Int(0)));
     assert_eq!((faulted.counter, faulted.span), (6, 10));
     assert_eq!(faulted.registers, [Value::Int(0); 16]);
+    assert_eq!(faulted.stack.height(), 0);
     assert_eq!((faulted.depth(), faulted.places), (2, 8));
 }

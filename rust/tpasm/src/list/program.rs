@@ -3,7 +3,7 @@
 use super::line::Line;
 use crate::names::Names;
 use crate::notation::{self, Form, INTEGER, LABEL, POLICIES, REGISTER};
-use model::{Block, Instruction, Program, BLOCK_BYTES, HEADER_BYTES, INSTRUCTION_BYTES};
+use model::{block_bytes, Block, Instruction, Program, HEADER_BYTES, INSTRUCTION_BYTES, MARK};
 use std::borrow::Cow;
 
 /// How many blocks and instructions there are, in words.
@@ -19,14 +19,21 @@ pub fn counts(program: &Program) -> String {
     )
 }
 
+/// The version, of an image that stands in the file at `at`.
+pub fn version_line(program: &Program, at: usize) -> Line {
+    let text = format!("version {}", program.version);
+    Line::at(text, "", at + MARK.len(), &program.version.to_le_bytes())
+}
+
 /// The image of the program stands in the file at `at`.
 pub fn lines(program: &Program, image: &[u8], at: usize) -> Vec<Line> {
     let names = Names::numbered(program.blocks.len());
-    let blocks_end = HEADER_BYTES + BLOCK_BYTES * program.blocks.len();
+    let block_bytes = block_bytes(program.version);
+    let blocks_end = HEADER_BYTES + block_bytes * program.blocks.len();
     let record = |offset: usize, length: usize| (at + offset, &image[offset..offset + length]);
     let mut lines = Vec::new();
     for (number, block) in program.blocks.iter().enumerate() {
-        let (offset, bytes) = record(HEADER_BYTES + BLOCK_BYTES * number, BLOCK_BYTES);
+        let (offset, bytes) = record(HEADER_BYTES + block_bytes * number, block_bytes);
         let text = format!("{}:{}", names.block(number), annotation(block));
         lines.push(Line::at(text, &format!("block {}", number), offset, bytes));
         let first = usize::from(block.first);
@@ -75,6 +82,7 @@ pub fn written(instruction: &Instruction, names: &Names) -> String {
         Form::Result => format!("{} := {} {}", r, row.text, v),
         Form::Two => format!("{} {}, {}", row.text, s, v),
         Form::One => format!("{} {}", row.text, v),
+        Form::Into => format!("{} {}", row.text, r),
         Form::Alone => row.text.to_string(),
     }
 }

@@ -53,7 +53,7 @@ fn a_refused_job_in_words() {
     );
     assert_eq!(
         refused(5, 9),
-        "tpasm: bad.job: refused 3: the image's version is not 1\n"
+        "tpasm: bad.job: refused 3: the image's version is not 1 or 2\n"
     );
     assert_eq!(
         refused(settings, 3),

@@ -79,11 +79,27 @@ fn a_target_twice() {
     );
 }
 
+/// An annotation with pairs for so many targets.
+fn with_pairs(count: usize) -> String {
+    let pairs: Vec<String> = (0..count).map(|n| format!("r0 -> r{}", n)).collect();
+    annotated(&format!("[jtppt assoc; {}; comb]", pairs.join(", ")))
+}
+
 #[test]
-fn five_pairs() {
+fn nine_pairs() {
+    for count in 9..12 {
+        refused(
+            &with_pairs(count),
+            "1:101: expected at most 8 pairs, found one more",
+        );
+    }
+}
+
+#[test]
+fn five_pairs_in_version_1() {
     refused(
-        &annotated("[jtppt assoc; r0 -> r1, r0 -> r2, r0 -> r3, r0 -> r4, r0 -> r5; comb]"),
-        "1:61: expected at most 4 pairs, found one more",
+        &format!("\nversion 1\n{}", with_pairs(5)),
+        "3:61: expected at most 4 pairs in version 1, as line 2 says, found one more",
     );
 }
 

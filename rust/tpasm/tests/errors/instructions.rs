@@ -122,3 +122,54 @@ fn two_in_one() {
         "2:17: expected ';' or the end of the line, found '+'",
     );
 }
+
+#[test]
+fn push_and_pop() {
+    let operand = "a register, a label or an integer";
+    refused(
+        &block("push"),
+        &format!("2:7: expected {}, found the end of the line", operand),
+    );
+    refused(
+        &block("push none"),
+        &format!(
+            "2:8: expected {}, found 'none', which names no register and no block",
+            operand
+        ),
+    );
+    refused(
+        &block("pop"),
+        "2:6: expected a register, found the end of the line",
+    );
+    refused(&block("pop 3"), "2:7: expected a register, found '3'");
+    refused(
+        &block("pop main"),
+        "2:7: expected a register, found the label 'main'",
+    );
+    refused(
+        &block("pop r1, r2"),
+        "2:9: expected ';' or the end of the line, found ','",
+    );
+    // They end no block.
+    refused(
+        "main:\n  pop r1\n",
+        "3:1: expected 'jump', 'halt' or 'join' to end block 'main', found the end of the file",
+    );
+}
+
+#[test]
+fn push_and_pop_in_version_1() {
+    for instruction in ["push 1", "pop r1"] {
+        let word = instruction.split(' ').next().unwrap();
+        refused(
+            &format!(
+                "// for a card of the first kind\nversion 1\n{}",
+                block(instruction)
+            ),
+            &format!(
+                "4:3: expected an instruction of version 1, as line 2 says, found '{}'",
+                word
+            ),
+        );
+    }
+}

@@ -7,7 +7,7 @@ use tpasm::assemble;
 fn an_unknown_setting() {
     refused(
         "place 2\n",
-        "1:1: expected a setting (reg, places, interval, set or words) or a label and ':', \
+        "1:1: expected a setting (reg, version, places, interval, set or words) or a label and ':', \
          found 'place'",
     );
 }
@@ -60,6 +60,25 @@ fn interval() {
             &format!("1:10: expected 0 or 8 to 65535, found '{}'", number),
         );
     }
+}
+
+#[test]
+fn version() {
+    for number in ["0", "3", "-1", "65537"] {
+        refused(
+            &format!("version {}", number),
+            &format!("1:9: expected 1 or 2, found '{}'", number),
+        );
+    }
+    refused(
+        "version\n",
+        "1:8: expected 1 or 2, found the end of the line",
+    );
+    refused("version two\n", "1:9: expected 1 or 2, found 'two'");
+    refused(
+        "version 1; version 2\n",
+        "1:12: expected one 'version' line, found a second",
+    );
 }
 
 #[test]

@@ -78,7 +78,7 @@ fn comments() {
     shows(
         "/* The sum\n   of: all; == */\nmain:\n  halt\n",
         "\
-x:1:1: error: expected a setting (reg, places, interval, set or words) or a label and ':', found '/*'
+x:1:1: error: expected a setting (reg, version, places, interval, set or words) or a label and ':', found '/*'
     1 | /* The sum
       | ^^
       hint: a comment begins with '//' and ends with its line
@@ -152,6 +152,53 @@ fn assignments() {
         "18: error: expected an operator, ';' or the end of the line, found '\u{2212}'
       |                  ^
       hint: write '-'
+",
+    );
+}
+
+#[test]
+fn subroutines() {
+    instruction_shows(
+        "call loop",
+        "3: error: no such instruction: 'call'
+      |   ^^^^
+      hint: push the label to come back to and jump: 'push back; jump LABEL'
+",
+    );
+    instruction_shows(
+        "ret",
+        "3: error: no such instruction: 'ret'
+      |   ^^^
+      hint: write 'pop r0; jump r0' in a subroutine, 'join r0' in a side of a fork, 'halt' at the end
+",
+    );
+    instruction_shows(
+        "total := pop",
+        "12: error: expected a register, a label, an integer, 'word' or 'jralloc', found the instruction 'pop'
+      |            ^^^
+      hint: a value is popped with 'pop r0'
+",
+    );
+}
+
+#[test]
+fn a_version_that_is_too_low() {
+    shows(
+        "version 1\nmain:\n  push main\n  halt\n",
+        "\
+x:3:3: error: expected an instruction of version 1, as line 1 says, found 'push'
+    3 |   push main
+      |   ^^^^
+      hint: 'push' and 'pop' are instructions of version 2: write 'version 2' in line 1, or leave that line out
+",
+    );
+    shows(
+        "version 1\nx: [jtppt assoc; r0->r0,r0->r1,r0->r2,r0->r3,r0->r4; x] halt\n",
+        "\
+x:2:46: error: expected at most 4 pairs in version 1, as line 1 says, found one more
+    2 | x: [jtppt assoc; r0->r0,r0->r1,r0->r2,r0->r3,r0->r4; x] halt
+      |                                              ^^
+      hint: up to 8 are of version 2: write 'version 2' in line 1, or leave that line out
 ",
     );
 }

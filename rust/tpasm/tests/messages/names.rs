@@ -70,7 +70,7 @@ fn words() {
     shows(
         "place 2\nmain: halt\n",
         "\
-x:1:1: error: expected a setting (reg, places, interval, set or words) or a label and ':', \
+x:1:1: error: expected a setting (reg, version, places, interval, set or words) or a label and ':', \
 found 'place'
     1 | place 2
       | ^^^^^

@@ -111,7 +111,7 @@ fn instructions_before_the_first_label() {
     shows(
         source,
         "\
-x:2:3: error: expected a setting (reg, places, interval, set or words) or a label and ':', \
+x:2:3: error: expected a setting (reg, version, places, interval, set or words) or a label and ':', \
 found 'r0'
     2 |   r0 := 1
       |   ^^
@@ -146,7 +146,7 @@ fn too_many_is_said_once() {
     errors_in(&blocks, &[129]);
     let code = "r0 := 1\n".repeat(1100);
     errors_in(&format!("x:\n{}halt\n", code), &[1026]);
-    let pairs: Vec<String> = (1..9).map(|n| format!("r0 -> r{}", n)).collect();
+    let pairs: Vec<String> = (1..13).map(|n| format!("r0 -> r{}", n)).collect();
     errors_in(
         &format!("x: [jtppt assoc; {}; x]\n  halt\n", pairs.join(", ")),
         &[1],

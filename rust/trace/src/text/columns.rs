@@ -85,7 +85,10 @@ impl Observer for Columns<'_, '_> {
         let cells: Vec<String> = cells.collect();
         let passed = self.shown.faults.note(pick);
         let mut what = match pick.effect {
-            Effect::Onward(_) | Effect::Entered { .. } => String::new(),
+            Effect::Onward(_)
+            | Effect::Pushed { .. }
+            | Effect::Popped { .. }
+            | Effect::Entered { .. } => String::new(),
             _ => words(subject, pick, &passed),
         };
         if self.is_narrow {

@@ -22,17 +22,22 @@ fn a_damaged_job_is_refused_in_words() {
             b'C',
             "refused 2: the image does not begin with the letters TPB",
         ),
-        (5, 7, "refused 3: the image's version is not 1"),
+        (5, 7, "refused 3: the image's version is not 1 or 2"),
         (
             7,
             3,
             "refused 5: the image's length does not fit its blocks and instructions",
         ),
-        (32, 3, "refused 7: a block's annotation is not as laid out"),
+        (
+            32,
+            3,
+            "refused 7: a block's annotation is not as its version lays it out",
+        ),
         (
             50,
             0,
-            "refused 8: an instruction's opcode, registers, label or zeros are not as laid out",
+            "refused 8: an instruction's opcode, registers, label or zeros are not as its version lays \
+             them out",
         ),
         (
             158,

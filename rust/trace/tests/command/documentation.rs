@@ -26,6 +26,13 @@ fn the_trace_of_f() {
 }
 
 #[test]
+fn the_calls() {
+    let part = ["--from", "9", "--to", "14"];
+    let trace = printed(&[&["trace", "examples/calls/calls.tpal"], &part[..]].concat());
+    has(&lines(&trace, 7));
+}
+
+#[test]
 fn the_fault() {
     let trace = printed(&["trace", "examples/two-faults/two-faults.tpal"]);
     has(&lines(&trace, 5));

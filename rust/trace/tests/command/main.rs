@@ -7,6 +7,7 @@ mod faults;
 mod orders;
 mod pictures;
 mod profiles;
+mod stacks;
 mod traces;
 
 use checks::run_program::at_the_root;

@@ -5,7 +5,7 @@ use native.Mathlib.Omega.{arith}
 use Rattle.image.specs.declared.Instruction.{Instruction}
 use Rattle.image.specs.Layout.{blockCount}
 use Rattle.image.proofs.Accepted.{accepted}
-use Rattle.arms.proofs.CodeLaws.{long1, long2, long3, decodes-one}
+use Rattle.arms.proofs.CodeLaws.{opcode-known, long1, long2, long3, decodes-one}
 use borrow.Author.Needs.{needs}
 use Rattle.arms.proofs.decoding.decode_one.Statement.{statement}
 use Rattle.arms.proofs.decoding.decode_one.Tie as tie
@@ -19,8 +19,8 @@ arm-of-requires c κs =
     let cells = a .args .cells .now in
     let i = accepted cells (a .pre .0) .instruction (a .args .i) (a .pre .1) in
     let z =
-    subst (λ (y : Instruction). (y .opcode ≤ 15) × (y .kind ≤ 3) × (y .kind ≡ 2 → y .operand < blockCount cells)) (sym (c .instruction-of .ensures))
-    (i .opcode-most, i .kind-known, i .label-below) in
+    subst (λ (y : Instruction). (y .opcode ≤ 17) × (y .kind ≤ 3) × (y .kind ≡ 2 → y .operand < blockCount cells)) (sym (c .instruction-of .ensures))
+    (opcode-known i, i .kind-known, i .label-below) in
     (a .pre .0, z .0, z .1, z .2)
 
 mul-at : tie.Need-mul-at

@@ -34,7 +34,7 @@ turn-requires c κs =
     let l = c .before .before .before .loop in
     let i = l .inv .1 in
     let f = formed-is (programOf (a .args .cells .now)) (a .pre .rank) (a .pre .height) _
-    (i .keeps-formed (a .pre .forks) (a .pre .span) (a .pre .rank) (a .pre .height) (a .pre .room) (a .pre .is-formed)) in
+    (i .keeps-formed (a .pre .forks) (a .pre .span) (a .pre .stacked) (a .pre .rank) (a .pre .height) (a .pre .room) (a .pre .is-formed)) in
     record {
       accepted-program = a .pre .accepted-program;
       decodes = a .pre .decodes;

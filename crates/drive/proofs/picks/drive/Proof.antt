@@ -1,13 +1,14 @@
 -- `drive` meets its contract: at the loop's head the course stands where the state is, whichever course it is. What each turn does is in
 -- `proofs/Planning.antt`, a statement for each kind; here the code's places are tied to it.
-use mathlib.Core.Path.{_≡_, refl, sym, ap, ap₂, _∙_, subst⁻¹}
+use mathlib.Core.Path.{_≡_, refl, sym, ap, ap₂, _∙_, subst, subst⁻¹}
 use mathlib.Core.Logic.{inl, inr}
 use mathlib.Core.Bool.{Bool, true, false, cond, not, _&&_}
-use mathlib.Core.List.{List}
+use mathlib.Core.List.{List, [], _∷_}
 use Prim.Native.Nat.{ℕ, _+_, _-_, _*_, _/_, _%_, _<_, _≤_}
 use lib.Dec.{ltb}
 use lib.ListN.{length, getD, set, length-set}
-use lib.Seq.{getD-set-same, getD-set-other}
+use types.Run.{OneOf}
+use denote.Enum.Declared.{tagOf}
 use borrow.Author.Tests.{ltb-true, lt-ltb, le-ltb, not-true, not-false}
 use borrow.Author.Needs.{needs}
 use native.Mathlib.Omega.{arith}
@@ -18,10 +19,13 @@ use Rattle.agreement.specs.Slots.{due}
 use Rattle.task.specs.declared.Register.{Register}
 use Rattle.task.specs.declared.Task.{Task}
 use Rattle.task.specs.declared.Value.{Value}
-use Rattle.task.specs.Frames.{running, isRunning, noTask, zeros, zeroRegister, workLimit}
-use Rattle.task.specs.Step.{copied, movedTo}
+use Rattle.task.specs.declared.Kind.{Kind}
+use Rattle.task.specs.declared.Kind.the-variants.{Faults, Forks}
+use Rattle.task.specs.Frames.{running, isRunning, zeros, zeroRegister, stackLength, workLimit}
+use Rattle.task.specs.Step.{copied, movedTo, withHeight}
 use Rattle.task.proofs.Copying.{copies-first, copies-none}
 use Rattle.task.proofs.Executing.{after}
+use Rattle.task.proofs.Kind.{the-type}
 use Rattle.task.proofs.Sizes.{length-by}
 use Rattle.task.proofs.StretchLaws.{length-reads}
 use Rattle.drive.specs.declared.State.{State}
@@ -32,28 +36,33 @@ use Rattle.drive.specs.Ending.{isEnd, jobEnded}
 use Rattle.turns.specs.declared.course.Position.{Position}
 use Rattle.turns.specs.Stretches.{nextStretch, lanesOf, roundsOf}
 use Rattle.turns.specs.Walk.{pickedOn, stoppedAt, width}
-use Rattle.turns.specs.Moving.{forkMoves}
-use Rattle.drive.proofs.Copying.{filling}
-use Rattle.drive.proofs.InPlace.{withTaskAt, storedAt}
+use Rattle.turns.specs.Kinds.{stackNo}
+use Rattle.turns.specs.Moving.{faults, forkMoves}
+use Rattle.drive.proofs.Copying.{filling, dropping, drop-none, drop-next, drop-ends}
+use Rattle.drive.proofs.InPlace.{withArrays, withTaskAt, storedAt}
 use Rattle.drive.proofs.Intervals.{interval-fits}
-use Rattle.drive.proofs.Issuing.{Fetched, stores-issued, goes-issued}
+use Rattle.drive.proofs.Issuing.{Fetched, stores-issued, goes-issued, bankAfter, stacks-issued}
 use Rattle.drive.proofs.Moving.{filling-none, filling-all, zero-next, copy-next, placed, placed-none, placed-next}
 use Rattle.drive.proofs.PlanLaws.{pairedAt, clearedAt, copiedAt, moved}
-use Rattle.drive.proofs.Planning.{ahead, Planned, then-less, then-grows, less-with, planned-below, planned-as, join-planned, end-planned, fork-room, fork-planned, next-at, next-ends, next-less}
+use Rattle.drive.proofs.Planning.{ahead, Planned, then-less, then-grows, less-with, planned-below, planned-as, join-planned, EndsBy}
+use Rattle.drive.proofs.Planning.{ends-by, refused-by, end-planned, stacked-on, fork-room, fork-planned, next-at, next-ends, next-less}
 use Rattle.drive.proofs.Positions.{Walks, Goes, goes, Kept, picked-kept, Comes}
 use Rattle.drive.proofs.RowLaws.{Gathers, Looks, looks, unit-most, gather-begins, gather-passes, gather-takes, gather-ends}
 use Rattle.drive.proofs.Readiness.{its-instruction, s-small, r-small, label-small, left-read, right-read, ready}
 use Rattle.drive.proofs.SettleLaws.{sides-decide, without-room}
-use Rattle.drive.proofs.SettleSafety.{due-joinable}
+use Rattle.drive.proofs.SettleSafety.{due-joinable, fits-safe}
 use Rattle.drive.proofs.ShapeLaws.{shape-allowed, shape-fits}
 use Rattle.drive.proofs.Owning.{own-allowed, own-fits, places-most}
 use Rattle.drive.proofs.Covering.{width-inside, width-some, width-others, width-quiet}
+use Rattle.drive.proofs.SlotLaws.{task-runs}
+use Rattle.drive.proofs.Stacking.{Stacked}
 use Rattle.drive.proofs.Turning.{Turns, none-due, at-head, stops, Leads, leads-by, leads-on, Stopped}
 use Rattle.drive.proofs.Walking.{Given, given, GivenAllowed, result, mostStretches, At, at-first, lanes-few, tile, comes-next}
 use Rattle.drive.proofs.picks.drive.Statement.{statement}
 use Rattle.drive.proofs.picks.drive.Tie as tie
 
--- ---- invariants and measures: the walk (2), the looks for a row (3), pairs (4), registers cleared (5) and copied (6), and the turns
+-- ---- invariants and measures: the walk (2), the looks for a row (3), pairs (4), registers cleared (5), a stack's values dropped (6), registers
+-- copied (7), and the turns
 
 abbrev Inv-loop2 : tie.InvT-loop2
 Inv-loop2 cells words order course m₀ first p₀ due side over stopped₀ e₀ m p stopped e =
@@ -83,10 +92,17 @@ abbrev μ-loop5 : tie.MeasureT-loop5
 μ-loop5 cells words order course m₀ first p due side over plan from to pairs packed i₀ m i = 16 - i
 
 abbrev Inv-loop6 : tie.InvT-loop6
-Inv-loop6 cells words order course m₀ first p due side over from to pairs packed i₀ m i = (i ≤ 16) × (m ≡ filling m₀ to (at m₀ from .registers) i)
+Inv-loop6 cells words order course m₀ first p due side over plan from to pairs packed i dropped left₀ m left =
+    (left ≤ left₀) × (m ≡ dropping m₀ dropped left₀ left)
 
 abbrev μ-loop6 : tie.MeasureT-loop6
-μ-loop6 cells words order course m₀ first p due side over from to pairs packed i₀ m i = 16 - i
+μ-loop6 cells words order course m₀ first p due side over plan from to pairs packed i dropped left₀ m left = left
+
+abbrev Inv-loop7 : tie.InvT-loop7
+Inv-loop7 cells words order course m₀ first p due side over from to pairs packed i₀ m i = (i ≤ 16) × (m ≡ filling m₀ to (at m₀ from .registers) i)
+
+abbrev μ-loop7 : tie.MeasureT-loop7
+μ-loop7 cells words order course m₀ first p due side over from to pairs packed i₀ m i = 16 - i
 
 abbrev Inv-loop : tie.InvT-loop
 Inv-loop cells words order course m₀ first p₀ due₀ side₀ over₀ m p due side over =
@@ -100,8 +116,8 @@ abbrev μ-loop : tie.MeasureT-loop
 
 -- what a place of the code, or a fact that it needs, is with these
 abbrev Here : (tie.InvT-loop2 → tie.MeasureT-loop2 → tie.InvT-loop3 → tie.MeasureT-loop3 → tie.InvT-loop4 → tie.MeasureT-loop4 → tie.InvT-loop5
-    → tie.MeasureT-loop5 → tie.InvT-loop6 → tie.MeasureT-loop6 → tie.InvT-loop → tie.MeasureT-loop → Type 0) → Type 0
-Here need = need Inv-loop2 μ-loop2 Inv-loop3 μ-loop3 Inv-loop4 μ-loop4 Inv-loop5 μ-loop5 Inv-loop6 μ-loop6 Inv-loop μ-loop
+    → tie.MeasureT-loop5 → tie.InvT-loop6 → tie.MeasureT-loop6 → tie.InvT-loop7 → tie.MeasureT-loop7 → tie.InvT-loop → tie.MeasureT-loop → Type 0) → Type 0
+Here need = need Inv-loop2 μ-loop2 Inv-loop3 μ-loop3 Inv-loop4 μ-loop4 Inv-loop5 μ-loop5 Inv-loop6 μ-loop6 Inv-loop7 μ-loop7 Inv-loop μ-loop
 
 -- ---- the loop's head
 
@@ -350,12 +366,6 @@ ran-work c = elim (c .if7 .came) [ inl t ↦ ap (λ (n : State). n .work) (t .2)
 ran-places : (c : Ran) → c .if7 .m .places ≡ walk-n c .loop2 .m .places
 ran-places c = elim (c .if7 .came) [ inl t ↦ ap (λ (n : State). n .places) (t .2) | inr t ↦ ap (λ (n : State). n .places) (t .1) ]
 
--- the other slots are as they were
-ran-others : (c : Ran) (i : ℕ) → (i ≡ walk-n c .loop2 .p .slot → ⊥) → running (at (ran-state c) i) ≡ running (at (walk-n c .loop2 .m) i)
-ran-others c i other =
-    ap (λ (l : List Task). isRunning (getD l i noTask .status)) (ran-tasks c)
-    ∙ ap (λ (t : Task). isRunning (t .status)) (getD-set-other (walk-n c .loop2 .m .tasks) (walk-n c .loop2 .p .slot) i _ noTask other)
-
 ran-few : (c : Ran) → at (walk-n c .loop2 .m) (walk-n c .loop2 .p .slot) .task .places ≤ 64
 ran-few c =
     let w = walk-n c in
@@ -370,13 +380,14 @@ ran-next c =
     c .picked-on .ensures
     ∙ ap (λ (n : ℕ). pickedOn n (ran-state (c .before) .work) (at (w .loop2 .m) (w .loop2 .p .slot) .task .places) (w .loop2 .p)) (ran-places (c .before))
 
--- the task runs on
-ran-still : (c : Ran) → running (at (ran-state c) (walk-n c .loop2 .p .slot)) ≡ true
+-- the task runs on, and the other slots are as they were
+ran-still : (c : Ran) → let w = walk-n c in
+    (running (at (ran-state c) (w .loop2 .p .slot)) ≡ true)
+    × ((i : ℕ) → (i ≡ w .loop2 .p .slot → ⊥) → running (at (ran-state c) i) ≡ running (at (w .loop2 .m) i))
 ran-still c =
     let w = walk-n c in
-    ap (λ (l : List Task). isRunning (getD l (w .loop2 .p .slot) noTask .status)) (ran-tasks c)
-    ∙ ap (λ (t : Task). isRunning (t .status)) (getD-set-same (w .loop2 .m .tasks) (w .loop2 .p .slot) _ noTask (omega (arith, slot-inside w, at-w w .fits .sized .of-tasks)))
-    ∙ ap (λ (t : Task). isRunning (t .status)) (ran-record c) ∙ runs-at (runs-of (done-r c))
+    let runs = ap (λ (t : Task). isRunning (t .status)) (ran-record c) ∙ runs-at (runs-of (done-r c)) in
+    task-runs (w .loop2 .m) (ran-state c) (w .loop2 .p .slot) (c .before .before .ran-on .result) (at-w w .fits .sized .of-tasks) (slot-inside w) (ran-tasks c) runs
 
 -- ---- the walk is over
 
@@ -501,31 +512,196 @@ halt-few c =
     let h = head-of (turn-w w) in
     omega (arith, tile (given-of h) (allowed-of h) (at-w w) (stopped-at c .runs-there) .inside, few-places w)
 
+halt-stacked : (c : Halting) → Stacked (at (walk-h c .loop2 .m) (walk-h c .loop2 .p .slot))
+halt-stacked c =
+    let w = walk-h c in
+    fits-safe (allowed-of (head-of (turn-w w))) (w .loop2 .m) (at-w w .fits) (w .loop2 .p .slot) (slot-inside w) .stacked
+
+-- ---- a push or a pop, where the stack's question is answered with yes
+
+abbrev Stacks : Type 0
+Stacks = Here tie.Then12
+
+abbrev halt-k : Stacks → Halting
+halt-k c = c .before .before .before .before .before .before
+
+asked-at : (c : Stacks) → let w = walk-h (halt-k c) in
+    stackNo (c .before .before .does-pop .result) (at (w .loop2 .m) (w .loop2 .p .slot) .task .height) ≡ 0
+asked-at c = sym (c .before .ask-stack .ensures) ∙ c .if12 .taken
+
+-- its entry
+abbrev Entering : Type 0
+Entering = Here tie.After-entry-of
+
+-- both are in the state
+entry-inside : (c : Entering) → (walk-h (halt-k (c .before)) .loop2 .p .slot < 64) × (c .entry-of .result < stackLength)
+entry-inside c = (slot-inside (walk-h (halt-k (c .before))), c .entry-of .ensures .1)
+
+-- the register that a pop names
+abbrev Popping : Type 0
+Popping = Here tie.After-instruction-of2
+
+abbrev halt-p : Popping → Halting
+halt-p c = halt-k (c .before .before .before .before .before .before)
+
+popped-inside : (c : Popping) → (walk-h (halt-p c) .loop2 .p .slot < 64) × (c .instruction-of2 .result .r ≤ 15)
+popped-inside c =
+    let w = walk-h (halt-p c) in
+    let h = head-of (turn-w w) in (
+      slot-inside w,
+      r-small (allowed-of h) (given-of h .words) (at-w w .fits) (below-g w) (stopped-at (halt-p c) .runs-there) (c .instruction-of2 .result) (c .instruction-of2 .ensures),
+    )
+
+-- the value is moved, and the register written
+abbrev Moved : Type 0
+Moved = Here tie.Joined13
+
+abbrev entering : Moved → Entering
+entering c = c .before .before .before
+
+abbrev halt-m : Moved → Halting
+halt-m c = halt-k (entering c .before)
+
+abbrev moved-bank : Moved → List Register → State
+moved-bank c bank =
+    let m = walk-h (halt-m c) .loop2 .m in
+    withArrays (ticked m) bank (set (m .stacks) (32 * walk-h (halt-m c) .loop2 .p .slot + entering c .entry-of .result) (c .before .holding2 .result)) (m .tasks)
+
+abbrev banked : Moved → List Register
+banked c =
+    let w = walk-h (halt-m c) in
+    let h = head-of (turn-w w) in
+    let s = stopped-at (halt-m c) in
+    bankAfter (own-allowed (at-w w .fits) (allowed-of h)) (own-fits (at-w w .fits)) (at-w w .slot-below) (s .runs-there) (s .fetched)
+    (entering c .before .before .before .does-pop .result) (entering c .entry-of .result)
+
+moved-is : (c : Moved) → c .if13 .m ≡ moved-bank c (banked c)
+moved-is c =
+    let w = walk-h (halt-m c) in
+    let m = w .loop2 .m in
+    let k = w .loop2 .p .slot in
+    let held = getD (m .stacks) (32 * k + entering c .entry-of .result) zeroRegister in
+    let stored : Instruction → List Register = λ x. set (m .bank) (16 * k + x .r) held in
+    let x = stopped-at (halt-m c) .fetched .instruction in
+    elim (c .if13 .came) [
+      | inl t ↦ t .3 ∙ ap (λ (y : Instruction). moved-bank c (stored y)) (t .2 .ensures ∙ sym x)
+          ∙ sym (ap (λ (b : Bool). moved-bank c (cond b (stored (stopped-at (halt-m c) .x)) (m .bank))) (t .0 .taken))
+      | inr t ↦ t .1 ∙ sym (ap (λ (b : Bool). moved-bank c (cond b (stored (stopped-at (halt-m c) .x)) (m .bank))) (t .0 .left))
+    ]
+
+-- and the record is
+abbrev Restacked : Type 0
+Restacked = Here tie.After-restacked
+
+abbrev restacked-state : Restacked → State
+restacked-state c =
+    let n = c .before .if13 .m in withArrays n (n .bank) (n .stacks) (set (n .tasks) (walk-h (halt-m (c .before)) .loop2 .p .slot) (c .restacked .result))
+
+restacked-issued : (c : Restacked) → let w = walk-h (halt-m (c .before)) in
+    let g = given-of (head-of (turn-w w)) in
+    restacked-state c ≡ issued (g .cells) (g .words) (w .loop2 .m) (w .loop2 .p .slot)
+restacked-issued c =
+    let e = entering (c .before) in
+    let x = halt-m (c .before) in
+    let w = walk-h x in
+    let h = head-of (turn-w w) in
+    let s = stopped-at x in
+    let asks = e .before .before .before in
+    let small = r-small (allowed-of h) (given-of h .words) (at-w w .fits) (below-g w) (s .runs-there) (s .x) (s .fetched .instruction) in
+    let stacks = sym (asks .before .before .before .does-stack .ensures) ∙ asks .before .before .if11 .taken in
+    ap (λ (n : State). withArrays n (n .bank) (n .stacks) (set (n .tasks) (w .loop2 .p .slot) (c .restacked .result))) (moved-is (c .before))
+    ∙ stacks-issued (own-allowed (at-w w .fits) (allowed-of h)) (own-fits (at-w w .fits)) (at-w w .slot-below) (s .runs-there) (s .fetched) stacks
+    (omega (arith, small)) (asks .does-pop .ensures) (asked-at (e .before)) (e .entry-of .ensures .0) (e .entry-of .ensures .1)
+    (c .before .before .holding2 .ensures) (c .restacked .ensures) refl
+
+abbrev Onward : Type 0
+Onward = Here tie.After-picked-on2
+
+-- the loop goes on as after a pick of the walk
+onward-at : (c : Onward) → let w = walk-h (halt-m (c .before .before)) in
+    let g = given-of (head-of (turn-w w)) in
+    let n = restacked-state (c .before) in
+    At g n (c .picked-on2 .result) × (ahead g n (c .picked-on2 .result) 0 < ahead g (w .loop2 .m) (w .loop2 .p) 0) × (g .state .work ≤ n .work)
+    × (n .work ≤ workLimit)
+onward-at c =
+    let r = c .before in
+    let x = halt-m (r .before) in
+    let w = walk-h x in
+    let h = head-of (turn-w w) in
+    let s = stopped-at x in
+    let there = moved-is (r .before) in
+    let next = c .picked-on2 .ensures
+    ∙ ap (λ (n : State). pickedOn (n .places) (restacked-state r .work) (at (w .loop2 .m) (w .loop2 .p .slot) .task .places) (w .loop2 .p)) there in
+    stacked-on (given-of h) (allowed-of h) (at-w w) s (restacked-issued r) (r .restacked .result)
+    (ap (λ (n : State). set (n .tasks) (w .loop2 .p .slot) (r .restacked .result)) there)
+    (ap (λ (t : Task). isRunning (t .status)) (r .restacked .ensures) ∙ s .runs-there) next
+
+-- ---- a fork, or an ended side
+
+-- with the kind and the number that the stack's question leaves
+abbrev Stopping : Type 0
+Stopping = Here tie.Joined11
+
+abbrev halt-s : Stopping → Halting
+halt-s c = c .before .before
+
+fork-kind : (c : Stopping) → c .if11 .kind ≡ Forks → walk-h (halt-s c) .loop2 .e .kind ≡ Forks
+fork-kind c is = elim (c .if11 .came) [
+  | inl t ↦ let z : _≡_ {A = ℕ} 1 0 = ap faults (sym (t .5) ∙ is) in absurd (omega arith)
+  | inr t ↦ sym (t .1) ∙ is
+]
+
+ends-at : (c : Stopping) → OneOf (0 ∷ 1 ∷ 2 ∷ 3 ∷ 4 ∷ 5 ∷ 6 ∷ []) (tagOf the-type (c .if11 .kind)) → let w = walk-h (halt-s c) in
+    EndsBy (given-of (head-of (turn-w w))) (allowed-of (head-of (turn-w w))) (at-w w) (stopped-at (halt-s c)) (c .if11 .kind) (c .if11 .fault)
+ends-at c no-fork =
+    let w = walk-h (halt-s c) in
+    let h = head-of (turn-w w) in
+    let s = stopped-at (halt-s c) in
+    let Ends = EndsBy (given-of h) (allowed-of h) (at-w w) s in
+    elim (c .if11 .came) [
+      | inl t ↦
+          let stacks = sym (c .before .does-stack .ensures) ∙ t .0 .taken in
+          let height = at (w .loop2 .m) (w .loop2 .p .slot) .task .height in
+          let number = t .3 .ensures ∙ ap (λ (b : Bool). stackNo b height) (t .2 .ensures) in
+          subst⁻¹ (λ (k : Kind). Ends k (c .if11 .fault)) (t .5)
+          (subst⁻¹ (λ (n : ℕ). Ends Faults n) (t .6 ∙ number)
+          (refused-by (given-of h) (allowed-of h) (at-w w) s stacks (λ z. t .4 .left (number ∙ z))))
+      | inr t ↦
+          let no-stack = sym (c .before .does-stack .ensures) ∙ t .0 .left in
+          subst⁻¹ (λ (k : Kind). Ends k (c .if11 .fault)) (t .1)
+          (subst⁻¹ (λ (n : ℕ). Ends (w .loop2 .e .kind) n) (t .2)
+          (ends-by (given-of h) (allowed-of h) (at-w w) s no-stack
+          (subst (λ (k : Kind). OneOf (0 ∷ 1 ∷ 2 ∷ 3 ∷ 4 ∷ 5 ∷ 6 ∷ []) (tagOf the-type k)) (t .1) no-fork)))
+    ]
+
 -- a fork: the child's slot is in the state
 abbrev Forking : Type 0
 Forking = Here tie.After-enum-told
 
-fork-at : (c : Forking) → let w = walk-h (c .before .before .before) in
+abbrev halt-f : Forking → Halting
+halt-f c = halt-s (c .before .before .before)
+
+fork-at : (c : Forking) → let w = walk-h (halt-f c) in
     let places = at (w .loop2 .m) (w .loop2 .p .slot) .task .places in
     (0 < places / 2) × (w .loop2 .p .slot + places / 2 < w .loop2 .m .places) × (at (w .loop2 .m) (w .loop2 .p .slot) .task .depth < 6)
 fork-at c =
-    let w = walk-h (c .before .before .before) in
+    let w = walk-h (halt-f c) in
     let h = head-of (turn-w w) in
-    fork-room (given-of h) (allowed-of h) (at-w w) (stopped-at (c .before .before .before)) (c .enum-told .given .1)
+    fork-room (given-of h) (allowed-of h) (at-w w) (stopped-at (halt-f c)) (fork-kind (c .before .before .before) (c .enum-told .given .1))
 
 -- both sides' slots, and their numbers
-fork-slots : (c : Forking) → let w = walk-h (c .before .before .before) in
+fork-slots : (c : Forking) → let w = walk-h (halt-f c) in
     let t = at (w .loop2 .m) (w .loop2 .p .slot) .task in
     (w .loop2 .p .slot + t .places / 2 < 64) × (t .depth < 6) × (w .loop2 .p .slot < 64)
 fork-slots c =
     let f = fork-at c in
-    let w = walk-h (c .before .before .before) in
+    let w = walk-h (halt-f c) in
     (omega (arith, f .1, few-places w), f .2, slot-inside w)
 
 -- ---- what a turn has planned
 
 abbrev tasksWith : State → ℕ → ℕ → Task → Task → State
-tasksWith m q c v t = record { places = m .places; interval = m .interval; work = m .work; bank = m .bank; tasks = set (set (m .tasks) c v) q t }
+tasksWith m q c v t = withArrays m (m .bank) (m .stacks) (set (set (m .tasks) c v) q t)
 
 abbrev Moving : Type 0
 Moving = Here tie.Joined1
@@ -535,8 +711,7 @@ walked-less : (w : Walk) → let h = head-of (turn-w w) in ahead (given-of h) (w
 walked-less w = omega (arith, w .loop2 .inv .0 .shorter, w .loop2 .inv .0 .begun-least, none-due-w w)
 
 abbrev sidesWritten : State → ℕ → Task → Task → State
-sidesWritten m k p q =
-    record { places = m .places; interval = m .interval; work = m .work + 1; bank = m .bank; tasks = set (set (m .tasks) k p) (k + p .places) q }
+sidesWritten m k p q = ticked (withArrays m (m .bank) (m .stacks) (set (set (m .tasks) k p) (k + p .places) q))
 
 planned-at : (c : Moving) → let h = head-of (c .before) in
     Planned (given-of h) (ahead (given-of h) (h .loop .m) (place-of (c .before)) (h .loop .due)) (c .if1 .m) (c .if1 .plan) (c .if1 .p) (c .if1 .due) (c .if1 .side)
@@ -560,32 +735,36 @@ planned-at c = elim (c .if1 .came) [
     | inl t ↦
         let w : Walk = record { before = record { before = record { before = c .before; if1 = t .0 }; go = t .1 }; loop2 = t .2 } in
         let x : Halting = record { before = record { before = record { before = w; walks-on = t .3 }; if4 = t .4 }; if8 = t .5 } in
+        let y : Stopping = record { before = record { before = x; does-stack = t .6 }; if11 = t .7 } in
         let h = head-of (c .before) in
         let m = w .loop2 .m in
         let k = w .loop2 .p .slot in
         let pc = w .loop2 .e .child in
-        let parent = t .10 .ensures in
-        let written = t .14 ∙ ap₂ (λ (p q : Task). sidesWritten m k p q) parent (t .11 .ensures ∙ ap (movedTo pc 0) parent) in
+        let parent = t .12 .ensures in
+        let written = t .16
+        ∙ ap₂ (λ (p q : Task). sidesWritten m k p q) parent (t .13 .ensures ∙ ap (λ (o : Task). withHeight 0 (movedTo pc 0 o)) parent) in
         let child = ap (λ (p : Task). k + p .places) parent in
-        let next = t .15 ∙ t .13 .ensures ∙ ap (λ (p : Task). stoppedAt (m .places) (p .places) (w .loop2 .p)) parent in
-        planned-as next (t .16 ∙ none-due-w w) (t .17)
+        let next = t .17 ∙ t .15 .ensures ∙ ap (λ (p : Task). stoppedAt (m .places) (p .places) (w .loop2 .p)) parent in
+        planned-as next (t .18 ∙ none-due-w w) (t .19)
         (planned-below (walked-less w)
-        (fork-planned (given-of h) (allowed-of h) (at-w w) (stopped-at x) (t .8 .given .1) (t .9 .ensures) written
-        (t .18 ∙ t .12 .ensures ∙ ap (forkMoves k) child) (h .loop .side) (turns-at (c .before) .side-below)))
+        (fork-planned (given-of h) (allowed-of h) (at-w w) (stopped-at x) (fork-kind y (t .10 .given .1)) (t .11 .ensures) written
+        (t .20 ∙ t .14 .ensures ∙ ap (forkMoves k) child) (h .loop .side) (turns-at (c .before) .side-below)))
     | inr t ↦
         let w : Walk = record { before = record { before = record { before = c .before; if1 = t .0 }; go = t .1 }; loop2 = t .2 } in
         let x : Halting = record { before = record { before = record { before = w; walks-on = t .3 }; if4 = t .4 }; if8 = t .5 } in
+        let y : Stopping = record { before = record { before = x; does-stack = t .6 }; if11 = t .7 } in
         let h = head-of (c .before) in
-        planned-as (t .12 ∙ t .10 .ensures) (t .13) (t .14)
+        planned-as (t .14 ∙ t .12 .ensures) (t .15) (t .16)
         (planned-below (walked-less w)
-        (end-planned (given-of h) (allowed-of h) (at-w w) (stopped-at x) (t .7 .keys2) (t .8 .ensures) (t .11) (t .15 ∙ t .9 .ensures)))
+        (end-planned (given-of h) (allowed-of h) (at-w w) (stopped-at x) (y .if11 .kind) (y .if11 .fault) (ends-at y (t .9 .keys2)) (t .10 .ensures) (t .13)
+        (t .17 ∙ t .11 .ensures)))
   ]
 ]
 
 -- ---- the moves made
 
 abbrev Cleared : Type 0
-Cleared = Here tie.Joined11
+Cleared = Here tie.Joined14
 
 paired-at : (c : Cleared) → c .before .before .before .loop4 .m ≡ pairedAt (c .before .before .before .before .if1 .plan) (c .before .before .before .before .if1 .m)
 paired-at c =
@@ -594,32 +773,35 @@ paired-at c =
     let j = c .before .before .before .before .if1 in
     i .3 ∙ ap (placed (j .m) (j .plan .to)) (sym (i .4 ∙ copies-none _ (l .pairs) (l .packed) (i .1) (c .before .before .loop4-test .left)))
 
-cleared-at : (c : Cleared) → let j = c .before .before .before .before .if1 in c .if11 .m ≡ clearedAt (j .plan) (pairedAt (j .plan) (j .m))
+cleared-at : (c : Cleared) → let j = c .before .before .before .before .if1 in c .if14 .m ≡ clearedAt (j .plan) (pairedAt (j .plan) (j .m))
 cleared-at c =
     let plan = c .before .before .before .before .if1 .plan in
     let m₂ = c .before .before .before .loop4 .m in
-    elim (c .if11 .came) [
-      | inl t ↦ t .3 ∙ filling-all m₂ (plan .from) zeros (t .1 .i) (t .1 .inv .0) (t .2 .left) (t .1 .inv .1)
-          ∙ sym (ap (λ (b : Bool). cond b (filling m₂ (plan .from) zeros 16) m₂) (lt-ltb 0 (plan .clears) (t .0 .taken)))
+    let clears : State = dropping (filling m₂ (plan .from) zeros 16) (plan .dropped) (plan .drops) 0 in
+    elim (c .if14 .came) [
+      | inl t ↦
+          t .6 ∙ drop-ends (t .1 .m) (plan .dropped) (plan .drops) (t .4 .left) (t .5 .left) (t .4 .inv .1)
+          ∙ ap (λ (n : State). dropping n (plan .dropped) (plan .drops) 0)
+          (filling-all m₂ (plan .from) zeros (t .1 .i) (t .1 .inv .0) (t .2 .left) (t .1 .inv .1))
+          ∙ sym (ap (λ (b : Bool). cond b clears m₂) (lt-ltb 0 (plan .clears) (t .0 .taken)))
           ∙ ap (clearedAt plan) (paired-at c)
-      | inr t ↦ t .1 ∙ sym (ap (λ (b : Bool). cond b (filling m₂ (plan .from) zeros 16) m₂) (le-ltb 0 (plan .clears) (t .0 .left)))
-          ∙ ap (clearedAt plan) (paired-at c)
+      | inr t ↦ t .1 ∙ sym (ap (λ (b : Bool). cond b clears m₂) (le-ltb 0 (plan .clears) (t .0 .left))) ∙ ap (clearedAt plan) (paired-at c)
     ]
 
-copied-on : (c : Here tie.After-loop6) → let j = c .before .before .before .before .before .before .before .before .if1 in c .before .loop6 .m ≡ moved (j .plan) (j .m)
+copied-on : (c : Here tie.After-loop7) → let j = c .before .before .before .before .before .before .before .before .if1 in c .before .loop7 .m ≡ moved (j .plan) (j .m)
 copied-on c =
     let plan = c .before .before .before .before .before .before .before .before .if1 .plan in
-    let i = c .before .loop6 .inv in
-    let m₃ = c .before .before .before .before .if11 .m in
-    filling-all m₃ (plan .to) _ (c .before .loop6 .i) (i .0) (c .loop6-test .left) (i .1)
-    ∙ sym (ap (λ (b : Bool). cond b (filling m₃ (plan .to) (at m₃ (plan .from) .registers) 16) m₃) (lt-ltb 0 (plan .whole) (c .before .before .if12 .taken)))
+    let i = c .before .loop7 .inv in
+    let m₃ = c .before .before .before .before .if14 .m in
+    filling-all m₃ (plan .to) _ (c .before .loop7 .i) (i .0) (c .loop7-test .left) (i .1)
+    ∙ sym (ap (λ (b : Bool). cond b (filling m₃ (plan .to) (at m₃ (plan .from) .registers) 16) m₃) (lt-ltb 0 (plan .whole) (c .before .before .if15 .taken)))
     ∙ ap (copiedAt plan) (cleared-at (c .before .before .before .before))
 
-copied-not : (c : Here tie.Else12) → let j = c .before .before .before .before .before .before .if1 in c .before .before .if11 .m ≡ moved (j .plan) (j .m)
+copied-not : (c : Here tie.Else15) → let j = c .before .before .before .before .before .before .if1 in c .before .before .if14 .m ≡ moved (j .plan) (j .m)
 copied-not c =
     let plan = c .before .before .before .before .before .before .if1 .plan in
-    let m₃ = c .before .before .if11 .m in
-    sym (ap (λ (b : Bool). cond b (filling m₃ (plan .to) (at m₃ (plan .from) .registers) 16) m₃) (le-ltb 0 (plan .whole) (c .if12 .left)))
+    let m₃ = c .before .before .if14 .m in
+    sym (ap (λ (b : Bool). cond b (filling m₃ (plan .to) (at m₃ (plan .from) .registers) 16) m₃) (le-ltb 0 (plan .whole) (c .if15 .left)))
     ∙ ap (copiedAt plan) (cleared-at (c .before .before))
 
 -- ---- what the code needs at its places
@@ -628,7 +810,7 @@ loop-holds : Here tie.Need-loop-holds
 loop-holds c =
     let a = c .before .before .before .args in
     let g = given (a .cells .now) (a .words .now) (a .state) (a .order .now) (a .course) in
-    let sized : Sized (a .state) = record { of-bank = search (needs, length-by); of-tasks = search (needs, length-by) } in
+    let sized : Sized (a .state) = record { of-bank = search (needs, length-by); of-stacks = search (needs, length-by); of-tasks = search (needs, length-by) } in
     let allowed = shape-allowed (a .cells .now) (a .state) (c .before .before .before .pre .0) (c .before .before .before .pre .2) in
     let fits = shape-fits (a .cells .now) (a .state) sized (c .before .before .before .pre .2) in
     let few : a .state .work ≤ workLimit = search needs in (
@@ -706,8 +888,8 @@ joined-requires c κs =
     due-joinable (given-of h .cells) (h .loop .m) (q-of j) (w-of j) (h .loop .due) (start-of h .pre .0) (turns-at (turn-j j) .safe)
     (j .before .before .before .before .if1 .taken) (sides (c .before) ∙ not-false (c .before .both-ended .result) (c .if3 .left))
 
-mul-t66 : Here tie.Need-mul-t66
-mul-t66 c = omega (arith, inside (c .before .before .before .before .before .before .before))
+mul-t78 : Here tie.Need-mul-t78
+mul-t78 c = omega (arith, inside (c .before .before .before .before .before .before .before))
 
 element-set-from-m : Here tie.Need-element-set-from-m
 element-set-from-m c = omega (arith, inside (c .before .before .before .before .before .before .before))
@@ -787,8 +969,8 @@ execute-requires c κs =
 ran-on-requires : Here tie.Need-ran-on-requires
 ran-on-requires c κs = span-at (runs-of (c .before .before))
 
-mul-t97 : Here tie.Need-mul-t97
-mul-t97 c = omega (arith, slot-inside (walk-d (c .before .before .before)))
+mul-t109 : Here tie.Need-mul-t109
+mul-t109 c = omega (arith, slot-inside (walk-d (c .before .before .before)))
 
 element-set-from-m-2 : Here tie.Need-element-set-from-m-2
 element-set-from-m-2 c = omega (arith, slot-inside (walk-d (c .before .before .before)))
@@ -796,8 +978,8 @@ element-set-from-m-2 c = omega (arith, slot-inside (walk-d (c .before .before .b
 add-at-r : Here tie.Need-add-at-r
 add-at-r c = omega (arith, slot-inside (walk-d (c .before .before .before .before .before)), r-inside (c .before .before .before .before .before .before .before .before .before .before))
 
-mul-t101 : Here tie.Need-mul-t101
-mul-t101 c = let d = c .before .before .before .before .before .before in omega (arith, slot-inside (walk-d d), r-inside (d .before .before .before .before .before))
+mul-t113 : Here tie.Need-mul-t113
+mul-t113 c = let d = c .before .before .before .before .before .before in omega (arith, slot-inside (walk-d d), r-inside (d .before .before .before .before .before))
 
 element-set-from-m-3 : Here tie.Need-element-set-from-m-3
 element-set-from-m-3 c = let d = c .before .before .before .before .before .before in omega (arith, slot-inside (walk-d d), r-inside (d .before .before .before .before .before))
@@ -821,7 +1003,7 @@ loop2-again c =
     let r = c .before in
     let w = walk-n r in
     let look = look-of (runs-of (done-r r)) in (
-      leads-on (w .loop2 .inv .0) (tests look .1) (few-places w) (at-w w .ahead-most) (runs-at (runs-of (done-r r))) (ran-issued r) (ran-still r) (ran-others r) (ran-next c),
+      leads-on (w .loop2 .inv .0) (tests look .1) (few-places w) (at-w w .ahead-most) (runs-at (runs-of (done-r r))) (ran-issued r) (ran-still r .0) (ran-still r .1) (ran-next c),
       λ e. clash e (not-stopped look),
     )
 
@@ -928,17 +1110,94 @@ loop-again-3 c =
       at-w w .work-most,
     )
 
+add-m-2 : Here tie.Need-add-m-2
+add-m-2 c = omega (arith, halt-room c)
+
+mul-own-2 : Here tie.Need-mul-own-2
+mul-own-2 c = omega (arith, slot-inside (walk-h (c .before .before)))
+
+element-copy-out-own-2 : Here tie.Need-element-copy-out-own-2
+element-copy-out-own-2 c = omega (arith, slot-inside (walk-h (c .before .before)))
+
+mul-at : Here tie.Need-mul-at
+mul-at c = omega (arith, slot-inside (walk-h (halt-k c)))
+
+entry-of-requires : Here tie.Need-entry-of-requires
+entry-of-requires c κs = (asked-at c, halt-stacked (halt-k c) .height-most)
+
+add-at : Here tie.Need-add-at
+add-at c = omega (arith, entry-inside c)
+
+mul-held : Here tie.Need-mul-held
+mul-held c = omega (arith, entry-inside c)
+
+element-copy-out-held : Here tie.Need-element-copy-out-held
+element-copy-out-held c = omega (arith, entry-inside c)
+
+mul-t145 : Here tie.Need-mul-t145
+mul-t145 c = omega (arith, entry-inside (c .before .before))
+
+element-set-from-m-4 : Here tie.Need-element-set-from-m-4
+element-set-from-m-4 c = omega (arith, entry-inside (c .before .before))
+
+instruction-of-requires-2 : Here tie.Need-instruction-of-requires-2
+instruction-of-requires-2 c κs =
+    let x = halt-k (c .before .before .before .before .before) in
+    let w = walk-h x in
+    let h = head-of (turn-w w) in
+    let y = its-instruction (allowed-of h) (given-of h .words) (at-w w .fits) (below-g w) (stopped-at x .runs-there) in
+    omega (arith, y .is-stored, start-of h .pre .1)
+
+mul-at-r : Here tie.Need-mul-at-r
+mul-at-r c = omega (arith, popped-inside c)
+
+add-at-r-2 : Here tie.Need-add-at-r-2
+add-at-r-2 c = omega (arith, popped-inside c)
+
+mul-held-2 : Here tie.Need-mul-held-2
+mul-held-2 c = omega (arith, popped-inside c)
+
+element-set-from-held : Here tie.Need-element-set-from-held
+element-set-from-held c = omega (arith, popped-inside c)
+
+restacked-requires : Here tie.Need-restacked-requires
+restacked-requires c κs =
+    let k = entering c .before in
+    (asked-at k, halt-stacked (halt-k k) .height-most, halt-span (halt-k k))
+
+mul-t144 : Here tie.Need-mul-t144
+mul-t144 c = omega (arith, entry-inside (entering (c .before)))
+
+element-set-from-m-5 : Here tie.Need-element-set-from-m-5
+element-set-from-m-5 c = omega (arith, entry-inside (entering (c .before)))
+
+picked-on-requires-2 : Here tie.Need-picked-on-requires-2
+picked-on-requires-2 c κs = let x = halt-m (c .before) in (slot-inside (walk-h x), halt-few x)
+
+loop-less-4 : Here tie.Need-loop-less-4
+loop-less-4 c =
+    let w = walk-h (halt-m (c .before .before)) in
+    omega (arith, onward-at c .1, walked-less w, none-due-w w)
+
+loop-again-4 : Here tie.Need-loop-again-4
+loop-again-4 c =
+    let w = walk-h (halt-m (c .before .before)) in
+    let h = head-of (turn-w w) in
+    let r = onward-at c in (
+      λ z. none-due (given-of h) (allowed-of h) _ _ (none-due-w w) (turns-at (turn-w w) .side-below) (r .0),
+      λ e. clash e (going-on (turn-w w)),
+      r .2,
+      r .3,
+    )
+
 mul-record-2 : Here tie.Need-mul-record-2
-mul-record-2 c = omega (arith, slot-inside (walk-h c))
+mul-record-2 c = omega (arith, slot-inside (walk-h (halt-s c)))
 
 element-copy-out-record-2 : Here tie.Need-element-copy-out-record-2
-element-copy-out-record-2 c = omega (arith, slot-inside (walk-h c))
-
-add-m-2 : Here tie.Need-add-m-2
-add-m-2 c = omega (arith, halt-room (c .before))
+element-copy-out-record-2 c = omega (arith, slot-inside (walk-h (halt-s c)))
 
 side-task-requires : Here tie.Need-side-task-requires
-side-task-requires c κs = (halt-span (c .before .before .before .before), fork-at (c .before) .2)
+side-task-requires c κs = (halt-span (halt-f (c .before)), fork-at (c .before) .2)
 
 add-c-2 : Here tie.Need-add-c-2
 add-c-2 c = omega (arith, fork-slots (c .before .before), ap (λ (t : Task). t .places) (c .side-task .ensures))
@@ -949,28 +1208,28 @@ mul-parent-2 c = omega (arith, fork-slots (c .before .before), ap (λ (t : Task)
 element-set-from-parent : Here tie.Need-element-set-from-parent
 element-set-from-parent c = omega (arith, fork-slots (c .before .before), ap (λ (t : Task). t .places) (c .side-task .ensures))
 
-mul-t131 : Here tie.Need-mul-t131
-mul-t131 c = omega (arith, fork-slots (c .before .before .before), ap (λ (t : Task). t .places) (c .before .side-task .ensures))
+mul-t166 : Here tie.Need-mul-t166
+mul-t166 c = omega (arith, fork-slots (c .before .before .before), ap (λ (t : Task). t .places) (c .before .side-task .ensures))
 
-element-set-from-m-4 : Here tie.Need-element-set-from-m-4
-element-set-from-m-4 c = omega (arith, fork-slots (c .before .before .before), ap (λ (t : Task). t .places) (c .before .side-task .ensures))
+element-set-from-m-6 : Here tie.Need-element-set-from-m-6
+element-set-from-m-6 c = omega (arith, fork-slots (c .before .before .before), ap (λ (t : Task). t .places) (c .before .side-task .ensures))
 
 ended-task-requires : Here tie.Need-ended-task-requires
-ended-task-requires c κs = halt-span (c .before .before)
+ended-task-requires c κs = halt-span (halt-s (c .before .before))
 
-mul-t139 : Here tie.Need-mul-t139
-mul-t139 c = omega (arith, slot-inside (walk-h (c .before .before .before)))
+mul-t174 : Here tie.Need-mul-t174
+mul-t174 c = omega (arith, slot-inside (walk-h (halt-s (c .before .before .before))))
 
-element-set-from-m-5 : Here tie.Need-element-set-from-m-5
-element-set-from-m-5 c = omega (arith, slot-inside (walk-h (c .before .before .before)))
+element-set-from-m-7 : Here tie.Need-element-set-from-m-7
+element-set-from-m-7 c = omega (arith, slot-inside (walk-h (halt-s (c .before .before .before))))
 
 stopped-at-requires : Here tie.Need-stopped-at-requires
 stopped-at-requires c κs =
     let f = c .before .before .before .before in
-    (slot-inside (walk-h (f .before .before .before)), omega (arith, fork-slots f, ap (λ (t : Task). t .places) (c .before .before .side-task .ensures)))
+    (slot-inside (walk-h (halt-f f)), omega (arith, fork-slots f, ap (λ (t : Task). t .places) (c .before .before .side-task .ensures)))
 
 stopped-at-requires-2 : Here tie.Need-stopped-at-requires-2
-stopped-at-requires-2 c κs = let x = c .before .before .before .before in (slot-inside (walk-h x), halt-few x)
+stopped-at-requires-2 c κs = let x = halt-s (c .before .before .before .before) in (slot-inside (walk-h x), halt-few x)
 
 loop4-holds : Here tie.Need-loop4-holds
 loop4-holds c = (omega arith, at (c .if1 .m) (c .if1 .plan .to) .registers, length-reads zeroRegister (c .if1 .m .bank) _ 16, placed-none _ _, refl)
@@ -1031,17 +1290,17 @@ loop4-again c =
 loop5-holds : Here tie.Need-loop5-holds
 loop5-holds c = (omega arith, filling-none _ _ zeros)
 
-mul-t156 : Here tie.Need-mul-t156
-mul-t156 c = omega (arith, planned-at (c .before .before .before .before .before .before .before) .plan-fits .from-below, c .before .loop5-test .taken)
+mul-t191 : Here tie.Need-mul-t191
+mul-t191 c = omega (arith, planned-at (c .before .before .before .before .before .before .before) .plan-fits .from-below, c .before .loop5-test .taken)
 
-add-t157 : Here tie.Need-add-t157
-add-t157 c = omega (arith, planned-at (c .before .before .before .before .before .before .before) .plan-fits .from-below, c .before .loop5-test .taken)
+add-t192 : Here tie.Need-add-t192
+add-t192 c = omega (arith, planned-at (c .before .before .before .before .before .before .before) .plan-fits .from-below, c .before .loop5-test .taken)
 
-mul-t158 : Here tie.Need-mul-t158
-mul-t158 c = omega (arith, planned-at (c .before .before .before .before .before .before .before) .plan-fits .from-below, c .before .loop5-test .taken)
+mul-t193 : Here tie.Need-mul-t193
+mul-t193 c = omega (arith, planned-at (c .before .before .before .before .before .before .before) .plan-fits .from-below, c .before .loop5-test .taken)
 
-element-set-from-m-6 : Here tie.Need-element-set-from-m-6
-element-set-from-m-6 c = omega (arith, planned-at (c .before .before .before .before .before .before .before) .plan-fits .from-below, c .before .loop5-test .taken)
+element-set-from-m-8 : Here tie.Need-element-set-from-m-8
+element-set-from-m-8 c = omega (arith, planned-at (c .before .before .before .before .before .before .before) .plan-fits .from-below, c .before .loop5-test .taken)
 
 add-i : Here tie.Need-add-i
 add-i c = omega (arith, planned-at (c .before .before .before .before .before .before .before) .plan-fits .from-below, c .before .loop5-test .taken)
@@ -1054,14 +1313,54 @@ loop5-again c =
     let l = c .before .before .loop5 in
     (omega (arith, c .before .loop5-test .taken), zero-next _ _ (l .i) (l .inv .1) (c .before .loop5-test .taken) (c .zero-register .ensures))
 
+cast-left : Here tie.Need-cast-left
+cast-left c = omega (arith, planned-at (c .before .before .before .before .before .before .before) .plan-fits .drops-few)
+
 loop6-holds : Here tie.Need-loop6-holds
-loop6-holds c = (omega arith, filling-none _ _ _)
+loop6-holds c =
+    let plan = c .before .before .before .before .before .before .before .if1 .plan in
+    (omega arith, drop-none (c .before .before .loop5 .m) (plan .dropped) (plan .drops))
 
-loop-less-4 : Here tie.Need-loop-less-4
-loop-less-4 c = less-with _ (then-less (planned-at (c .before .before .before .before .before .before .before .before)) (copied-on c))
+sub-left : Here tie.Need-sub-left
+sub-left c = omega (arith, c .loop6-test .taken)
 
-loop-again-4 : Here tie.Need-loop-again-4
-loop-again-4 c =
+abbrev Dropping : Type 0
+Dropping = Here tie.After-zero-register2
+
+drop-inside : (c : Dropping) → let plan = c .before .before .before .before .before .before .before .before .before .before .if1 .plan in
+    (plan .dropped < 64) × (c .before .before .loop6 .left ≤ stackLength) × (0 < c .before .before .loop6 .left)
+drop-inside c =
+    let p = planned-at (c .before .before .before .before .before .before .before .before .before .before) .plan-fits in
+    (p .dropped-below, omega (arith, p .drops-few, c .before .before .loop6 .inv .0), c .before .loop6-test .taken)
+
+mul-t198 : Here tie.Need-mul-t198
+mul-t198 c = omega (arith, drop-inside c)
+
+add-t199 : Here tie.Need-add-t199
+add-t199 c = omega (arith, drop-inside c)
+
+mul-t200 : Here tie.Need-mul-t200
+mul-t200 c = omega (arith, drop-inside c)
+
+element-set-from-m-9 : Here tie.Need-element-set-from-m-9
+element-set-from-m-9 c = omega (arith, drop-inside c)
+
+loop6-less : Here tie.Need-loop6-less
+loop6-less c = omega (arith, drop-inside c)
+
+loop6-again : Here tie.Need-loop6-again
+loop6-again c =
+    let l = c .before .before .loop6 in
+    (omega (arith, l .inv .0), drop-next _ _ _ (l .left) (drop-inside c .2) (l .inv .0) (l .inv .1) (c .zero-register2 .ensures))
+
+loop7-holds : Here tie.Need-loop7-holds
+loop7-holds c = (omega arith, filling-none _ _ _)
+
+loop-less-5 : Here tie.Need-loop-less-5
+loop-less-5 c = less-with _ (then-less (planned-at (c .before .before .before .before .before .before .before .before)) (copied-on c))
+
+loop-again-5 : Here tie.Need-loop-again-5
+loop-again-5 c =
     let t = c .before .before .before .before .before .before .before .before .before in (
       λ z. planned-at (c .before .before .before .before .before .before .before .before) .then-turns (copied-on c),
       λ e. clash e (going-on t),
@@ -1070,50 +1369,50 @@ loop-again-4 c =
     )
 
 mul-copied : Here tie.Need-mul-copied
-mul-copied c = omega (arith, planned-at (c .before .before .before .before .before .before .before .before) .plan-fits .from-below, c .loop6-test .taken)
+mul-copied c = omega (arith, planned-at (c .before .before .before .before .before .before .before .before) .plan-fits .from-below, c .loop7-test .taken)
 
 add-copied : Here tie.Need-add-copied
-add-copied c = omega (arith, planned-at (c .before .before .before .before .before .before .before .before) .plan-fits .from-below, c .loop6-test .taken)
+add-copied c = omega (arith, planned-at (c .before .before .before .before .before .before .before .before) .plan-fits .from-below, c .loop7-test .taken)
 
 mul-copied-2 : Here tie.Need-mul-copied-2
-mul-copied-2 c = omega (arith, planned-at (c .before .before .before .before .before .before .before .before) .plan-fits .from-below, c .loop6-test .taken)
+mul-copied-2 c = omega (arith, planned-at (c .before .before .before .before .before .before .before .before) .plan-fits .from-below, c .loop7-test .taken)
 
 element-copy-out-copied : Here tie.Need-element-copy-out-copied
-element-copy-out-copied c = omega (arith, planned-at (c .before .before .before .before .before .before .before .before) .plan-fits .from-below, c .loop6-test .taken)
+element-copy-out-copied c = omega (arith, planned-at (c .before .before .before .before .before .before .before .before) .plan-fits .from-below, c .loop7-test .taken)
 
 mul-copied-3 : Here tie.Need-mul-copied-3
-mul-copied-3 c = omega (arith, planned-at (c .before .before .before .before .before .before .before .before .before) .plan-fits .to-below, c .before .loop6-test .taken)
+mul-copied-3 c = omega (arith, planned-at (c .before .before .before .before .before .before .before .before .before) .plan-fits .to-below, c .before .loop7-test .taken)
 
 add-copied-2 : Here tie.Need-add-copied-2
-add-copied-2 c = omega (arith, planned-at (c .before .before .before .before .before .before .before .before .before) .plan-fits .to-below, c .before .loop6-test .taken)
+add-copied-2 c = omega (arith, planned-at (c .before .before .before .before .before .before .before .before .before) .plan-fits .to-below, c .before .loop7-test .taken)
 
 mul-copied-4 : Here tie.Need-mul-copied-4
-mul-copied-4 c = omega (arith, planned-at (c .before .before .before .before .before .before .before .before .before) .plan-fits .to-below, c .before .loop6-test .taken)
+mul-copied-4 c = omega (arith, planned-at (c .before .before .before .before .before .before .before .before .before) .plan-fits .to-below, c .before .loop7-test .taken)
 
 element-set-from-copied : Here tie.Need-element-set-from-copied
-element-set-from-copied c = omega (arith, planned-at (c .before .before .before .before .before .before .before .before .before) .plan-fits .to-below, c .before .loop6-test .taken)
+element-set-from-copied c = omega (arith, planned-at (c .before .before .before .before .before .before .before .before .before) .plan-fits .to-below, c .before .loop7-test .taken)
 
 add-i-2 : Here tie.Need-add-i-2
-add-i-2 c = omega (arith, planned-at (c .before .before .before .before .before .before .before .before .before) .plan-fits .to-below, c .before .loop6-test .taken)
+add-i-2 c = omega (arith, planned-at (c .before .before .before .before .before .before .before .before .before) .plan-fits .to-below, c .before .loop7-test .taken)
 
-loop6-less : Here tie.Need-loop6-less
-loop6-less c = omega (arith, c .before .loop6-test .taken)
+loop7-less : Here tie.Need-loop7-less
+loop7-less c = omega (arith, c .before .loop7-test .taken)
 
-loop6-again : Here tie.Need-loop6-again
-loop6-again c =
+loop7-again : Here tie.Need-loop7-again
+loop7-again c =
     let l = c .before .before in
     let p = c .before .before .before .before .before .before .before .before .before in
     let plan = p .if1 .plan in (
-      omega (arith, c .before .loop6-test .taken),
-      copy-next _ (plan .to) (plan .from) (l .loop6 .i) (planned-at p .plan-fits .whole-apart (l .before .if12 .taken)) (l .loop6 .inv .1)
-          (c .before .loop6-test .taken) refl,
+      omega (arith, c .before .loop7-test .taken),
+      copy-next _ (plan .to) (plan .from) (l .loop7 .i) (planned-at p .plan-fits .whole-apart (l .before .if15 .taken)) (l .loop7 .inv .1)
+          (c .before .loop7-test .taken) refl,
     )
 
-loop-less-5 : Here tie.Need-loop-less-5
-loop-less-5 c = less-with _ (then-less (planned-at (c .before .before .before .before .before .before)) (copied-not c))
+loop-less-6 : Here tie.Need-loop-less-6
+loop-less-6 c = less-with _ (then-less (planned-at (c .before .before .before .before .before .before)) (copied-not c))
 
-loop-again-5 : Here tie.Need-loop-again-5
-loop-again-5 c =
+loop-again-6 : Here tie.Need-loop-again-6
+loop-again-6 c =
     let t = c .before .before .before .before .before .before .before in (
       λ z. planned-at (c .before .before .before .before .before .before) .then-turns (copied-not c),
       λ e. clash e (going-on t),
@@ -1136,7 +1435,7 @@ returns c =
 pub drive-spec : {M : Type 1} → statement M
 drive-spec =
     tie.close
-    (tie.spec Inv-loop2 μ-loop2 Inv-loop3 μ-loop3 Inv-loop4 μ-loop4 Inv-loop5 μ-loop5 Inv-loop6 μ-loop6 Inv-loop μ-loop
+    (tie.spec Inv-loop2 μ-loop2 Inv-loop3 μ-loop3 Inv-loop4 μ-loop4 Inv-loop5 μ-loop5 Inv-loop6 μ-loop6 Inv-loop7 μ-loop7 Inv-loop μ-loop
     -- the loop begins
     (λ c κs. search needs)
     loop-holds
@@ -1159,7 +1458,7 @@ drive-spec =
     loop-again-2
     joined-requires
     (λ c κs. search needs)
-    mul-t66
+    mul-t78
     element-set-from-m
     mul-whole
     element-set-from-whole
@@ -1189,12 +1488,12 @@ drive-spec =
     -- it runs on
     (λ c κs. search needs)
     ran-on-requires
-    mul-t97
+    mul-t109
     element-set-from-m-2
     (λ c κs. search needs)
     add-at-r
     (λ c κs. search needs)
-    mul-t101
+    mul-t113
     element-set-from-m-3
     add-m
     picked-on-requires
@@ -1228,9 +1527,36 @@ drive-spec =
     loop-less-3
     loop-again-3
     -- the pick that stopped the walk
+    add-m-2
+    (λ c κs. search needs)
+    -- a push or a pop
+    mul-own-2
+    element-copy-out-own-2
+    (λ c κs. search needs)
+    (λ c κs. search needs)
+    mul-at
+    entry-of-requires
+    add-at
+    mul-held
+    element-copy-out-held
+    (λ c κs. search needs)
+    mul-t145
+    element-set-from-m-4
+    (λ c. search needs)
+    instruction-of-requires-2
+    mul-at-r
+    add-at-r-2
+    mul-held-2
+    element-set-from-held
+    restacked-requires
+    mul-t144
+    element-set-from-m-5
+    picked-on-requires-2
+    loop-less-4
+    loop-again-4
+    -- a fork or an ended side
     mul-record-2
     element-copy-out-record-2
-    add-m-2
     -- a fork
     (λ c. search needs)
     (λ c κs. search needs)
@@ -1239,14 +1565,14 @@ drive-spec =
     mul-parent-2
     element-set-from-parent
     (λ c κs. search needs)
-    mul-t131
-    element-set-from-m-4
+    mul-t166
+    element-set-from-m-6
     (λ c κs. search needs)
     stopped-at-requires
     -- an ended side
     ended-task-requires
-    mul-t139
-    element-set-from-m-5
+    mul-t174
+    element-set-from-m-7
     (λ c κs. search needs)
     stopped-at-requires-2
     -- pairs
@@ -1265,17 +1591,28 @@ drive-spec =
     -- registers cleared
     loop5-holds
     (λ c κs. search needs)
-    mul-t156
-    add-t157
-    mul-t158
-    element-set-from-m-6
+    mul-t191
+    add-t192
+    mul-t193
+    element-set-from-m-8
     add-i
     loop5-less
     loop5-again
-    -- registers copied
+    -- a stack's values dropped
+    cast-left
     loop6-holds
-    loop-less-4
-    loop-again-4
+    sub-left
+    (λ c κs. search needs)
+    mul-t198
+    add-t199
+    mul-t200
+    element-set-from-m-9
+    loop6-less
+    loop6-again
+    -- registers copied
+    loop7-holds
+    loop-less-5
+    loop-again-5
     mul-copied
     add-copied
     mul-copied-2
@@ -1285,10 +1622,10 @@ drive-spec =
     mul-copied-4
     element-set-from-copied
     add-i-2
-    loop6-less
-    loop6-again
-    loop-less-5
-    loop-again-5
+    loop7-less
+    loop7-again
+    loop-less-6
+    loop-again-6
     -- the end
     sub-picks
     cast-picks

@@ -27,7 +27,8 @@ keep-requires c κs = search needs
 
 add-t10 : tie.Need-add-t10
 add-t10 c =
-    let a = c .before .before .before .before .before .before .before .before .before .before .before .before .before .before .before .before .before .before .before .before .before .before .before .before .before .before .before .before in
+    let half = c .before .before .before .before .before .before .before .before .before .before .before .before .before .before in
+    let a = half .before .before .before .before .before .before .before .before .before .before .before .before .before .before in
     omega (
       arith,
       a .pre .7,
@@ -35,6 +36,12 @@ add-t10 c =
       ap (λ (k : Kept). k .span)
           (c .before .before .before .before .before .before .before .before .before .before .before .before .before .before .before .before .before .before .before .before .kept-at .ensures),
     )
+
+add-t25 : tie.Need-add-t25
+add-t25 c =
+    let half = c .before .before .before .before .before .before .before .before .before .before .before .before .before .before in
+    let a = half .before .before .before .before .before .before .before .before .before .before .before .before .before .before .before in
+    omega (arith, a .pre .9)
 
 same-length : tie.Need-same-length
 same-length c = search needs
@@ -53,11 +60,12 @@ same-length-5 c = search needs
 
 returns : tie.Need-returns
 returns c =
-    let a = c .before .before .before .before .before .before .before .before .before .before .before .before .before .before .before .before .before .before .before .before .before .before .before .before .before .before .before .before in
-    let x = c .before .before .before .before .before .before .before .before .before .before .before .before .before .before .before .exchange .ensures in (
+    let half = c .before .before .before .before .before .before .before .before .before .before .before .before .before .before in
+    let a = half .before .before .before .before .before .before .before .before .before .before .before .before .before .before .before in
+    let x = c .before .before .before .before .before .before .before .before .before .before .before .before .before .before .before .before .exchange .ensures in (
       ap (otherOf (a .args .hand))
-          (c .before .before .before .before .before .before .before .before .before .before .before .before .before .before .before .before .before .before .before .before .kept-at .ensures),
-      (x .0, (x .1, c .before .before .before .before .keep .ensures)),
+          (c .before .before .before .before .before .before .before .before .before .before .before .before .before .before .before .before .before .before .before .before .before .kept-at .ensures),
+      (x .0, (x .1, c .before .before .before .before .before .keep .ensures)),
     )
 
 pub take-child-spec : {M : Type 1} → statement M
@@ -71,6 +79,7 @@ take-child-spec =
     sub-t10
     keep-requires
     add-t10
+    add-t25
     same-length
     same-length-2
     same-length-3

@@ -7,18 +7,19 @@ use Rattle.evaluator.specs.declared.Kept.{Kept}
 use Rattle.evaluator.specs.Hands.{rowsOf}
 use Rattle.evaluator.proofs.ActLaws.{starts}
 use Rattle.evaluator.proofs.CloseLaws.{d-inside, span-small, turn-leads}
-use Rattle.evaluator.proofs.RoundLaws.{leads-on, still-left, still-deep, depth-most, less-left, less-ended, less-deep}
+use Rattle.evaluator.proofs.RoundLaws.{leads-on, still-left, still-deep, depth-most, low-small, less-left, less-ended, less-deep}
 use borrow.Author.Needs.{needs}
 use Rattle.evaluator.proofs.flat.advance.Statement.{statement}
 use Rattle.evaluator.proofs.flat.advance.Tie as tie
 
 run-hand-requires : tie.Need-run-hand-requires
 run-hand-requires c κs =
-    let a = c .before .before .before .before .before .before .before .before .before .before .before .before in
+    let a = c .before .before .before .before .before .before .before .before .before .before .before .before .before .before in
     let cells = a .args .cells .now in
     let words = a .args .words .now in
     let h = a .args .hand in
-    let rows = rowsOf (a .args .nums .now) (a .args .kinds .now) (a .args .bank .now) (a .args .marks .now) (a .args .recs .now) (a .args .sides .now) in
+    let rows = rowsOf (a .args .nums .now) (a .args .kinds .now) (a .args .bank .now) (a .args .marks .now) (a .args .recs .now) (a .args .sides .now)
+    (a .args .pile .now) (a .args .tags .now) in
     let p = a .pre .0 in
     let e = c .before .before .if1 .taken in
     let some = still-left (h .what) (h .left) (h .depth) e (a .pre .2) in
@@ -32,30 +33,34 @@ same-length-2 c = search needs
 
 returns : tie.Need-returns
 returns c =
-    let a = c .before .before .before .before .before .before .before .before .before .before .before .before .before .before .before .before .before .before .before .before in
+    let a = c .before .before .before .before .before .before .before .before .before .before .before .before .before .before .before .before .before .before .before .before .before .before in
     let cells = a .args .cells .now in
     let words = a .args .words .now in
     let h = a .args .hand in
     let p = a .pre .0 in
     let r = c .before .before .before .before .before .before .before .run-hand in
-    let x = r .ensures .1 (a .args .bank .now) (a .args .marks .now) (a .args .recs .now) (a .args .sides .now) p in
+    let x = r .ensures .1 (a .args .bank .now) (a .args .marks .now) (a .args .recs .now) (a .args .sides .now) (a .args .pile .now) (a .args .tags .now) p in
     let some = still-left (h .what) (h .left) (h .depth) (c .before .before .before .before .before .before .before .before .before .before .if1 .taken) (a .pre .2) in
     (less-left cells h (r .result .hand) _ (x .point) (omega (arith, r .ensures .0 .when-spent (c .before .if2 .taken), some)), x)
 
 act-requires : tie.Need-act-requires
 act-requires c κs =
-    let a = c .before .before .before .before .before .before .before .before .before .before .before .before .before .before .before .before .before .before .before .before .before .before .before .before .before in
+    let half = c .before .before .before .before .before .before .before .before .before .before .before .before .before .before in
+    let a = half .before .before .before .before .before .before .before .before .before .before .before .before .before .before .before in
     let cells = a .args .cells .now in
     let words = a .args .words .now in
     let h = a .args .hand in
     let p = a .pre .0 in
-    let r = c .before .before .before .before .before .before .before .before .before .before .before .before .run-hand in
-    let x = r .ensures .1 (a .args .bank .now) (a .args .marks .now) (a .args .recs .now) (a .args .sides .now) p in
-    let n = r .ensures .0 .when-not (c .before .before .before .before .before .before .if2 .left) in
-    (x .point, r .ensures .0 .still-runs, n .0, c .before .before .before .before .before .before .if2 .left, n .1)
+    let r = c .before .before .before .before .before .before .before .before .before .before .before .before .before .before .run-hand in
+    let x = r .ensures .1 (a .args .bank .now) (a .args .marks .now) (a .args .recs .now) (a .args .sides .now) (a .args .pile .now) (a .args .tags .now) p in
+    let n = r .ensures .0 .when-not (c .before .before .before .before .before .before .before .before .if2 .left) in
+    (x .point, r .ensures .0 .still-runs, n .0, c .before .before .before .before .before .before .before .before .if2 .left, n .1)
 
 same-length-3 : tie.Need-same-length-3
-same-length-3 c = search needs
+same-length-3 c =
+    let half = c .before .before .before .before .before .before .before .before .before .before .before .before .before .before .before .before .before .before .before .before .before .before .before in
+    let a = half .before .before .before .before .before .before .before .before .before .before .before .before .before .before .before .before .before .before .before .before .before .before .before in
+    c .before .before .before .before .before .before .before .before .before .before .before .before .before .before .before .before .act .ensures .1 .point .full .sized .0 ∙ sym (a .pre .0 .full .sized .0)
 
 same-length-4 : tie.Need-same-length-4
 same-length-4 c = search needs
@@ -72,28 +77,35 @@ same-length-7 c = search needs
 same-length-8 : tie.Need-same-length-8
 same-length-8 c = search needs
 
+same-length-9 : tie.Need-same-length-9
+same-length-9 c = search needs
+
+same-length-10 : tie.Need-same-length-10
+same-length-10 c = search needs
+
 returns-2 : tie.Need-returns-2
 returns-2 c =
-    let half = c .before .before .before .before .before .before .before .before .before .before .before .before .before .before .before .before .before .before .before in
-    let a = half .before .before .before .before .before .before .before .before .before .before .before .before .before .before .before .before .before .before .before in
+    let half = c .before .before .before .before .before .before .before .before .before .before .before .before .before .before .before .before .before .before .before .before .before .before .before in
+    let a = half .before .before .before .before .before .before .before .before .before .before .before .before .before .before .before .before .before .before .before .before .before .before .before in
     let cells = a .args .cells .now in
     let words = a .args .words .now in
     let h = a .args .hand in
     let p = a .pre .0 in
-    let r = c .before .before .before .before .before .before .before .before .before .before .before .before .before .before .before .before .before .before .before .before .before .before .before .before .before .run-hand in
-    let x = r .ensures .1 (a .args .bank .now) (a .args .marks .now) (a .args .recs .now) (a .args .sides .now) p in
-    let y = c .before .before .before .before .before .before .before .before .before .before .before .before .act in (
+    let r = half .before .before .before .before .before .before .before .before .run-hand in
+    let x = r .ensures .1 (a .args .bank .now) (a .args .marks .now) (a .args .recs .now) (a .args .sides .now) (a .args .pile .now) (a .args .tags .now) p in
+    let y = c .before .before .before .before .before .before .before .before .before .before .before .before .before .before .before .before .act in (
       less-left cells h (y .result) _ (y .ensures .1 .point) (omega (arith, y .ensures .0, r .ensures .0 .fewer)),
       leads-on cells words (a .args .interval) x (y .ensures .1),
     )
 
 sub-kept-at : tie.Need-sub-kept-at
 sub-kept-at c =
-    let a = c .before .before .before .before .before .before .before .before .before .before .before .before in
+    let a = c .before .before .before .before .before .before .before .before .before .before .before .before .before .before in
     let cells = a .args .cells .now in
     let words = a .args .words .now in
     let h = a .args .hand in
-    let rows = rowsOf (a .args .nums .now) (a .args .kinds .now) (a .args .bank .now) (a .args .marks .now) (a .args .recs .now) (a .args .sides .now) in
+    let rows = rowsOf (a .args .nums .now) (a .args .kinds .now) (a .args .bank .now) (a .args .marks .now) (a .args .recs .now) (a .args .sides .now)
+    (a .args .pile .now) (a .args .tags .now) in
     let p = a .pre .0 in
     let n = c .before .before .if1 .left in
     let low = still-deep (h .what) (h .left) (h .depth) n (a .pre .2) in
@@ -103,11 +115,12 @@ sub-kept-at c =
 
 kept-at-requires : tie.Need-kept-at-requires
 kept-at-requires c κs =
-    let a = c .before .before .before .before .before .before .before .before .before .before .before .before in
+    let a = c .before .before .before .before .before .before .before .before .before .before .before .before .before .before in
     let cells = a .args .cells .now in
     let words = a .args .words .now in
     let h = a .args .hand in
-    let rows = rowsOf (a .args .nums .now) (a .args .kinds .now) (a .args .bank .now) (a .args .marks .now) (a .args .recs .now) (a .args .sides .now) in
+    let rows = rowsOf (a .args .nums .now) (a .args .kinds .now) (a .args .bank .now) (a .args .marks .now) (a .args .recs .now) (a .args .sides .now)
+    (a .args .pile .now) (a .args .tags .now) in
     let p = a .pre .0 in
     let n = c .before .before .if1 .left in
     let low = still-deep (h .what) (h .left) (h .depth) n (a .pre .2) in
@@ -117,23 +130,18 @@ kept-at-requires c κs =
 
 take-child-requires : tie.Need-take-child-requires
 take-child-requires c κs =
-    let a = c .before .before .before .before .before .before .before .before .before .before .before .before .before .before .before .before .before .before .before .before in
+    let a = c .before .before .before .before .before .before .before .before .before .before .before .before .before .before .before .before .before .before .before .before .before .before in
     let cells = a .args .cells .now in
     let words = a .args .words .now in
     let h = a .args .hand in
-    let rows = rowsOf (a .args .nums .now) (a .args .kinds .now) (a .args .bank .now) (a .args .marks .now) (a .args .recs .now) (a .args .sides .now) in
+    let rows = rowsOf (a .args .nums .now) (a .args .kinds .now) (a .args .bank .now) (a .args .marks .now) (a .args .recs .now) (a .args .sides .now)
+    (a .args .pile .now) (a .args .tags .now) in
     let p = a .pre .0 in
     let n = c .before .before .before .before .before .before .before .before .before .before .if1 .left in
     let low = still-deep (h .what) (h .left) (h .depth) n (a .pre .2) in
     let d = h .depth - 1 in
     let deep : h .depth ≡ suc d = omega (arith, low) in
-    (p .full .sized, p .full .bank-full, p .full .marks-full, p .full .sides-full, low, depth-most cells h rows p, p .span-least, p .limited, span-small cells h rows p n d deep)
-
-same-length-9 : tie.Need-same-length-9
-same-length-9 c = search needs
-
-same-length-10 : tie.Need-same-length-10
-same-length-10 c = search needs
+    (p .full .sized, p .full .bank-full, p .full .marks-full, p .full .sides-full, low, depth-most cells h rows p, p .span-least, p .limited, span-small cells h rows p n d deep, low-small cells h rows p)
 
 same-length-11 : tie.Need-same-length-11
 same-length-11 c = search needs
@@ -144,14 +152,21 @@ same-length-12 c = search needs
 same-length-13 : tie.Need-same-length-13
 same-length-13 c = search needs
 
+same-length-14 : tie.Need-same-length-14
+same-length-14 c = search needs
+
+same-length-15 : tie.Need-same-length-15
+same-length-15 c = search needs
+
 returns-3 : tie.Need-returns-3
 returns-3 c =
-    let half = c .before .before .before .before .before .before .before .before .before .before .before .before .before .before .before in
-    let a = half .before .before .before .before .before .before .before .before .before .before .before .before .before .before .before .before in
+    let half = c .before .before .before .before .before .before .before .before .before .before .before .before .before .before .before .before in
+    let a = half .before .before .before .before .before .before .before .before .before .before .before .before .before .before .before .before .before in
     let cells = a .args .cells .now in
     let words = a .args .words .now in
     let h = a .args .hand in
-    let rows = rowsOf (a .args .nums .now) (a .args .kinds .now) (a .args .bank .now) (a .args .marks .now) (a .args .recs .now) (a .args .sides .now) in
+    let rows = rowsOf (a .args .nums .now) (a .args .kinds .now) (a .args .bank .now) (a .args .marks .now) (a .args .recs .now) (a .args .sides .now)
+    (a .args .pile .now) (a .args .tags .now) in
     let p = a .pre .0 in
     let n = c .before .before .before .before .before .before .before .before .before .before .before .before .before .before .before .before .before .before .before .before .before .if1 .left in
     let low = still-deep (h .what) (h .left) (h .depth) n (a .pre .2) in
@@ -168,24 +183,19 @@ returns-3 c =
 
 join-parent-requires : tie.Need-join-parent-requires
 join-parent-requires c κs =
-    let a = c .before .before .before .before .before .before .before .before .before .before .before .before .before .before .before .before .before .before .before .before .before in
+    let a = c .before .before .before .before .before .before .before .before .before .before .before .before .before .before .before .before .before .before .before .before .before .before .before in
     let cells = a .args .cells .now in
     let words = a .args .words .now in
     let h = a .args .hand in
-    let rows = rowsOf (a .args .nums .now) (a .args .kinds .now) (a .args .bank .now) (a .args .marks .now) (a .args .recs .now) (a .args .sides .now) in
+    let rows = rowsOf (a .args .nums .now) (a .args .kinds .now) (a .args .bank .now) (a .args .marks .now) (a .args .recs .now) (a .args .sides .now)
+    (a .args .pile .now) (a .args .tags .now) in
     let p = a .pre .0 in
     let n = c .before .before .before .before .before .before .before .before .before .before .before .if1 .left in
     let low = still-deep (h .what) (h .left) (h .depth) n (a .pre .2) in
     let d = h .depth - 1 in
     let deep : h .depth ≡ suc d = omega (arith, low) in
     let k = c .before .before .before .before .before .before .before .before .kept-at in
-    (p, n, low, λ e. c .before .before .before .before .before .before .if3 .left (ap (λ (x : Kept). x .what) (k .ensures) ∙ e))
-
-same-length-14 : tie.Need-same-length-14
-same-length-14 c = search needs
-
-same-length-15 : tie.Need-same-length-15
-same-length-15 c = search needs
+    ((a .args .pile .now, a .args .tags .now, p), n, low, λ e. c .before .before .before .before .before .before .if3 .left (ap (λ (x : Kept). x .what) (k .ensures) ∙ e))
 
 same-length-16 : tie.Need-same-length-16
 same-length-16 c = search needs
@@ -199,21 +209,28 @@ same-length-18 c = search needs
 same-length-19 : tie.Need-same-length-19
 same-length-19 c = search needs
 
+same-length-20 : tie.Need-same-length-20
+same-length-20 c = search needs
+
+same-length-21 : tie.Need-same-length-21
+same-length-21 c = search needs
+
 returns-4 : tie.Need-returns-4
 returns-4 c =
-    let half = c .before .before .before .before .before .before .before .before .before .before .before .before .before .before .before in
-    let a = half .before .before .before .before .before .before .before .before .before .before .before .before .before .before .before in
+    let half = c .before .before .before .before .before .before .before .before .before .before .before .before .before .before .before .before in
+    let a = half .before .before .before .before .before .before .before .before .before .before .before .before .before .before .before .before in
     let cells = a .args .cells .now in
     let words = a .args .words .now in
     let h = a .args .hand in
-    let rows = rowsOf (a .args .nums .now) (a .args .kinds .now) (a .args .bank .now) (a .args .marks .now) (a .args .recs .now) (a .args .sides .now) in
+    let rows = rowsOf (a .args .nums .now) (a .args .kinds .now) (a .args .bank .now) (a .args .marks .now) (a .args .recs .now) (a .args .sides .now)
+    (a .args .pile .now) (a .args .tags .now) in
     let p = a .pre .0 in
     let n = c .before .before .before .before .before .before .before .before .before .before .before .before .before .before .before .before .before .before .before .before .if1 .left in
     let low = still-deep (h .what) (h .left) (h .depth) n (a .pre .2) in
     let d = h .depth - 1 in
     let deep : h .depth ≡ suc d = omega (arith, low) in
     let y = c .before .before .before .before .before .before .before .before .join-parent in
-    (less-deep h (y .result) n (y .ensures .0 .1) (y .ensures .0 .0), y .ensures .1 words (a .args .interval))
+    (less-deep h (y .result) n (y .ensures .0 .1) (y .ensures .0 .0), y .ensures .1 words (a .args .interval) (a .args .pile .now) (a .args .tags .now) p)
 
 pub advance-spec : {M : Type 1} → statement M
 advance-spec =
@@ -230,21 +247,23 @@ advance-spec =
     same-length-6
     same-length-7
     same-length-8
+    same-length-9
+    same-length-10
     returns-2
     sub-kept-at
     kept-at-requires
     take-child-requires
-    same-length-9
-    same-length-10
     same-length-11
     same-length-12
     same-length-13
-    returns-3
-    join-parent-requires
     same-length-14
     same-length-15
+    returns-3
+    join-parent-requires
     same-length-16
     same-length-17
     same-length-18
     same-length-19
+    same-length-20
+    same-length-21
     returns-4)

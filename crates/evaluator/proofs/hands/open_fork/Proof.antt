@@ -37,7 +37,7 @@ keep-requires c κs = search needs
 add-t22 : tie.Need-add-t22
 add-t22 c =
     let a = c .before .before .before .before .before .before .before .before .before .before .before .before .before .before .before .before .before .before .before .before .before .before in
-    omega (arith, a .pre .1)
+    omega (arith, a .pre .5)
 
 cast-t19-2 : tie.Need-cast-t19-2
 cast-t19-2 c = search needs
@@ -52,7 +52,7 @@ add-t26 : tie.Need-add-t26
 add-t26 c =
     let a = c .before .before .before .before .before .before .before .before .before .before .before .before .before .before .before .before .before .before .before .before .before .before .before .before in
     let f : Fits w32 (a .args .e .counter) = search needs in
-    omega (arith, a .pre .3, f)
+    omega (arith, a .pre .7, f)
 
 same-length : tie.Need-same-length
 same-length c = search needs

@@ -2,7 +2,7 @@
 use Prim.Native.Nat.{_+_, _*_}
 use native.Mathlib.Omega.{arith}
 use lib.ListN.{set, length-set}
-use Rattle.evaluator.proofs.KeepLaws.{keeps-four}
+use Rattle.evaluator.proofs.KeepLaws.{length-three, length-four, keeps-five}
 use borrow.Author.Needs.{needs}
 use Rattle.evaluator.proofs.keeping.keep.Statement.{statement}
 use Rattle.evaluator.proofs.keeping.keep.Tie as tie
@@ -25,7 +25,7 @@ mul-sides-2 c = search needs
 slice-write-sides-2 : tie.Need-slice-write-sides-2
 slice-write-sides-2 c =
     let l = c .args .sides .now in
-    let b = 4 * c .args .d in
+    let b = 5 * c .args .d in
     let k = c .args .k in
     omega (arith, c .pre .0, c .pre .1, length-set l b (k .what))
 
@@ -38,7 +38,7 @@ mul-sides-3 c = search needs
 slice-write-sides-3 : tie.Need-slice-write-sides-3
 slice-write-sides-3 c =
     let l = c .args .sides .now in
-    let b = 4 * c .args .d in
+    let b = 5 * c .args .d in
     let k = c .args .k in
     omega (arith, c .pre .0, c .pre .1, length-set (set l b (k .what)) (b + 1) (k .places), length-set l b (k .what))
 
@@ -50,16 +50,25 @@ mul-sides-4 c = search needs
 
 slice-write-sides-4 : tie.Need-slice-write-sides-4
 slice-write-sides-4 c =
-    let l = c .args .sides .now in
-    let b = 4 * c .args .d in
     let k = c .args .k in
-    omega (arith, c .pre .0, c .pre .1, length-set (set (set l b (k .what)) (b + 1) (k .places)) (b + 2) (k .pc), length-set (set l b (k .what)) (b + 1) (k .places), length-set l b (k .what))
+    omega (arith, c .pre .0, c .pre .1, length-three (c .args .sides .now) (5 * c .args .d) (k .what) (k .places) (k .pc) (k .span) (k .height))
+
+add-sides-4 : tie.Need-add-sides-4
+add-sides-4 c = search needs
+
+mul-sides-5 : tie.Need-mul-sides-5
+mul-sides-5 c = search needs
+
+slice-write-sides-5 : tie.Need-slice-write-sides-5
+slice-write-sides-5 c =
+    let k = c .args .k in
+    omega (arith, c .pre .0, c .pre .1, length-four (c .args .sides .now) (5 * c .args .d) (k .what) (k .places) (k .pc) (k .span) (k .height))
 
 same-length : tie.Need-same-length
 same-length c = search needs
 
 returns : tie.Need-returns
-returns c = keeps-four (c .args .sides .now) (c .args .d) (c .args .k) (c .pre .0) (c .pre .1)
+returns c = keeps-five (c .args .sides .now) (c .args .d) (c .args .k) (c .pre .0) (c .pre .1)
 
 pub keep-spec : {M : Type 1} → statement M
 keep-spec =
@@ -77,5 +86,8 @@ keep-spec =
     add-sides-3
     mul-sides-4
     slice-write-sides-4
+    add-sides-4
+    mul-sides-5
+    slice-write-sides-5
     same-length
     returns)

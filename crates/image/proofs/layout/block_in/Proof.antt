@@ -1,4 +1,5 @@
 -- `block_in` meets its contract.
+use native.Mathlib.Omega.{arith}
 use borrow.Author.Needs.{needs}
 use Rattle.image.proofs.layout.block_in.Statement.{statement}
 use Rattle.image.proofs.layout.block_in.Tie as tie
@@ -6,11 +7,11 @@ use Rattle.image.proofs.layout.block_in.Tie as tie
 read-u16-requires : tie.Need-read-u16-requires
 read-u16-requires c κs = search needs
 
-add-read-u32 : tie.Need-add-read-u32
-add-read-u32 c = search needs
+add-pairs-in : tie.Need-add-pairs-in
+add-pairs-in c = search needs
 
-read-u32-requires : tie.Need-read-u32-requires
-read-u32-requires c κs = search needs
+pairs-in-requires : tie.Need-pairs-in-requires
+pairs-in-requires c κs = omega (arith, c .before .before .pre)
 
 add-wide : tie.Need-add-wide
 add-wide c = search needs
@@ -55,7 +56,7 @@ returns c = λ j. record {
   policy = c .before .before .before .before .wide2 .ensures j;
   label = c .before .before .wide3 .ensures j;
   pairs = c .wide4 .ensures j;
-  packed = c .before .before .before .before .before .before .before .before .read-u32 .ensures .equal j;
+  packed = c .before .before .before .before .before .before .before .before .pairs-in .ensures j;
 }
 
 pub block-in-spec : {M : Type 1} → statement M
@@ -63,8 +64,8 @@ block-in-spec =
     tie.close
     (tie.spec
     read-u16-requires
-    add-read-u32
-    read-u32-requires
+    add-pairs-in
+    pairs-in-requires
     add-wide
     shared-slice-read-wide
     wide-requires

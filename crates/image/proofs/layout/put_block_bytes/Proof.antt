@@ -4,6 +4,7 @@ use mathlib.Core.List.{List, _++_}
 use Prim.Native.Nat.{ℕ, _+_}
 use lib.Seq.{sets}
 use Rattle.int64.specs.Little.{bytesOf}
+use Rattle.image.specs.Layout.{mostPairs}
 use Rattle.image.proofs.Rows.{placed}
 use borrow.Author.Needs.{needs}
 use Rattle.image.proofs.layout.put_block_bytes.Statement.{statement}
@@ -21,11 +22,11 @@ add-write-u32 c = search needs
 write-u32-requires : tie.Need-write-u32-requires
 write-u32-requires c κs = search needs
 
-add-write-u32-2 : tie.Need-add-write-u32-2
-add-write-u32-2 c = search needs
+add-put-pairs : tie.Need-add-put-pairs
+add-put-pairs c = search needs
 
-write-u32-requires-2 : tie.Need-write-u32-requires-2
-write-u32-requires-2 c κs = search needs
+put-pairs-requires : tie.Need-put-pairs-requires
+put-pairs-requires c κs = search needs
 
 same-length : tie.Need-same-length
 same-length c = search needs
@@ -37,12 +38,13 @@ returns c =
     let l = start .args .image .now in
     let at = start .args .at in
     let k = start .args .k in
+    let pairs = mostPairs (start .args .version) in
     let middle = c .before .before .before .before .before .before .before .before .before .before .before .before .four-bytes .result in
     let two = placed l _ _ at (at + 2) (bytesOf 2 (k .first)) (bytesOf 4 middle)
     (c .before .before .before .before .before .before .before .before .before .before .write-u16 .ensures)
     (c .before .before .before .before .before .before .write-u32 .ensures) refl in
-    placed l _ _ at (at + 6) (bytesOf 2 (k .first) ++ bytesOf 4 middle) (bytesOf 4 (k .packed)) two (c .before .before .write-u322 .ensures) refl
-    ∙ ap (λ (m : List ℕ). sets l at ((bytesOf 2 (k .first) ++ m) ++ bytesOf 4 (k .packed)))
+    placed l _ _ at (at + 6) (bytesOf 2 (k .first) ++ bytesOf 4 middle) (bytesOf pairs (k .packed)) two (c .before .before .put-pairs .ensures) refl
+    ∙ ap (λ (m : List ℕ). sets l at ((bytesOf 2 (k .first) ++ m) ++ bytesOf pairs (k .packed)))
     (c .before .before .before .before .before .before .before .before .before .before .before .before .four-bytes .ensures)
 
 pub put-block-bytes-spec : {M : Type 1} → statement M
@@ -53,7 +55,7 @@ put-block-bytes-spec =
     write-u16-requires
     add-write-u32
     write-u32-requires
-    add-write-u32-2
-    write-u32-requires-2
+    add-put-pairs
+    put-pairs-requires
     same-length
     returns)

@@ -3,7 +3,7 @@ use mathlib.Core.Path.{ap₂, _∙_}
 use Prim.Native.Nat.{ℕ}
 use borrow.Author.Tests.{le-leb, lt-leb}
 use Rattle.image.specs.declared.Block.{Block}
-use Rattle.image.specs.Layout.{blockCount, instructionCount}
+use Rattle.image.specs.Layout.{versionOf, blockCount, instructionCount}
 use Rattle.image.specs.Questions.{blockNo}
 use Rattle.image.specs.Records.{blockRecordNo}
 use borrow.Author.Needs.{needs}
@@ -35,17 +35,20 @@ shared-slice-read-ask-block-record c = search needs
 shared-slice-read-ask-block-record-2 : tie.Need-shared-slice-read-ask-block-record-2
 shared-slice-read-ask-block-record-2 c = search needs
 
+shared-slice-read-ask-block-record-3 : tie.Need-shared-slice-read-ask-block-record-3
+shared-slice-read-ask-block-record-3 c = search needs
+
 ask-block-record-requires : tie.Need-ask-block-record-requires
 ask-block-record-requires c κs = search needs
 
 returns-2 : tie.Need-returns-2
 unfolding blockNo
 returns-2 c =
-    let start = c .before .before .before .before .before .before .before in
-    rw (le-leb _ _ (c .before .before .before .before .before .if1 .left))
-    (c .ask-block-record .ensures ∙ ap₂ (λ (n : ℕ) (k : Block). blockRecordNo (blockCount (start .args .cells .now))
-    (instructionCount (start .args .cells .now)) (start .args .b) n k) (c .before .before .before .before .first-before .ensures)
-    (c .before .before .before .block-of .ensures))
+    let start = c .before .before .before .before .before .before .before .before in
+    let cells = start .args .cells .now in
+    rw (le-leb _ _ (c .before .before .before .before .before .before .if1 .left))
+    (c .ask-block-record .ensures ∙ ap₂ (λ (n : ℕ) (k : Block). blockRecordNo (versionOf cells) (blockCount cells) (instructionCount cells) (start .args .b) n k)
+    (c .before .before .before .before .before .first-before .ensures) (c .before .before .before .before .block-of .ensures))
 
 pub ask-block-spec : {M : Type 1} → statement M
 ask-block-spec =
@@ -59,5 +62,6 @@ ask-block-spec =
     block-of-requires
     shared-slice-read-ask-block-record
     shared-slice-read-ask-block-record-2
+    shared-slice-read-ask-block-record-3
     ask-block-record-requires
     returns-2)

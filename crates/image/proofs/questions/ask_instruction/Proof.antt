@@ -1,6 +1,7 @@
 -- `ask_instruction` meets its contract.
-use lib.Dec.{eqb, leb}
+use lib.Dec.{eqb}
 use borrow.Author.Tests.{not-true, not-false}
+use Rattle.image.specs.Questions.{endsBlock}
 use Rattle.image.proofs.Marking.{marks-differ, marks-agree}
 use borrow.Author.Needs.{needs}
 use Rattle.image.proofs.questions.ask_instruction.Statement.{statement}
@@ -22,7 +23,7 @@ returns-2 c =
       ← (c .before .before .before .is-laid-out .ensures),
       not-false (c .before .before .before .is-laid-out .result)
           (c .before .before .if1 .left),
-      marks-differ (leb 13 (start .args .x .opcode)) (eqb (start .args .last) 1) (c .before .end-mark .result)
+      marks-differ (endsBlock (start .args .x .opcode)) (eqb (start .args .last) 1) (c .before .end-mark .result)
           (start .args .last) (c .before .end-mark .ensures) (start .pre .1) (c .if2 .taken),
     )
 
@@ -33,7 +34,7 @@ returns-3 c =
       ← (c .before .before .before .is-laid-out .ensures),
       not-false (c .before .before .before .is-laid-out .result)
           (c .before .before .if1 .left),
-      marks-agree (leb 13 (start .args .x .opcode)) (eqb (start .args .last) 1) (c .before .end-mark .result)
+      marks-agree (endsBlock (start .args .x .opcode)) (eqb (start .args .last) 1) (c .before .end-mark .result)
           (start .args .last) (c .before .end-mark .ensures) (start .pre .1) (c .if2 .left),
     )
 

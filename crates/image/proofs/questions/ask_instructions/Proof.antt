@@ -13,13 +13,13 @@ use Rattle.image.proofs.questions.ask_instructions.Statement.{statement
 use Rattle.image.proofs.questions.ask_instructions.Tie as tie
 
 abbrev Inv-loop : tie.InvT-loop
-Inv-loop limits largest cells marks held i₀ i = (i ≤ held) × (firstNo (instructionNo cells) (instructionCount cells) 0 ≡ firstNo (instructionNo cells) (instructionCount cells - i) i)
+Inv-loop opcodes limits largest cells marks held i₀ i = (i ≤ held) × (firstNo (instructionNo cells) (instructionCount cells) 0 ≡ firstNo (instructionNo cells) (instructionCount cells - i) i)
 
 abbrev μ-loop : tie.MeasureT-loop
-μ-loop limits largest cells marks held i₀ i = held - i
+μ-loop opcodes limits largest cells marks held i₀ i = held - i
 
 instructions-held-requires : tie.Need-instructions-held-requires Inv-loop μ-loop
-instructions-held-requires c κs = (c .before .before .before .before .pre .1, c .before .before .before .before .pre .2)
+instructions-held-requires c κs = (c .before .before .before .before .pre .2, c .before .before .before .before .pre .3)
 
 loop-holds : tie.Need-loop-holds Inv-loop μ-loop
 loop-holds c =
@@ -35,7 +35,7 @@ add-ask-instruction c = omega arith
 shared-slice-read-ask-instruction : tie.Need-shared-slice-read-ask-instruction Inv-loop μ-loop
 shared-slice-read-ask-instruction c = omega (
   arith,
-  c .before .before .before .before .before .before .before .before .before .pre .3 .sized,
+  c .before .before .before .before .before .before .before .before .before .pre .4 .sized,
   c .before .before .before .before .instructions-held .ensures .0,
 )
 
@@ -45,9 +45,9 @@ ask-instruction-requires c κs =
     let cells = start .args .cells .now in
     let l = c .before .before .before .loop in
     let held = c .before .before .before .before .instructions-held .ensures in (
-      limited-by (blockCount cells) (start .args .limits .now) (start .args .largest .now) (start .pre .0),
+      limited-by (start .args .opcodes) (blockCount cells) (start .args .limits .now) (start .args .largest .now) (start .pre .1),
       mark-told (lastInBlock (programOf cells) (l .i))
-          (getD (start .args .marks .now) (l .i + 1) 0) (start .pre .3 .ended (l .i) (omega (arith, held .0))) .1,
+          (getD (start .args .marks .now) (l .i + 1) 0) (start .pre .4 .ended (l .i) (omega (arith, held .0))) .1,
     )
 
 returns : tie.Need-returns Inv-loop μ-loop
@@ -56,10 +56,10 @@ returns c =
     let cells = start .args .cells .now in
     let l = c .before .before .before .before .before .loop in
     let held = c .before .before .before .before .before .before .instructions-held .ensures in
-    let no = c .before .ask-instruction .ensures ∙ asked-by cells (start .args .marks .now) (blockCount cells) (start .args .limits .now)
-    (start .args .largest .now) (start .pre .0) (start .pre .3) (l .i) (omega (arith, held .0))
-    (c .before .before .before .instruction-of .result) ∙ ap (instructionRecordNo (blockCount cells) (lastInBlock (programOf cells) (l .i)))
-    (c .before .before .before .instruction-of .ensures) ∙ asked-held cells (l .i)
+    let no = c .before .ask-instruction .ensures ∙ asked-by cells (start .args .marks .now) (start .args .opcodes) (blockCount cells) (start .args .limits .now)
+    (start .args .largest .now) (start .pre .1) (start .pre .4) (l .i) (omega (arith, held .0))
+    (c .before .before .before .instruction-of .result) ∙ ap (instructionRecordNo (start .args .opcodes) (blockCount cells) (lastInBlock (programOf cells) (l .i)))
+    (c .before .before .before .instruction-of .ensures) ∙ asked-held cells (start .args .opcodes) (l .i) (start .pre .0)
     (held .1 (l .i) (c .before .before .before .before .loop-test .taken)) in
     no ∙ sym (l .inv .1 ∙ decides (instructionNo cells) (instructionCount cells) (l .i) (omega (arith, held .0)) (λ e. c .if1 .taken (no ∙ e)))
 
@@ -75,10 +75,10 @@ loop-again c =
     let cells = start .args .cells .now in
     let l = c .before .before .before .before .before .loop in
     let held = c .before .before .before .before .before .before .instructions-held .ensures in
-    let no = c .before .ask-instruction .ensures ∙ asked-by cells (start .args .marks .now) (blockCount cells) (start .args .limits .now)
-    (start .args .largest .now) (start .pre .0) (start .pre .3) (l .i) (omega (arith, held .0))
-    (c .before .before .before .instruction-of .result) ∙ ap (instructionRecordNo (blockCount cells) (lastInBlock (programOf cells) (l .i)))
-    (c .before .before .before .instruction-of .ensures) ∙ asked-held cells (l .i)
+    let no = c .before .ask-instruction .ensures ∙ asked-by cells (start .args .marks .now) (start .args .opcodes) (blockCount cells) (start .args .limits .now)
+    (start .args .largest .now) (start .pre .1) (start .pre .4) (l .i) (omega (arith, held .0))
+    (c .before .before .before .instruction-of .result) ∙ ap (instructionRecordNo (start .args .opcodes) (blockCount cells) (lastInBlock (programOf cells) (l .i)))
+    (c .before .before .before .instruction-of .ensures) ∙ asked-held cells (start .args .opcodes) (l .i) (start .pre .0)
     (held .1 (l .i) (c .before .before .before .before .loop-test .taken)) in
     (omega arith, l .inv .1 ∙ goes-on (instructionNo cells) (instructionCount cells) (l .i) (omega (arith, held .0)) (sym no ∙ c .if1 .left))
 

@@ -1,21 +1,21 @@
 -- `fill_limits` meets its contract.
 use mathlib.Core.Path.{_≡_, refl, ap, _∙_}
 use mathlib.Core.List.{List}
-use Prim.Native.Nat.{ℕ, _+_, _-_, _*_, _≤_}
+use Prim.Native.Nat.{ℕ, _-_, _≤_}
 use lib.ListN.{length}
 use lib.Seq.{sets}
 use Rattle.image.specs.Layout.{rows}
 use Rattle.image.specs.Limits.{limitsAt}
-use Rattle.image.proofs.Limiting.{row-filled, limits-filled}
+use Rattle.image.proofs.Limiting.{row-filled}
 use native.Mathlib.Omega.{arith}
 use Rattle.image.proofs.questions.fill_limits.Statement.{statement}
 use Rattle.image.proofs.questions.fill_limits.Tie as tie
 
 abbrev Inv-loop : tie.InvT-loop
-Inv-loop table limits₀ row₀ limits row = (row ≤ 15) × (length limits ≡ length limits₀) × (limits ≡ sets limits₀ 0 (rows limitsAt row))
+Inv-loop table limits₀ row₀ limits row = (row ≤ 17) × (length limits ≡ length limits₀) × (limits ≡ sets limits₀ 4 (rows limitsAt row))
 
 abbrev μ-loop : tie.MeasureT-loop
-μ-loop table limits₀ row₀ limits row = 15 - row
+μ-loop table limits₀ row₀ limits row = 17 - row
 
 loop-holds : tie.Need-loop-holds Inv-loop μ-loop
 unfolding rows
@@ -23,6 +23,9 @@ loop-holds c = (omega arith, refl, refl)
 
 mul-put-limits : tie.Need-mul-put-limits Inv-loop μ-loop
 mul-put-limits c = omega arith
+
+add-put-limits : tie.Need-add-put-limits Inv-loop μ-loop
+add-put-limits c = omega arith
 
 shared-slice-read-put-limits : tie.Need-shared-slice-read-put-limits Inv-loop μ-loop
 shared-slice-read-put-limits c = omega (arith, ap (λ (l : List ℕ). length l) (c .before .before .before .before .before .before .pre .0))
@@ -37,13 +40,23 @@ loop-less : tie.Need-loop-less Inv-loop μ-loop
 loop-less c = omega arith
 
 loop-again : tie.Need-loop-again Inv-loop μ-loop
-loop-again c = (omega arith, c .before .before .put-limits .kept .0 ∙ c .before .before .before .before .before .before .loop .inv .1, row-filled (c .before .before .before .before .before .before .before .before .before .args .table .now) (c .before .before .before .before .before .before .before .before .before .args .limits .now) (c .before .before .before .before .before .before .loop .limits) _ (c .before .before .before .before .before .before .loop .row) (c .before .before .before .before .before .before .before .before .before .pre .0) (c .before .before .before .before .before .before .loop .inv .2) (c .before .before .put-limits .ensures))
+loop-again c =
+    let start = c .before .before .before .before .before .before .before .before .before in
+    let l = c .before .before .before .before .before .before .loop in
+    let put = c .before .before .put-limits in (
+      omega arith,
+      put .kept .0 ∙ l .inv .1,
+      row-filled (start .args .table .now) (start .args .limits .now) (l .limits) _ (l .row) (start .pre .0) (l .inv .2) (put .ensures),
+    )
 
 same-length : tie.Need-same-length Inv-loop μ-loop
 same-length c = c .before .loop .inv .1
 
 returns : tie.Need-returns Inv-loop μ-loop
-returns c = limits-filled _ _ (c .before .before .before .before .pre .1) (c .before .loop .inv .2 ∙ ap (λ (n : ℕ). sets (c .before .before .before .before .args .limits .now) 0 (rows limitsAt n)) (omega arith))
+returns c =
+    let l = c .before .loop in
+    let all : l .row ≡ 17 = omega arith in
+    l .inv .2 ∙ ap (λ (n : ℕ). sets (c .before .before .before .before .args .limits .now) 4 (rows limitsAt n)) all
 
 pub fill-limits-spec : {M : Type 1} → statement M
 fill-limits-spec =
@@ -53,6 +66,7 @@ fill-limits-spec =
     μ-loop
     loop-holds
     mul-put-limits
+    add-put-limits
     shared-slice-read-put-limits
     put-limits-requires
     add-row

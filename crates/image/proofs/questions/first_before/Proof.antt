@@ -1,8 +1,9 @@
 -- `first_before` meets its contract.
 use mathlib.Core.Path.{_≡_, ap}
-use Prim.Native.Nat.{ℕ, _+_, _-_, _*_}
+use Prim.Native.Nat.{ℕ, _-_}
 use lib.ListN.{getD}
 use native.Mathlib.Omega.{arith}
+use Rattle.image.specs.Layout.{blockCell}
 use borrow.Author.Needs.{needs}
 use Rattle.image.proofs.questions.first_before.Statement.{statement}
 use Rattle.image.proofs.questions.first_before.Tie as tie
@@ -11,7 +12,7 @@ shared-slice-read-result : tie.Need-shared-slice-read-result
 shared-slice-read-result c = search needs
 
 returns : tie.Need-returns
-returns c = let e : 2 ≡ 2 + 6 * (c .before .before .args .b - 1) = omega arith in ap (λ (n : ℕ). getD (c .before .before .args .cells .now) n 0) e
+returns c = let e : blockCell 0 ≡ blockCell (c .before .before .args .b - 1) = omega arith in ap (λ (n : ℕ). getD (c .before .before .args .cells .now) n 0) e
 
 sub-result : tie.Need-sub-result
 sub-result c = search needs

@@ -4,7 +4,7 @@ use mathlib.Core.List.{List, [], _∷_}
 use Prim.Native.Nat.{ℕ}
 use lib.ListN.{length, length-replicate}
 use native.Mathlib.Omega.{arith}
-use Rattle.image.specs.Layout.{blocksIn, instructionsIn, programCells, cellsIn}
+use Rattle.image.specs.Layout.{versionIn, blocksIn, instructionsIn, programCells, cellsIn}
 use Rattle.image.specs.Questions.{recordsNo}
 use Rattle.image.specs.Doors.{headerNo, imageNo}
 use Rattle.image.proofs.Asked.{or-else-no, or-else-yes}
@@ -33,8 +33,8 @@ returns c =
       ),
     )
 
-lay-counts-requires : tie.Need-lay-counts-requires
-lay-counts-requires c κs =
+lay-head-requires : tie.Need-lay-head-requires
+lay-head-requires c κs =
     let start = c .before .before .before .before .before in (
       header (start .args .image .now) (sym (c .before .before .ask-header .ensures) ∙ c .before .if1 .left) .long,
       λ t.
@@ -46,10 +46,10 @@ walk-records-requires c κs =
     let start = c .before .before .before .before .before .before .before .before .before in
     let image = start .args .image .now in
     let cells = start .args .cells .now in
-    let counts : List ℕ = blocksIn image ∷ instructionsIn image ∷ [] in (
+    let head : List ℕ = versionIn image ∷ blocksIn image ∷ instructionsIn image ∷ [] in (
       sym (c .before .before .before .before .before .before .ask-header .ensures) ∙ c .before .before .before .before .before .if1 .left,
       λ t.
-          laid-length (start .args .lays) cells _ counts 0 (c .before .before .before .lay-counts .ensures) ∙ ap length (start .pre t) ∙
+          laid-length (start .args .lays) cells _ head 0 (c .before .before .before .lay-head .ensures) ∙ ap length (start .pre t) ∙
           length-replicate {A = ℕ} programCells 0,
     )
 
@@ -68,7 +68,7 @@ returns-2 c =
       w .0 ∙ sym (or-else-yes (headerNo image) (recordsNo (cellsIn image)) accepted),
       (
         w .1 .0,
-        scanned-records image (start .args .lays) (start .args .cells .now) (start .pre) _ _ accepted (counted .lay-counts .ensures) (w .1 .1),
+        scanned-records image (start .args .lays) (start .args .cells .now) (start .pre) _ _ accepted (counted .lay-head .ensures) (w .1 .1),
       ),
     )
 
@@ -78,7 +78,7 @@ walk-image-spec =
     (tie.spec
     ask-header-requires
     returns
-    lay-counts-requires
+    lay-head-requires
     walk-records-requires
     same-length
     returns-2)

@@ -26,7 +26,7 @@ add-ask-instruction c =
 shared-slice-read-ask-instruction : tie.Need-shared-slice-read-ask-instruction
 shared-slice-read-ask-instruction c =
     let start = c .before .before .before .before .before .before in
-    let k = counted _ _ (header (start .args .image .now) (start .pre .0) .counts) in omega (arith, start .pre .2 .sized, start .pre .3)
+    let k = counted _ _ (header (start .args .image .now) (start .pre .0) .counts) in omega (arith, start .pre .3 .sized, start .pre .4)
 
 ask-instruction-requires : tie.Need-ask-instruction-requires
 ask-instruction-requires c κs =
@@ -34,9 +34,9 @@ ask-instruction-requires c κs =
     let image = start .args .image .now in
     let i = start .args .i in
     let below = cells-in-instructions image in (
-      limited-by (blocksIn image) (start .args .limits .now) (start .args .largest .now) (start .pre .1),
+      limited-by (start .args .opcodes) (blocksIn image) (start .args .limits .now) (start .args .largest .now) (start .pre .2),
       mark-told (lastInBlock (programOf (cellsIn image)) i)
-          (getD (start .args .marks .now) (i + 1) 0) (start .pre .2 .ended i (omega (arith, start .pre .3, below))) .1,
+          (getD (start .args .marks .now) (i + 1) 0) (start .pre .3 .ended i (omega (arith, start .pre .4, below))) .1,
     )
 
 returns : tie.Need-returns
@@ -44,11 +44,13 @@ returns c =
     let start = c .before .before .before .before .before .before .before in
     let image = start .args .image .now in
     let i = start .args .i in
+    let opcodes = start .args .opcodes in
     c .ask-instruction .ensures
-    ∙ asked-by (cellsIn image) (start .args .marks .now) (blocksIn image) (start .args .limits .now) (start .args .largest .now) (start .pre .1)
-    (start .pre .2) i (omega (arith, start .pre .3, cells-in-instructions image)) (c .before .before .instruction-in .result)
-    ∙ ap (instructionRecordNo (blocksIn image) (lastInBlock (programOf (cellsIn image)) i)) (c .before .before .instruction-in .ensures ∙ ap (instructionIn image) (start .pre .4))
-    ∙ instruction-asked image (header image (start .pre .0)) i (start .pre .3)
+    ∙ asked-by (cellsIn image) (start .args .marks .now) opcodes (blocksIn image) (start .args .limits .now) (start .args .largest .now) (start .pre .2)
+    (start .pre .3) i (omega (arith, start .pre .4, cells-in-instructions image)) (c .before .before .instruction-in .result)
+    ∙ ap (instructionRecordNo opcodes (blocksIn image) (lastInBlock (programOf (cellsIn image)) i))
+    (c .before .before .instruction-in .ensures ∙ ap (instructionIn image) (start .pre .5))
+    ∙ instruction-asked image (header image (start .pre .0)) opcodes i (start .pre .1) (start .pre .4)
 
 pub ask-instruction-in-spec : {M : Type 1} → statement M
 ask-instruction-in-spec =

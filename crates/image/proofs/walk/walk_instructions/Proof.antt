@@ -2,7 +2,8 @@
 use mathlib.Core.Path.{sym, _∙_}
 use Prim.Native.Nat.{_-_}
 use native.Mathlib.Omega.{arith}
-use Rattle.image.specs.Layout.{instructionsIn}
+use Rattle.image.specs.Layout.{versionIn, blocksIn, instructionsIn}
+use Rattle.image.proofs.Versions.{places-most}
 use Rattle.image.proofs.Counts.{counted}
 use Rattle.image.proofs.Header.{header}
 use Rattle.image.proofs.Walks.{AtInstruction, instructions-begin, next-instruction, instruction-refused, instructions-end, instruction-length}
@@ -10,10 +11,10 @@ use Rattle.image.proofs.walk.walk_instructions.Statement.{statement}
 use Rattle.image.proofs.walk.walk_instructions.Tie as tie
 
 abbrev Inv-loop : tie.InvT-loop
-Inv-loop limits largest image marks start lays cells₀ instructions at₀ to₀ i₀ cells at to i = AtInstruction image lays cells₀ cells at to i
+Inv-loop opcodes limits largest image marks start lays cells₀ instructions at₀ to₀ i₀ cells at to i = AtInstruction image lays cells₀ cells at to i
 
 abbrev μ-loop : tie.MeasureT-loop
-μ-loop limits largest image marks start lays cells₀ instructions at₀ to₀ i₀ cells at to i = instructionsIn image - i
+μ-loop opcodes limits largest image marks start lays cells₀ instructions at₀ to₀ i₀ cells at to i = instructionsIn image - i
 
 read-u16-requires : tie.Need-read-u16-requires Inv-loop μ-loop
 read-u16-requires c κs =
@@ -23,12 +24,12 @@ read-u16-requires c κs =
 loop-holds : tie.Need-loop-holds Inv-loop μ-loop
 loop-holds c =
     let start = c .before .before .before .before .before .before in
-    instructions-begin (start .args .image .now) (start .pre .0) (start .args .lays) (start .args .cells .now) (start .args .start) (start .pre .3)
+    instructions-begin (start .args .image .now) (start .pre .0) (start .args .lays) (start .args .cells .now) (start .args .start) (start .pre .4)
 
 ask-instruction-in-requires : tie.Need-ask-instruction-in-requires Inv-loop μ-loop
 ask-instruction-in-requires c κs =
     let start = c .before .before .before .before .before .before .before .before in
-    (start .pre .0, start .pre .1, start .pre .2, omega (arith, c .before .before .read-u16 .ensures .equal), c .before .loop .inv .offset)
+    (start .pre .0, start .pre .1, start .pre .2, start .pre .3, omega (arith, c .before .before .read-u16 .ensures .equal), c .before .loop .inv .offset)
 
 same-length : tie.Need-same-length Inv-loop μ-loop
 same-length c =
@@ -61,7 +62,7 @@ lay-instruction-requires c κs =
       λ t.
           (omega (
             arith,
-            start .pre .4 t,
+            start .pre .5 t,
             instruction-length image ok (start .args .lays) (start .args .cells .now) (l .cells) (l .at) (l .to) (l .i)
                 (l .inv),
             l .inv .target,
@@ -73,13 +74,14 @@ lay-instruction-requires c κs =
 add-at : tie.Need-add-at Inv-loop μ-loop
 add-at c =
     let start = c .before .before .before .before .before .before .before .before .before .before .before .before .before .before in
-    let k = counted _ _ (header (start .args .image .now) (start .pre .0) .counts) in
+    let image = start .args .image .now in
+    let k = counted _ _ (header image (start .pre .0) .counts) in
     omega (
       arith,
       c .before .before .before .before .before .before .before .loop .inv .offset,
       c .before .before .before .before .before .before .before .before .read-u16 .ensures .equal,
       k .instructions-fit,
-      k .blocks-fit,
+      places-most (versionIn image) (blocksIn image) (k .blocks-fit),
     )
 
 add-to : tie.Need-add-to Inv-loop μ-loop

@@ -1,11 +1,12 @@
 -- `walk_records` meets its contract.
 use mathlib.Core.Path.{_≡_, sym, ap, _∙_}
 use native.Mathlib.Omega.{arith}
-use Rattle.image.specs.Layout.{blocksIn, instructionsIn, blockCell, blockCellsIn, cellsIn}
-use Rattle.image.specs.Questions.{firstNo, blockNo, instructionNo}
+use Rattle.image.specs.Layout.{versionIn, blocksIn, instructionsIn, blockCell, blockCellsIn, cellsIn}
+use Rattle.image.specs.Questions.{firstNo, blockNo, lastOpcode, instructionNo}
 use Rattle.image.specs.Limits.{largestOf}
 use Rattle.image.specs.Offset.{blocksPassed}
 use Rattle.image.proofs.Asked.{or-else-no, or-else-yes}
+use Rattle.image.proofs.Versions.{opcodes-most}
 use Rattle.image.proofs.Counts.{counted}
 use Rattle.image.proofs.Header.{header}
 use Rattle.image.proofs.Marking.{marked-none}
@@ -72,6 +73,14 @@ largest-operands-requires c κs =
     let start = c .before .before .before .before .before .before .before .before .before .before .before .before .before .before .before .before in
     omega (arith, c .wide .ensures, counted _ _ (header (start .args .image .now) (start .pre .0) .counts) .some-block)
 
+read-u16-requires-2 : tie.Need-read-u16-requires-2
+read-u16-requires-2 c κs =
+    let start = c .before .before .before .before .before .before .before .before .before .before .before .before .before .before .before .before .before in
+    omega (arith, header (start .args .image .now) (start .pre .0) .long)
+
+last-opcode-requires : tie.Need-last-opcode-requires
+last-opcode-requires c κs = search needs
+
 slice-aggregate-walk-instructions : tie.Need-slice-aggregate-walk-instructions
 slice-aggregate-walk-instructions c = search needs
 
@@ -83,7 +92,8 @@ slice-aggregate-walk-instructions-3 c = search needs
 
 walk-instructions-requires : tie.Need-walk-instructions-requires
 walk-instructions-requires c κs =
-    let large = c .before .before .before .before in
+    let last = c .before .before .before .before in
+    let large = last .before .before in
     let limits = large .before .before .before .before in
     let end = limits .before .before in
     let asked = end .before in
@@ -92,9 +102,12 @@ walk-instructions-requires c κs =
     let image = start .args .image .now in
     let ok = start .pre .0 in
     let e = walked .walk-blocks .ensures in
-    let all : firstNo (blockNo (cellsIn image)) (blocksIn image) 0 ≡ 0 = sym (e .0) ∙ asked .if1 .left in (
+    let all : firstNo (blockNo (cellsIn image)) (blocksIn image) 0 ≡ 0 = sym (e .0) ∙ asked .if1 .left in
+    let opcodes = last .last-opcode .ensures ∙ ap lastOpcode (last .before .read-u162 .ensures .equal) in (
       ok,
+      opcodes,
       record {
+        few-opcodes = omega (arith, opcodes, opcodes-most (versionIn image));
         some-block = counted _ _ (header image ok .counts) .some-block;
         limits-are = limits .all-limits .ensures;
         largest-are = large .largest-operands .ensures ∙ ap largestOf (large .before .wide .ensures);
@@ -111,7 +124,7 @@ same-length-2 c = search needs
 returns-2 : tie.Need-returns-2
 returns-2 c =
     let w = c .before .before .walk-instructions .ensures in
-    let asked = c .before .before .before .before .before .before .before .before .before .before .before .before .before .before in
+    let asked = c .before .before .before .before .before .before .before .before .before .before .before .before .before .before .before .before in
     let walked = asked .before .before .before .before .before in
     let start = walked .before .before .before .before .before in
     let image = start .args .image .now in
@@ -140,6 +153,8 @@ walk-records-spec =
     shared-slice-read-wide
     wide-requires
     largest-operands-requires
+    read-u16-requires-2
+    last-opcode-requires
     slice-aggregate-walk-instructions
     slice-aggregate-walk-instructions-2
     slice-aggregate-walk-instructions-3

@@ -1,7 +1,7 @@
 -- `encode` meets its contract.
 use mathlib.Core.Path.{_∙_}
 use native.Mathlib.Omega.{arith}
-use Rattle.image.proofs.Counts.{counted, two-cells}
+use Rattle.image.proofs.Counts.{counted, three-cells}
 use Rattle.image.proofs.Written.{encoded}
 use borrow.Author.Needs.{needs}
 use Rattle.image.proofs.writer.encode.Statement.{statement}
@@ -10,7 +10,7 @@ use Rattle.image.proofs.writer.encode.Tie as tie
 encode-header-requires : tie.Need-encode-header-requires
 encode-header-requires c κs =
     let start = c .before .before .before in
-    let k = counted _ _ (start .pre .1) in (two-cells (start .args .cells .now) (start .pre .1), omega arith)
+    let k = counted _ _ (start .pre .1) in (three-cells (start .args .cells .now) (start .pre .1), omega arith)
 
 encode-blocks-requires : tie.Need-encode-blocks-requires
 encode-blocks-requires c κs =

@@ -1,20 +1,20 @@
 -- `encode_instructions` meets its contract.
 use mathlib.Core.Path.{_≡_, refl, ap, ap₂, _∙_}
-use Prim.Native.Nat.{ℕ, _+_, _-_, _*_, _≤_}
+use Prim.Native.Nat.{ℕ, _-_, _≤_}
 use lib.ListN.{length}
 use lib.Seq.{sets}
 use native.Mathlib.Omega.{arith}
 use Rattle.int64.specs.Little.{bytesOf}
 use Rattle.image.specs.declared.Instruction.{Instruction}
-use Rattle.image.specs.Layout.{rows, blockPlace, instructionPlace, blockCount, instructionCount, instructionFrom, instructionOf, instructionBytes}
+use Rattle.image.specs.Layout.{rows, blockPlace, instructionPlace, instructionCell, versionOf, blockCount, instructionCount, instructionFrom, instructionOf, instructionBytes}
 use Rattle.image.proofs.Rows.{row-placed}
 use Rattle.image.proofs.writer.encode_instructions.Statement.{statement}
 use Rattle.image.proofs.writer.encode_instructions.Tie as tie
 
 abbrev Inv-loop : tie.InvT-loop
-Inv-loop cells start image₀ instructions at₀ from₀ i₀ image at from i = (i ≤ instructionCount cells) × (at ≡ instructionPlace (blockCount cells) i) ×
-    (from ≡ 770 + 5 * i) × (length image ≡ length image₀) ×
-    (image ≡ sets image₀ (blockPlace (blockCount cells)) (rows (λ (i : ℕ). instructionBytes (instructionOf cells i)) i))
+Inv-loop cells start image₀ instructions at₀ from₀ i₀ image at from i = (i ≤ instructionCount cells) × (at ≡ instructionPlace (versionOf cells) (blockCount cells) i) ×
+    (from ≡ instructionCell i) × (length image ≡ length image₀) ×
+    (image ≡ sets image₀ (blockPlace (versionOf cells) (blockCount cells)) (rows (λ (i : ℕ). instructionBytes (instructionOf cells i)) i))
 
 abbrev μ-loop : tie.MeasureT-loop
 μ-loop cells start image₀ instructions at₀ from₀ i₀ image at from i = instructionCount cells - i
@@ -55,7 +55,7 @@ loop-again c =
       omega (arith, l .inv .2),
       c .before .before .put-instruction-bytes .kept .0 ∙ l .inv .3,
       row-placed
-          (λ (i : ℕ). instructionBytes (instructionOf cells i)) 12 (λ i. refl) _ (l .image) _ (blockPlace (blockCount cells)) (l .i) (l .inv .4)
+          (λ (i : ℕ). instructionBytes (instructionOf cells i)) 12 (λ i. refl) _ (l .image) _ (blockPlace (versionOf cells) (blockCount cells)) (l .i) (l .inv .4)
           (c .before .before .put-instruction-bytes .ensures ∙ ap₂ (λ (n : ℕ) (k : Instruction). sets (l .image) n (instructionBytes k)) (l .inv .1)
           rest),
     )
@@ -69,7 +69,7 @@ returns c =
     let all : c .before .loop .i ≡ instructionCount (start .args .cells .now) = omega arith in (
       omega (arith, c .before .loop .inv .1),
       c .before .loop .inv .4 ∙ ap
-          (λ (n : ℕ). sets (start .args .image .now) (blockPlace (blockCount (start .args .cells .now)))
+          (λ (n : ℕ). sets (start .args .image .now) (blockPlace (versionOf (start .args .cells .now)) (blockCount (start .args .cells .now)))
           (rows (λ (i : ℕ). instructionBytes (instructionOf (start .args .cells .now) i)) n)) all,
     )
 

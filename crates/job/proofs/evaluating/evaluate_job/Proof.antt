@@ -45,8 +45,8 @@ report-from-requires c κs =
     let z = c .before .before .before .before .evaluate in
     let found = found-is (a .args .cells .now) (a .args .code .now) (length (a .args .code .now)) (a .args .places) (a .args .n) (a .args .registers .now) (a .pre) _
     (c .before .before .before .before .before .before .before .before .before .bits-of .ensures)
-    (a .args .words .now) (a .args .interval) (z .ensures .0) in
-    can-report (a .args .cells .now) (a .args .n) (z .result) _ _
+    (a .args .words .now) (a .args .interval) (z .ensures .0 .1) in
+    can-report (a .args .cells .now) (a .args .n) (z .result) (z .ensures .0 .0) _ _
     (evaluationOf (programOf (a .args .cells .now)) (chosen (a .args .interval)) (a .args .places) (a .args .registers .now) (a .args .words .now) workLimit)
     (a .pre .accepted-program) (a .pre .limited) found (z .ensures .1 .0) (z .ensures .1 .1)
 
@@ -57,11 +57,11 @@ returns : tie.Need-returns
 returns c =
     let a = c .before .before .before .before .before .before .before .before .before .before .before .before .before .before .before .before .before .before in
     let z = c .before .before .before .before .before .evaluate in
-    c .report-from .ensures
+    c .report-from .ensures (z .ensures .0 .0)
     ∙ ap (reportFrom (a .args .n))
     (found-is (a .args .cells .now) (a .args .code .now) (length (a .args .code .now)) (a .args .places) (a .args .n) (a .args .registers .now) (a .pre) _
     (c .before .before .before .before .before .before .before .before .before .before .bits-of .ensures)
-    (a .args .words .now) (a .args .interval) (z .ensures .0))
+    (a .args .words .now) (a .args .interval) (z .ensures .0 .1))
 
 pub evaluate-job-spec : {M : Type 1} → statement M
 evaluate-job-spec =

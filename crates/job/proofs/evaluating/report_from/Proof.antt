@@ -9,7 +9,7 @@ cast-t11 : tie.Need-cast-t11
 cast-t11 c = omega (arith, c .before .before .before .before .pre .limited)
 
 returns : tie.Need-returns
-returns c = let a = c .before .before .before .before .args in reports-spent (a .n) (a .z) (a .nums .now) (a .kinds .now) (c .if1 .taken)
+returns c = let a = c .before .before .before .before .args in λ u. reports-spent (a .n) (a .z) (a .nums .now) (a .kinds .now) u (c .if1 .taken)
 
 sub-done : tie.Need-sub-done
 sub-done c = omega (arith, c .before .before .before .before .before .pre .left-most)
@@ -26,7 +26,7 @@ registers-of-requires c κs = (c .before .before .before .before .before .before
 returns-2 : tie.Need-returns-2
 returns-2 c =
     let a = c .before .before .before .before .before .before .before .before .before .args in
-    reports-halt (a .n) (a .z) (a .nums .now) (a .kinds .now) (c .before .if2 .taken) (c .registers-of .ensures)
+    λ u. reports-halt (a .n) (a .z) (a .nums .now) (a .kinds .now) u (c .before .if2 .taken) (c .registers-of .ensures)
 
 cast-t16 : tie.Need-cast-t16
 cast-t16 c = omega (arith, c .before .before .before .before .before .before .before .before .before .pre .fault-listed (c .before .before .before .before .before .if1 .left) (c .before .if2 .left) .1)
@@ -34,7 +34,7 @@ cast-t16 c = omega (arith, c .before .before .before .before .before .before .be
 returns-3 : tie.Need-returns-3
 returns-3 c =
     let a = c .before .before .before .before .before .before .before .before .before in
-    reports-fault (a .args .n) (a .args .z) (a .args .nums .now) (a .args .kinds .now) (a .pre .fault-listed (c .before .before .before .before .before .if1 .left) (c .before .if2 .left) .0)
+    λ u. reports-fault (a .args .n) (a .args .z) (a .args .nums .now) (a .args .kinds .now) u (a .pre .fault-listed (c .before .before .before .before .before .if1 .left) (c .before .if2 .left) .0)
 
 pub report-from-spec : {M : Type 1} → statement M
 report-from-spec =

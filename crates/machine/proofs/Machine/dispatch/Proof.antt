@@ -19,7 +19,7 @@ returns c =
     dispatch-refused (a .cells .now) (a .words .now) (a .lanes) (a .self .state) (a .budget) _ (c .before .ask-dispatch .ensures) (c .if1 .taken)
 
 sized-at : (c : tie.Start) → Sized (c .args .self .state)
-sized-at c = record { of-bank = search (needs, length-by); of-tasks = search (needs, length-by) }
+sized-at c = record { of-bank = search (needs, length-by); of-stacks = search (needs, length-by); of-tasks = search (needs, length-by) }
 
 lanes-used-requires : tie.Need-lanes-used-requires
 lanes-used-requires c κs = search needs

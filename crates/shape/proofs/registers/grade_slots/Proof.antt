@@ -1,20 +1,21 @@
 -- `grade_slots` meets its contract.
 use Rattle.image.specs.Layout.{programOf}
 use Prim.Native.Nat.{_-_, _≤_}
-use Rattle.shape.proofs.GradeLaws.{WorstSlots, worst-start, worst-same, worst-more, gradeAt, worst-is-grade}
+use Rattle.shape.proofs.Largest.{LargestSlots, largest-start, largest-same, largest-more}
+use Rattle.shape.proofs.GradeLaws.{slotOf, gradeAt, largest-is-grade}
 use borrow.Author.Needs.{needs}
 use native.Mathlib.Omega.{arith}
 use Rattle.shape.proofs.registers.grade_slots.Statement.{statement}
 use Rattle.shape.proofs.registers.grade_slots.Tie as tie
 
 abbrev Inv-loop : tie.InvT-loop
-Inv-loop cells bank grades₀ i₀ grades i = (i ≤ 1024) × WorstSlots (gradeAt (programOf cells) bank) i grades
+Inv-loop cells bank grades₀ i₀ grades i = (i ≤ 1024) × LargestSlots slotOf (gradeAt (programOf cells) bank) i grades
 
 abbrev μ-loop : tie.MeasureT-loop
 μ-loop cells bank grades₀ i₀ grades i = 1024 - i
 
 loop-holds : tie.Need-loop-holds Inv-loop μ-loop
-loop-holds c = (omega arith, worst-start (gradeAt (programOf (c .before .args .cells .now)) (c .before .args .t2)))
+loop-holds c = (omega arith, largest-start slotOf (gradeAt (programOf (c .before .args .cells .now)) (c .before .args .t2)))
 
 mul-register : tie.Need-mul-register Inv-loop μ-loop
 mul-register c = omega arith
@@ -32,7 +33,12 @@ loop-less : tie.Need-loop-less Inv-loop μ-loop
 loop-less c = omega arith
 
 loop-again : tie.Need-loop-again Inv-loop μ-loop
-loop-again c = (omega arith, worst-same (gradeAt (programOf (c .before .before .before .before .before .before .args .cells .now)) (c .before .before .before .before .before .before .args .t2)) (c .before .before .before .before .loop .i) (c .before .before .before .before .loop .grades) (c .before .before .before .before .loop .inv .1) (omega (arith, c .before .grade-of .ensures, c .if1 .taken)))
+loop-again c =
+    let a = c .before .before .before .before .before .before .args in
+    let l = c .before .before .before .before .loop in (
+      omega arith,
+      largest-same slotOf (gradeAt (programOf (a .cells .now)) (a .t2)) (l .i) (l .grades) (l .inv .1) (omega (arith, c .before .grade-of .ensures, c .if1 .taken)),
+    )
 
 array-read-larger : tie.Need-array-read-larger Inv-loop μ-loop
 array-read-larger c = omega (arith, c .before .before .before .loop-test .taken)
@@ -50,10 +56,23 @@ loop-less-2 : tie.Need-loop-less-2 Inv-loop μ-loop
 loop-less-2 c = omega arith
 
 loop-again-2 : tie.Need-loop-again-2 Inv-loop μ-loop
-loop-again-2 c = (omega arith, worst-more (gradeAt (programOf (c .before .before .before .before .before .before .before .args .cells .now)) (c .before .before .before .before .before .before .before .args .t2)) (c .before .before .before .before .before .loop .i) (c .before .before .before .before .before .loop .grades) (c .before .before .before .before .before .loop .inv .1) (c .before .before .before .before .loop-test .taken) (c .larger .result) (c .larger .ensures .0) (omega (arith, c .larger .ensures .1, c .before .before .grade-of .ensures)) (λ n p q. c .larger .ensures .2 n p (omega (arith, c .before .before .grade-of .ensures))))
+loop-again-2 c =
+    let a = c .before .before .before .before .before .before .before .args in
+    let l = c .before .before .before .before .before .loop in
+    let e = c .before .before .grade-of .ensures in (
+      omega arith,
+      largest-more slotOf (gradeAt (programOf (a .cells .now)) (a .t2)) (l .i) (l .grades) (l .inv .1)
+          (omega (arith, c .before .before .before .before .loop-test .taken))
+          (c .larger .result)
+          (c .larger .ensures .0)
+          (omega (arith, c .larger .ensures .1, e))
+          (λ n p q. c .larger .ensures .2 n p (omega (arith, e))),
+    )
 
 returns : tie.Need-returns Inv-loop μ-loop
-returns c = worst-is-grade (programOf (c .before .before .before .args .cells .now)) (c .before .before .before .args .t2) (c .before .loop .grades) (c .before .loop .i) (omega arith) (c .before .loop .inv .1)
+returns c =
+    let a = c .before .before .before .args in
+    largest-is-grade (programOf (a .cells .now)) (a .t2) (c .before .loop .grades) (c .before .loop .i) (omega arith) (c .before .loop .inv .1)
 
 pub grade-slots-spec : {M : Type 1} → statement M
 grade-slots-spec =

@@ -1,12 +1,10 @@
 -- `code_slots` meets its contract.
 use Rattle.image.specs.Layout.{programOf}
 use mathlib.Core.Path.{_≡_, refl, _∙_}
-use mathlib.Core.List.{List}
 use Prim.Native.Nat.{ℕ, _-_, _<_, _≤_}
 use lib.ListN.{length, getD, length-set}
-use Rattle.task.specs.declared.Register.{Register}
 use Rattle.task.specs.Frames.{noTask}
-use Rattle.shape.specs.Codes.{Graded, framed, codeOf}
+use Rattle.shape.specs.Codes.{Answers, codeOf}
 use Rattle.shape.proofs.SlotWise.{below-set}
 use borrow.Author.Needs.{needs}
 use native.Mathlib.Omega.{arith}
@@ -14,10 +12,13 @@ use Rattle.shape.proofs.slots.code_slots.Statement.{statement}
 use Rattle.shape.proofs.slots.code_slots.Tie as tie
 
 abbrev Inv-loop : tie.InvT-loop
-Inv-loop cells rank tasks grades codes₀ k₀ codes k = (k ≤ 64) × (length codes ≡ 64) × ((j : ℕ) → j < k → (registers : List Register) → Graded (programOf cells) registers (getD grades j 0) → getD codes j 0 ≡ codeOf (programOf cells) rank (framed (getD tasks j noTask) registers))
+Inv-loop cells version rank tasks grades reaches codes₀ k₀ codes k =
+    (k ≤ 64)
+    × (length codes ≡ 64)
+    × ((j : ℕ) → j < k → Answers (programOf cells) (codeOf (programOf cells) rank) (getD tasks j noTask) (getD grades j 0) (getD reaches j 0) (getD codes j 0))
 
 abbrev μ-loop : tie.MeasureT-loop
-μ-loop cells rank tasks grades codes₀ k₀ codes k = 64 - k
+μ-loop cells version rank tasks grades reaches codes₀ k₀ codes k = 64 - k
 
 loop-holds : tie.Need-loop-holds Inv-loop μ-loop
 loop-holds c = (omega arith, refl, λ j h. absurd (omega arith))
@@ -30,6 +31,9 @@ array-copy-out-t c = omega arith
 
 array-read-grade : tie.Need-array-read-grade Inv-loop μ-loop
 array-read-grade c = omega arith
+
+array-read-reach : tie.Need-array-read-reach Inv-loop μ-loop
+array-read-reach c = omega arith
 
 code-of-requires : tie.Need-code-of-requires Inv-loop μ-loop
 code-of-requires c κs = search needs
@@ -44,7 +48,14 @@ loop-less : tie.Need-loop-less Inv-loop μ-loop
 loop-less c = omega arith
 
 loop-again : tie.Need-loop-again Inv-loop μ-loop
-loop-again c = (omega arith, length-set (c .before .before .before .loop .codes) (c .before .before .before .loop .k) (c .code-of .result) ∙ c .before .before .before .loop .inv .1, below-set (λ (j v : ℕ). (registers : List Register) → Graded (programOf (c .before .before .before .before .before .args .cells .now)) registers (getD (c .before .before .before .before .before .args .t4) j 0) → v ≡ codeOf (programOf (c .before .before .before .before .before .args .cells .now)) (c .before .before .before .before .before .args .rank) (framed (getD (c .before .before .before .before .before .args .t3) j noTask) registers)) (c .before .before .before .loop .codes) (c .before .before .before .loop .k) (c .code-of .result) (omega (arith, c .before .before .before .loop .inv .1)) (c .before .before .before .loop .inv .2) (c .code-of .ensures))
+loop-again c =
+    let a = c .before .before .before .before .before .args in
+    let l = c .before .before .before .loop in (
+      omega arith,
+      length-set (l .codes) (l .k) (c .code-of .result) ∙ l .inv .1,
+      below-set (λ (j v : ℕ). Answers (programOf (a .cells .now)) (codeOf (programOf (a .cells .now)) (a .rank)) (getD (a .t4) j noTask) (getD (a .t5) j 0) (getD (a .t6) j 0) v)
+          (l .codes) (l .k) (c .code-of .result) (omega (arith, l .inv .1)) (l .inv .2) (c .code-of .ensures),
+    )
 
 returns : tie.Need-returns Inv-loop μ-loop
 returns c = λ j h. c .before .loop .inv .2 j (omega arith)
@@ -59,6 +70,7 @@ code-slots-spec =
     mul-t
     array-copy-out-t
     array-read-grade
+    array-read-reach
     code-of-requires
     array-write-codes
     add-k

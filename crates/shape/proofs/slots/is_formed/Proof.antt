@@ -1,12 +1,11 @@
 -- `is_formed` meets its contract.
 use Rattle.facts.proofs.Tests.{clash}
 use Rattle.image.specs.Layout.{programOf}
-use mathlib.Core.Path.{sym, ap, _∙_}
-use lib.Dec.{leb}
+use mathlib.Core.Path.{sym, _∙_}
 use borrow.Author.Tests.{not-true, not-false}
-use mathlib.Core.Bool.{_&&_}
-use Rattle.shape.specs.Codes.{grade, framed}
-use Rattle.shape.proofs.SlotWise.{formed-but-forks, unformed}
+use mathlib.Core.Bool.{true, false}
+use Rattle.shape.specs.Codes.{framed}
+use Rattle.shape.proofs.SlotWise.{formed-by-forks, status-told, unformed}
 use borrow.Author.Needs.{needs}
 use native.Mathlib.Omega.{arith}
 use Rattle.shape.proofs.slots.is_formed.Statement.{statement}
@@ -16,9 +15,9 @@ power-requires : tie.Need-power-requires
 power-requires c κs = search needs
 
 returns : tie.Need-returns
-returns c = λ registers g.
+returns c = λ registers stack g k.
     let a = c .before .before .before .before .args in
-    sym (unformed (programOf (a .cells .now)) (a .rank) (a .h) (framed (a .t) registers)
+    sym (unformed (programOf (a .cells .now)) (a .rank) (a .h) (framed (a .t) registers stack)
     (λ x. c .if1 .taken (x .has-places ∙ sym (c .before .before .power .ensures))))
 
 cast-if2 : tie.Need-cast-if2
@@ -28,9 +27,9 @@ add-if2 : tie.Need-add-if2
 add-if2 c = search needs
 
 returns-2 : tie.Need-returns-2
-returns-2 c = λ registers g.
+returns-2 c = λ registers stack g k.
     let a = c .before .before .before .before .before .before .args in
-    sym (unformed (programOf (a .cells .now)) (a .rank) (a .h) (framed (a .t) registers)
+    sym (unformed (programOf (a .cells .now)) (a .rank) (a .h) (framed (a .t) registers stack)
     (λ x. c .if2 .taken (x .has-depth)))
 
 instruction-count-requires : tie.Need-instruction-count-requires
@@ -40,46 +39,59 @@ cast-if3 : tie.Need-cast-if3
 cast-if3 c = search needs
 
 returns-3 : tie.Need-returns-3
-returns-3 c = λ registers g.
+returns-3 c = λ registers stack g k.
     let a = c .before .before .before .before .before .before .before .before .before .args in
-    sym (unformed (programOf (a .cells .now)) (a .rank) (a .h) (framed (a .t) registers)
+    sym (unformed (programOf (a .cells .now)) (a .rank) (a .h) (framed (a .t) registers stack)
     (λ x. omega (arith, x .pc-below, c .if3 .taken, c .before .before .instruction-count .ensures)))
 
 status-fits-requires : tie.Need-status-fits-requires
 status-fits-requires c κs = search needs
 
 returns-4 : tie.Need-returns-4
-returns-4 c = λ registers g.
-    let a = c .before .before .before .before .before .before .before .before .before .before .before .args in
-    sym (unformed (programOf (a .cells .now)) (a .rank) (a .h) (framed (a .t) registers)
-    (λ x. clash (x .status-fits) (sym (c .before .status-fits .ensures registers (g .all-zero)) ∙ not-true (c .before .status-fits .result) (c .if4 .taken))))
+returns-4 c = λ registers stack g k.
+    let s = c .before .before .before .before .before .before .before .before .before .before .before in
+    let a = s .args in
+    let f = framed (a .t) registers stack in
+    let n = c .before .status-fits .result in
+    sym (unformed (programOf (a .cells .now)) (a .rank) (a .h) f
+    (λ x. clash (x .status-fits)
+    (status-told (programOf (a .cells .now)) (a .version) f n false (s .pre .1) (c .before .status-fits .ensures registers stack (g .all-zero)) (not-true n (c .if4 .taken)))))
 
 forks-fit-requires : tie.Need-forks-fit-requires
 forks-fit-requires c κs = search needs
 
 returns-5 : tie.Need-returns-5
-returns-5 c = λ registers g.
-    let a = c .before .before .before .before .before .before .before .before .before .before .before .before .before .before .args in
-    let b = c .before .before .before in
-    let d = b .before .before .before .before .before in
-    sym (formed-but-forks (programOf (a .cells .now)) (a .t) registers (a .grade) g (c .before .forks-fit .ensures .1) (a .rank) (a .h)
+returns-5 c = λ registers stack g k.
+    let s = c .before .before .before .before .before .before .before .before .before .before .before .before .before .before in
+    let a = s .args in
+    let f = framed (a .t) registers stack in
+    let l = c .before .before .before in
+    let d = c .before .before .before .before .before .before .before .before in
+    let n = l .before .status-fits .result in
+    sym (formed-by-forks (programOf (a .cells .now)) (a .t) registers stack (a .grade) (a .reach) g k (c .before .forks-fit .ensures .1) (a .rank) (a .h)
     (d .before .before .if1 .left ∙ d .before .before .before .before .power .ensures)
     (d .if2 .left)
-    (omega (arith, b .before .before .if3 .left, b .before .before .before .before .instruction-count .ensures))
-    (sym (b .before .status-fits .ensures registers (g .all-zero)) ∙ not-false (b .before .status-fits .result) (b .if4 .left))
-    ∙ ap (λ z. z && leb (a .grade) 1) (sym (c .before .forks-fit .ensures .0) ∙ not-true (c .before .forks-fit .result) (c .if5 .taken)))
+    (omega (arith, l .before .before .if3 .left, l .before .before .before .before .instruction-count .ensures))
+    (status-told (programOf (a .cells .now)) (a .version) f n true (s .pre .1) (l .before .status-fits .ensures registers stack (g .all-zero)) (not-false n (l .if4 .left)))
+    false (sym (c .before .forks-fit .ensures .0) ∙ not-true (c .before .forks-fit .result) (c .if5 .taken)))
+
+values-fit-requires : tie.Need-values-fit-requires
+values-fit-requires c κs = search needs
 
 returns-6 : tie.Need-returns-6
-returns-6 c = λ registers g.
-    let a = c .before .before .before .before .before .before .before .before .before .before .before .before .before .before .args in
-    let b = c .before .before .before in
-    let d = b .before .before .before .before .before in
-    sym (formed-but-forks (programOf (a .cells .now)) (a .t) registers (a .grade) g (c .before .forks-fit .ensures .1) (a .rank) (a .h)
+returns-6 c = λ registers stack g k.
+    let s = c .before .before .before .before .before .before .before .before .before .before .before .before .before .before .before in
+    let a = s .args in
+    let f = framed (a .t) registers stack in
+    let l = c .before .before .before .before in
+    let d = c .before .before .before .before .before .before .before .before .before in
+    let n = l .before .status-fits .result in
+    c .values-fit .ensures ∙ sym (formed-by-forks (programOf (a .cells .now)) (a .t) registers stack (a .grade) (a .reach) g k (c .before .before .forks-fit .ensures .1) (a .rank) (a .h)
     (d .before .before .if1 .left ∙ d .before .before .before .before .power .ensures)
     (d .if2 .left)
-    (omega (arith, b .before .before .if3 .left, b .before .before .before .before .instruction-count .ensures))
-    (sym (b .before .status-fits .ensures registers (g .all-zero)) ∙ not-false (b .before .status-fits .result) (b .if4 .left))
-    ∙ ap (λ z. z && leb (a .grade) 1) (sym (c .before .forks-fit .ensures .0) ∙ not-false (c .before .forks-fit .result) (c .if5 .left)))
+    (omega (arith, l .before .before .if3 .left, l .before .before .before .before .instruction-count .ensures))
+    (status-told (programOf (a .cells .now)) (a .version) f n true (s .pre .1) (l .before .status-fits .ensures registers stack (g .all-zero)) (not-false n (l .if4 .left)))
+    true (sym (c .before .before .forks-fit .ensures .0) ∙ not-false (c .before .before .forks-fit .result) (c .before .if5 .left)))
 
 pub is-formed-spec : {M : Type 1} → statement M
 is-formed-spec =
@@ -97,4 +109,5 @@ is-formed-spec =
     returns-4
     forks-fit-requires
     returns-5
+    values-fit-requires
     returns-6)

@@ -14,7 +14,10 @@ use Rattle.shape.proofs.tasks.counts_fit.Statement.{statement}
 use Rattle.shape.proofs.tasks.counts_fit.Tie as tie
 
 abbrev Inv-loop : tie.InvT-loop
-Inv-loop work tasks i₀ i = (i ≤ 64) × (every (λ i. within work (framed (getD tasks i noTask) [])) 64 0 ≡ every (λ i. within work (framed (getD tasks i noTask) [])) (64 - i) i)
+Inv-loop work tasks i₀ i =
+    (i ≤ 64)
+    × (every (λ i. within work (framed (getD tasks i noTask) [] [])) 64 0
+    ≡ every (λ i. within work (framed (getD tasks i noTask) [] [])) (64 - i) i)
 
 abbrev μ-loop : tie.MeasureT-loop
 μ-loop work tasks i₀ i = 64 - i
@@ -32,7 +35,12 @@ task-counts-fit-requires : tie.Need-task-counts-fit-requires Inv-loop μ-loop
 task-counts-fit-requires c κs = search needs
 
 returns : tie.Need-returns Inv-loop μ-loop
-returns c = λ registers. sym (c .before .before .before .before .loop .inv .1 ∙ every-stops (λ i. within (c .before .before .before .before .before .args .work) (framed (getD (c .before .before .before .before .before .args .t2) i noTask) [])) 64 (c .before .before .before .before .loop .i) (c .before .before .before .loop-test .taken) (sym (c .before .task-counts-fit .ensures []) ∙ not-true (c .before .task-counts-fit .result) (c .if1 .taken)))
+returns c = λ registers stack.
+    let a = c .before .before .before .before .before .args in
+    let l = c .before .before .before .before .loop in
+    sym (l .inv .1
+    ∙ every-stops (λ i. within (a .work) (framed (getD (a .t2) i noTask) [] [])) 64 (l .i) (c .before .before .before .loop-test .taken)
+    (sym (c .before .task-counts-fit .ensures [] []) ∙ not-true (c .before .task-counts-fit .result) (c .if1 .taken)))
 
 add-i : tie.Need-add-i Inv-loop μ-loop
 add-i c = omega arith
@@ -41,10 +49,19 @@ loop-less : tie.Need-loop-less Inv-loop μ-loop
 loop-less c = omega arith
 
 loop-again : tie.Need-loop-again Inv-loop μ-loop
-loop-again c = (omega arith, c .before .before .before .before .loop .inv .1 ∙ every-goes-on (λ i. within (c .before .before .before .before .before .args .work) (framed (getD (c .before .before .before .before .before .args .t2) i noTask) [])) 64 (c .before .before .before .before .loop .i) (c .before .before .before .loop-test .taken) (sym (c .before .task-counts-fit .ensures []) ∙ not-false (c .before .task-counts-fit .result) (c .if1 .left)))
+loop-again c =
+    let a = c .before .before .before .before .before .args in
+    let l = c .before .before .before .before .loop in (
+      omega arith,
+      l .inv .1
+          ∙ every-goes-on (λ i. within (a .work) (framed (getD (a .t2) i noTask) [] [])) 64 (l .i) (c .before .before .before .loop-test .taken)
+          (sym (c .before .task-counts-fit .ensures [] []) ∙ not-false (c .before .task-counts-fit .result) (c .if1 .left)),
+    )
 
 returns-2 : tie.Need-returns-2 Inv-loop μ-loop
-returns-2 c = λ registers. sym (c .before .loop .inv .1 ∙ every-ends (λ i. within (c .before .before .args .work) (framed (getD (c .before .before .args .t2) i noTask) [])) 64 (c .before .loop .i) (c .loop-test .left))
+returns-2 c = λ registers stack.
+    let a = c .before .before .args in
+    sym (c .before .loop .inv .1 ∙ every-ends (λ i. within (a .work) (framed (getD (a .t2) i noTask) [] [])) 64 (c .before .loop .i) (c .loop-test .left))
 
 pub counts-fit-spec : {M : Type 1} → statement M
 counts-fit-spec =

@@ -1,5 +1,4 @@
 -- `read_state` meets its contract.
-use mathlib.Core.Path.{_∙_}
 use native.Mathlib.Omega.{arith}
 use Rattle.state.specs.Reading.{stateIn}
 use Rattle.state.proofs.Rooms.{state-room}
@@ -16,30 +15,34 @@ read-u64-requires-3 : tie.Need-read-u64-requires-3
 read-u64-requires-3 c κs = omega (arith, state-room (c .before .before .before .args .bytes .now) (c .before .before .before .pre) .whole)
 
 read-bank-requires : tie.Need-read-bank-requires
-read-bank-requires c κs = let r = state-room (c .before .before .before .before .args .bytes .now) (c .before .before .before .before .pre) in (r .whole, r .bank)
+read-bank-requires c κs = c .before .before .before .before .pre
+
+read-stacks-requires : tie.Need-read-stacks-requires
+read-stacks-requires c κs = c .before .before .before .before .before .pre
 
 read-tasks-requires : tie.Need-read-tasks-requires
-read-tasks-requires c κs = let r = state-room (c .before .before .before .before .before .args .bytes .now) (c .before .before .before .before .before .pre) in (r .whole, r .tasks)
-
-cast-t7 : tie.Need-cast-t7
-cast-t7 c =
-    let c3 = c .before .before .before in
-    let c6 = c3 .before .before .before in
-    omega (arith, state-room (c6 .args .bytes .now) (c6 .pre) .interval, c3 .read-u642 .ensures .equal)
+read-tasks-requires c κs = c .before .before .before .before .before .before .pre
 
 cast-t8 : tie.Need-cast-t8
 cast-t8 c =
-    let c6 = c .before .before .before .before .before .before in
-    omega (arith, state-room (c6 .args .bytes .now) (c6 .pre) .work, c .before .before .read-u643 .ensures .equal)
+    let c4 = c .before .before .before .before in
+    let c7 = c4 .before .before .before in
+    omega (arith, state-room (c7 .args .bytes .now) (c7 .pre) .interval, c4 .read-u642 .ensures .equal)
+
+cast-t9 : tie.Need-cast-t9
+cast-t9 c =
+    let c7 = c .before .before .before .before .before .before .before in
+    omega (arith, state-room (c7 .args .bytes .now) (c7 .pre) .work, c .before .before .before .read-u643 .ensures .equal)
 
 returns : tie.Need-returns
 unfolding stateIn
 returns c =
     rw (
-      c .before .before .before .before .read-u64 .ensures .equal,
-      c .before .before .before .read-u642 .ensures .equal,
-      c .before .before .read-u643 .ensures .equal,
-      c .before .read-bank .ensures,
+      c .before .before .before .before .before .read-u64 .ensures .equal,
+      c .before .before .before .before .read-u642 .ensures .equal,
+      c .before .before .before .read-u643 .ensures .equal,
+      c .before .before .read-bank .ensures,
+      c .before .read-stacks .ensures,
       c .read-tasks .ensures,
     )
 
@@ -51,7 +54,8 @@ read-state-spec =
     read-u64-requires-2
     read-u64-requires-3
     read-bank-requires
+    read-stacks-requires
     read-tasks-requires
-    cast-t7
     cast-t8
+    cast-t9
     returns)

@@ -29,32 +29,18 @@ returns-3 c =
       sym (c .before .stands-32 .ensures) ∙ not-true _ (c .if3 .taken),
     )
 
-stands-tasks-requires : tie.Need-stands-tasks-requires
-stands-tasks-requires c κs = c .before .before .before .before .if1 .left
+stands-slots-requires : tie.Need-stands-slots-requires
+stands-slots-requires c κs = c .before .before .before .before .if1 .left
 
 returns-4 : tie.Need-returns-4
 unfolding standsState
 returns-4 c =
     rw (
-      eq-eqb _ _ (c .before .before .before .before .before .before .if1 .left),
-      sym (c .before .before .before .before .before .stands-16 .ensures) ∙ not-false _ (c .before .before .before .before .if2 .left),
-      sym (c .before .before .before .stands-32 .ensures) ∙ not-false _ (c .before .before .if3 .left),
-      sym (c .before .stands-tasks .ensures) ∙ not-true _ (c .if4 .taken),
+      eq-eqb _ _ (c .before .before .before .before .before .if1 .left),
+      sym (c .before .before .before .before .stands-16 .ensures) ∙ not-false _ (c .before .before .before .if2 .left),
+      sym (c .before .before .stands-32 .ensures) ∙ not-false _ (c .before .if3 .left),
     )
-
-stands-bank-requires : tie.Need-stands-bank-requires
-stands-bank-requires c κs = c .before .before .before .before .before .before .if1 .left
-
-returns-5 : tie.Need-returns-5
-unfolding standsState
-returns-5 c =
-    rw (
-      eq-eqb _ _ (c .before .before .before .before .before .before .before .if1 .left),
-      sym (c .before .before .before .before .before .before .stands-16 .ensures) ∙ not-false _ (c .before .before .before .before .before .if2 .left),
-      sym (c .before .before .before .before .stands-32 .ensures) ∙ not-false _ (c .before .before .before .if3 .left),
-      sym (c .before .before .stands-tasks .ensures) ∙ not-false _ (c .before .if4 .left),
-    )
-    (c .stands-bank .ensures)
+    (c .stands-slots .ensures)
 
 pub stands-state-spec : {M : Type 1} → statement M
 stands-state-spec =
@@ -65,7 +51,5 @@ stands-state-spec =
     returns-2
     stands-32-requires
     returns-3
-    stands-tasks-requires
-    returns-4
-    stands-bank-requires
-    returns-5)
+    stands-slots-requires
+    returns-4)

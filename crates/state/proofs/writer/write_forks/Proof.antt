@@ -1,28 +1,28 @@
 -- `write_forks` meets its contract.
-use mathlib.Core.Path.{_≡_, refl, ap, _∙_}
-use Prim.Native.Nat.{ℕ, _-_, _≤_}
-use lib.ListN.{length, getD}
-use lib.Seq.{sets}
-use Rattle.image.specs.Layout.{rows}
-use Rattle.image.proofs.Rows.{row-placed}
+use mathlib.Core.List.{List}
+use Prim.Native.Nat.{ℕ, _-_}
+use lib.ListN.{getD}
+use Rattle.task.specs.declared.Fork.{Fork}
 use Rattle.task.specs.Frames.{zeroFork}
 use Rattle.state.specs.Numbers.{inBytes}
 use Rattle.state.specs.State.{forkNumbers}
-use Rattle.state.proofs.Laying.{length-inBytes}
+use Rattle.state.proofs.Laying.{length-inBytes, Laid, laid-none, laid-more, laid-all, laid-length}
 use borrow.Author.Needs.{needs}
 use native.Mathlib.Omega.{arith}
 use Rattle.state.proofs.writer.write_forks.Statement.{statement}
 use Rattle.state.proofs.writer.write_forks.Tie as tie
 
+abbrev forkBytes : List Fork → ℕ → List ℕ
+forkBytes forks i = inBytes (forkNumbers (getD forks i zeroFork))
+
 abbrev Inv-loop : tie.InvT-loop
-Inv-loop out₀ at forks i₀ out i = (i ≤ 6) × (length out ≡ length out₀) × (out ≡ sets out₀ at (rows (λ (i : ℕ). inBytes (forkNumbers (getD forks i zeroFork))) i))
+Inv-loop out₀ at forks i₀ out i = Laid (forkBytes forks) 6 out₀ at i out
 
 abbrev μ-loop : tie.MeasureT-loop
 μ-loop out₀ at forks i₀ out i = 6 - i
 
 loop-holds : tie.Need-loop-holds Inv-loop μ-loop
-unfolding rows
-loop-holds c = (omega arith, refl, refl)
+loop-holds c = laid-none _ 6 _ _
 
 mul-f : tie.Need-mul-f Inv-loop μ-loop
 mul-f c = omega arith
@@ -43,7 +43,7 @@ cast-write-two-2 : tie.Need-cast-write-two-2 Inv-loop μ-loop
 cast-write-two-2 c = search needs
 
 write-two-requires : tie.Need-write-two-requires Inv-loop μ-loop
-write-two-requires c κs = omega arith
+write-two-requires c κs = let l = c .before .before .before .before .before .loop in omega (arith, laid-length _ 6 _ _ _ _ (l .inv))
 
 add-i : tie.Need-add-i Inv-loop μ-loop
 add-i c = omega arith
@@ -53,18 +53,16 @@ loop-less c = omega arith
 
 loop-again : tie.Need-loop-again Inv-loop μ-loop
 loop-again c =
-    let c8 = c .before .before .before .before .before .before .before .before in
-    let c8 = c8 in
-    let c10 = c8 .before .before in
-    (omega arith, c .before .before .write-two .kept .0 ∙ c8 .loop .inv .1, row-placed (λ (i : ℕ). inBytes (forkNumbers (getD (c10 .args .t3) i zeroFork))) 16 (λ i. length-inBytes _) _ (c8 .loop .out) _ (c10 .args .at) (c8 .loop .i) (c8 .loop .inv .2) (c .before .before .write-two .ensures))
+    let c7 = c .before .before .before .before .before .before .before in
+    let l = c7 .before .loop in
+    let forks = c7 .before .before .before .args .t3 in
+    laid-more _ 6 _ _ 16 (λ i. length-inBytes (forkNumbers (getD forks i zeroFork))) (l .i) (l .out) _ (l .inv) (c7 .loop-test .taken) (c .before .before .write-two .ensures)
 
 same-length : tie.Need-same-length Inv-loop μ-loop
-same-length c = c .before .loop .inv .1
+same-length c = let l = c .before .loop in laid-length _ 6 _ _ _ _ (l .inv)
 
 returns : tie.Need-returns Inv-loop μ-loop
-returns c =
-    let c3 = c .before .before .before in
-    c .before .loop .inv .2 ∙ ap (λ (n : ℕ). sets (c3 .args .out .now) (c3 .args .at) (rows (λ (i : ℕ). inBytes (forkNumbers (getD (c3 .args .t3) i zeroFork))) n)) (omega arith)
+returns c = let l = c .before .loop in laid-all _ 6 _ _ (l .i) (l .out) (l .inv) (c .loop-test .left)
 
 pub write-forks-spec : {M : Type 1} → statement M
 write-forks-spec =

@@ -55,6 +55,12 @@ halt-requires c κs = search needs
 meet-requires : tie.Need-meet-requires
 meet-requires c κs = (c .before .before .before .pre .accepted-program, c .before .before .before .pre .v-fits, counted-depth (c .before .before .before .args .cells .now) (c .before .count .ensures) (c .before .before .before .pre))
 
+push-requires : tie.Need-push-requires
+push-requires c κs = counted-pc (c .before .before .before .args .cells .now) (c .before .count .ensures) (c .before .before .before .pre)
+
+pop-requires : tie.Need-pop-requires
+pop-requires c κs = counted-pc (c .before .before .before .args .cells .now) (c .before .count .ensures) (c .before .before .before .pre)
+
 fault-requires : tie.Need-fault-requires
 fault-requires c κs = search needs
 
@@ -166,11 +172,42 @@ returns-15 c =
 returns-16 : tie.Need-returns-16
 returns-16 c =
     let a = c .before .before .before .before .args in
+    c .push .ensures (programOf (a .cells .now)) (a .words .now) (chosen (a .interval)) (a .s) (a .forks)
+    ∙ sends (programOf (a .cells .now)) (a .words .now) (chosen (a .interval)) (a .x) (a .s) (a .v) (a .active) (a .forks)
+    (c .before .before .count .ensures) 16 (c .before .match .keys16)
+
+returns-17 : tie.Need-returns-17
+returns-17 c =
+    let a = c .before .before .before .before .args in
+    c .pop .ensures (programOf (a .cells .now)) (a .words .now) (chosen (a .interval)) (a .s) (a .v) (a .forks)
+    ∙ sends (programOf (a .cells .now)) (a .words .now) (chosen (a .interval)) (a .x) (a .s) (a .v) (a .active) (a .forks)
+    (c .before .before .count .ensures) 17 (c .before .match .keys17)
+
+returns-18 : tie.Need-returns-18
+returns-18 c =
+    let a = c .before .before .before .before .args in
     let k = c .before .match .rest in
     c .fault .ensures
     ∙ sends-nowhere (programOf (a .cells .now)) (a .words .now) (chosen (a .interval)) (a .x) (a .s) (a .v) (a .active) (a .forks)
     (c .before .before .count .ensures)
-    (λ least. past 15 (past 14 (past 13 (past 12 (past 11 (past 10 (past 9 (past 8 (past 7 (past 6 (past 5 (past 4 (past 3 (past 2 (past 1 least (k .0 .0 .0 .0 .0 .0 .0 .0 .0 .0 .0 .0 .0 .0 .1)) (k .0 .0 .0 .0 .0 .0 .0 .0 .0 .0 .0 .0 .0 .1)) (k .0 .0 .0 .0 .0 .0 .0 .0 .0 .0 .0 .0 .1)) (k .0 .0 .0 .0 .0 .0 .0 .0 .0 .0 .0 .1)) (k .0 .0 .0 .0 .0 .0 .0 .0 .0 .0 .1)) (k .0 .0 .0 .0 .0 .0 .0 .0 .0 .1)) (k .0 .0 .0 .0 .0 .0 .0 .0 .1)) (k .0 .0 .0 .0 .0 .0 .0 .1)) (k .0 .0 .0 .0 .0 .0 .1)) (k .0 .0 .0 .0 .0 .1)) (k .0 .0 .0 .0 .1)) (k .0 .0 .0 .1)) (k .0 .0 .1)) (k .0 .1)) (k .1))
+    (λ least.
+    let n2 = past 1 least (k .0 .0 .0 .0 .0 .0 .0 .0 .0 .0 .0 .0 .0 .0 .0 .0 .1) in
+    let n3 = past 2 n2 (k .0 .0 .0 .0 .0 .0 .0 .0 .0 .0 .0 .0 .0 .0 .0 .1) in
+    let n4 = past 3 n3 (k .0 .0 .0 .0 .0 .0 .0 .0 .0 .0 .0 .0 .0 .0 .1) in
+    let n5 = past 4 n4 (k .0 .0 .0 .0 .0 .0 .0 .0 .0 .0 .0 .0 .0 .1) in
+    let n6 = past 5 n5 (k .0 .0 .0 .0 .0 .0 .0 .0 .0 .0 .0 .0 .1) in
+    let n7 = past 6 n6 (k .0 .0 .0 .0 .0 .0 .0 .0 .0 .0 .0 .1) in
+    let n8 = past 7 n7 (k .0 .0 .0 .0 .0 .0 .0 .0 .0 .0 .1) in
+    let n9 = past 8 n8 (k .0 .0 .0 .0 .0 .0 .0 .0 .0 .1) in
+    let n10 = past 9 n9 (k .0 .0 .0 .0 .0 .0 .0 .0 .1) in
+    let n11 = past 10 n10 (k .0 .0 .0 .0 .0 .0 .0 .1) in
+    let n12 = past 11 n11 (k .0 .0 .0 .0 .0 .0 .1) in
+    let n13 = past 12 n12 (k .0 .0 .0 .0 .0 .1) in
+    let n14 = past 13 n13 (k .0 .0 .0 .0 .1) in
+    let n15 = past 14 n14 (k .0 .0 .0 .1) in
+    let n16 = past 15 n15 (k .0 .0 .1) in
+    let n17 = past 16 n16 (k .0 .1) in
+    past 17 n17 (k .1))
 
 pub execute-spec : {M : Type 1} → statement M
 execute-spec =
@@ -192,6 +229,8 @@ execute-spec =
     jump-requires
     halt-requires
     meet-requires
+    push-requires
+    pop-requires
     fault-requires
     returns
     returns-2
@@ -208,4 +247,6 @@ execute-spec =
     returns-13
     returns-14
     returns-15
-    returns-16)
+    returns-16
+    returns-17
+    returns-18)

@@ -18,8 +18,8 @@ array-set-from-forks c = search needs
 larger-requires : tie.Need-larger-requires
 larger-requires c κs = search needs
 
-add-t13 : tie.Need-add-t13
-add-t13 c = search needs
+add-t14 : tie.Need-add-t14
+add-t14 c = search needs
 
 returns : tie.Need-returns
 returns c = rw (c .before .before .larger .ensures)
@@ -27,4 +27,4 @@ returns c = rw (c .before .before .larger .ensures)
 pub close-spec : {M : Type 1} → statement M
 close-spec =
     tie.close
-    (tie.spec sub-depth cast-at mul-forks array-set-from-forks larger-requires add-t13 returns)
+    (tie.spec sub-depth cast-at mul-forks array-set-from-forks larger-requires add-t14 returns)

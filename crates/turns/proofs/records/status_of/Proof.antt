@@ -24,6 +24,12 @@ enum-told-5 c = search needs
 enum-told-6 : tie.Need-enum-told-6
 enum-told-6 c = search needs
 
+enum-told-7 : tie.Need-enum-told-7
+enum-told-7 c = search needs
+
+enum-told-8 : tie.Need-enum-told-8
+enum-told-8 c = search needs
+
 returns : tie.Need-returns
 returns c = search needs
 
@@ -37,10 +43,19 @@ returns-4 : tie.Need-returns-4
 returns-4 c = search needs
 
 returns-5 : tie.Need-returns-5
-returns-5 c = ap (λ (k : Kind). statusOf k (c .before .before .args .fault)) (sym (c .enum-told5 .given .1))
+returns-5 c = search needs
 
 returns-6 : tie.Need-returns-6
 returns-6 c = search needs
 
+returns-7 : tie.Need-returns-7
+returns-7 c = ap (λ (k : Kind). statusOf k (c .before .before .args .fault)) (sym (c .enum-told7 .given .1))
+
+returns-8 : tie.Need-returns-8
+returns-8 c = search needs
+
 pub status-of-spec : {M : Type 1} → statement M
-status-of-spec = tie.close (tie.spec enum-told enum-told-2 enum-told-3 enum-told-4 enum-told-5 enum-told-6 returns returns-2 returns-3 returns-4 returns-5 returns-6)
+status-of-spec =
+    tie.close
+    (tie.spec enum-told enum-told-2 enum-told-3 enum-told-4 enum-told-5 enum-told-6 enum-told-7 enum-told-8
+    returns returns-2 returns-3 returns-4 returns-5 returns-6 returns-7 returns-8)
