@@ -25,7 +25,7 @@ use Rattle.arms.specs.declared.Stopped.{Stopped}
 use Rattle.evaluator.specs.declared.Hand.{Hand}
 use Rattle.evaluator.specs.declared.Kept.{Kept}
 use Rattle.arms.specs.Registers.{registersOf, Sized}
-use Rattle.evaluator.specs.Banks.{forksOf}
+use Rattle.evaluator.specs.Banks.{forksOf, Nested}
 use Rattle.arms.specs.Code.{Decodes}
 use Rattle.arms.specs.Turns.{Stacked, frameAt, rules, executedOf, Starts, RunsUntil}
 use Rattle.evaluator.specs.Stacks.{stackOf}
@@ -33,8 +33,10 @@ use Rattle.evaluator.specs.Sides.{Good, CanStep, madeOf}
 use Rattle.evaluator.specs.Hands.{frameFrom, Rows, rowsOf, keptOf, lowOf, handFrame, keptFrame, pendingFrom, Point, LeadsTo}
 use Rattle.evaluator.specs.Hands.{handSide, steppedIn, ownFrame, Applied}
 use Rattle.evaluator.proofs.GoodLaws.{good-more, good-depth}
+use Rattle.evaluator.proofs.ForkLaws.{nested-same, nested-opened}
 use Rattle.evaluator.proofs.StackLaws.{low-top, low-same}
 use Rattle.evaluator.proofs.HandLaws.{is-running}
+use Rattle.evaluator.proofs.OpeningLaws.{opened-under}
 use Rattle.evaluator.proofs.FrameLaws.{pending-same, pending-top, one-run, two-run, one-good, two-good}
 
 module _ (cells : List ℕ) (words : List ℤ) (interval : ℕ) (h : Hand) (rows : Rows) (p : Point cells h rows) (runs : h .what ≡ 0) where
@@ -135,6 +137,7 @@ module _ (cells : List ℕ) (words : List ℤ) (interval : ℕ) (h : Hand) (rows
           tags-full = p .full .tags-full;
         };
         piled = record { own-low = p .piled .own-low; none-yet = p .piled .none-yet };
+        nested = p .nested;
         on-place = t .runs .aligned;
         kept-on-place = p .kept-on-place;
         counter-least = t .runs .counted;
@@ -245,6 +248,7 @@ module _ (cells : List ℕ) (words : List ℤ) (interval : ℕ) (h : Hand) (rows
                   own-low = a .same-low ∙ p .piled .own-low ∙ sym same-lows ∙ ap (lowOf (rows′ .sides)) (sym d);
                   none-yet = λ i l w. below-none i (omega (arith, d, l)) w;
                 };
+                nested = subst (Nested (rows′ .recs)) (sym d) (nested-same (rows .recs) (rows′ .recs) (h .depth) (a .same-forks) (p .nested));
                 on-place = a .on-place;
                 kept-on-place = λ i l. below-place i (omega (arith, d, l));
                 counter-least = a .counter-least;
@@ -293,6 +297,8 @@ module _ (cells : List ℕ) (words : List ℤ) (interval : ℕ) (h : Hand) (rows
                       (λ b. ap (λ m. keptOf (rows′ .sides) m .height) b ∙ ap (λ (x : Kept). x .height) (a .child-kept k))
                       (λ b. absurd (omega (arith, b, d, l)));
                 };
+                nested = subst (Nested (rows′ .recs)) (sym d) (nested-opened (rows .recs) (rows′ .recs) (h .depth) (a .same-forks) (p .nested) (a .record-kept k)
+                    (opened-under (programOf cells) words (chosen interval) f ee k));
                 on-place = a .on-place;
                 kept-on-place = λ i l. by-order i (h .depth) (λ b. below-place i b)
                     (λ b. subst (λ m. keptOf (rows′ .sides) m .pc ≡ 4 * (keptOf (rows′ .sides) m .pc / 4)) (sym b) child-place)

@@ -256,6 +256,7 @@ module _ (cells : List ℕ) (h : Hand) (rows : Rows) (p : Point cells h rows) (e
             tags-full = p .full .tags-full;
           };
           piled = record { own-low = turn-low; none-yet = turn-none };
+          nested = p .nested;
           on-place = p .kept-on-place d (omega (arith, deep));
           kept-on-place = λ i l. by-order i d
               (λ b. subst (λ (x : Kept). x .pc ≡ 4 * (x .pc / 4)) (sym (under-kept i b)) (p .kept-on-place i l))
@@ -364,6 +365,7 @@ module _ (cells : List ℕ) (h : Hand) (rows : Rows) (p : Point cells h rows) (e
                 own-low = let low : h .low - 32 ≡ lowOf (rows .sides) d = omega (arith, low-next both) in low ∙ ap (lowOf (rows .sides)) (sym x);
                 none-yet = λ i l w. p .piled .none-yet i (omega (arith, l, deep)) w;
               };
+              nested = record { fitted = λ i l. p .nested .fitted i (omega (arith, l, deep)) };
               on-place = on;
               kept-on-place = λ i l. p .kept-on-place i (omega (arith, l, deep));
               counter-least = omega arith;

@@ -1,16 +1,18 @@
 -- The records of open forks as a row of numbers.
-use mathlib.Core.Path.{_≡_, refl, sym, ap, _∙_}
-use mathlib.Core.Bool.{false}
+use mathlib.Core.Path.{_≡_, refl, sym, ap, subst, _∙_}
+use mathlib.Core.Bool.{true}
 use mathlib.Core.List.{List, [], _∷_}
-use Prim.Native.Nat.{ℕ, zero, suc, _+_, _-_, _/_, _%_, _<_, _≤_}
+use Prim.Native.Nat.{ℕ, zero, suc, _-_, _%_, _<_, _≤_}
 use native.Mathlib.Omega.{arith}
+use lib.Dec.{eqb}
 use lib.ListN.{length, getD, set, replicate}
-use Rattle.facts.proofs.Tests.{by-below}
+use borrow.Author.Tests.{eqb-true, eq-eqb}
+use Rattle.facts.proofs.Tests.{same, by-order}
 use Rattle.task.specs.declared.Fork.{Fork}
 use Rattle.task.specs.Frames.{zeroFork}
-use Rattle.task.specs.Effect.{belong}
-use Rattle.task.proofs.Belonging.{other-continuation, other-depth, belongs-on}
-use Rattle.evaluator.specs.Banks.{forkOf, forksOf}
+use Rattle.task.specs.Effect.{fits}
+use Rattle.task.proofs.Fitting.{fits-is, is-fits, innermost-under}
+use Rattle.evaluator.specs.Banks.{forkOf, forksOf, Nested}
 
 pub fork-at : (recs : List ℕ) (n i : ℕ) → i < n → getD (forksOf recs n) i zeroFork ≡ forkOf (getD recs i 0)
 unfolding forksOf
@@ -18,12 +20,6 @@ fork-at [] n i h = refl
 fork-at (u ∷ recs) zero i h = absurd (omega arith)
 fork-at (u ∷ recs) (suc n) zero h = refl
 fork-at (u ∷ recs) (suc n) (suc i) h = fork-at recs n i (omega arith)
-
-pub length-forks : (recs : List ℕ) (n : ℕ) → length (forksOf recs n) ≡ length recs
-unfolding forksOf
-length-forks [] n = refl
-length-forks (u ∷ recs) zero = ap suc (length-forks recs zero)
-length-forks (u ∷ recs) (suc n) = ap suc (length-forks recs n)
 
 pub no-forks : (recs : List ℕ) → forksOf recs 0 ≡ replicate (length recs) zeroFork
 unfolding forksOf
@@ -51,33 +47,47 @@ forks-below (v ∷ recs) zero (suc n) u h = absurd (omega arith)
 forks-below (v ∷ recs) (suc d) zero u h = ap (λ l. zeroFork ∷ l) (forks-below recs d zero u (omega arith))
 forks-below (v ∷ recs) (suc d) (suc n) u h = ap (λ l. forkOf v ∷ l) (forks-below recs d n u (omega arith))
 
--- ---- the loop over the open forks, from i to d
+-- ---- whether a record fits: one of the task's own depth does, one of a smaller depth where it is the innermost open fork's
 
-module _ (recs : List ℕ) (u d i : ℕ) (h : i < d) where
-  abbrev l : List Fork
-  l = forksOf recs d
+pub own-depth : (recs : List ℕ) (u d : ℕ) → d ≡ u % 4294967296 → fits (forkOf u) d (forksOf recs d) ≡ true
+own-depth recs u d e = is-fits (forkOf u) d (forksOf recs d) (record { shallow = omega (arith, e); belongs = λ i a b. absurd (omega (arith, a, b, e)) })
 
-  pub same-belongs : getD recs i 0 ≡ u → belong l (forkOf u) (d - i) i ≡ belong l (forkOf u) (d - (i + 1)) (i + 1)
-  same-belongs e =
-      let q : getD l i zeroFork ≡ forkOf u = fork-at recs d i h ∙ ap forkOf e in
-      belongs-on l (forkOf u) d i h (ap (λ (k : Fork). k .continuation) q) (ap (λ (k : Fork). k .depth) q)
+module _ (recs : List ℕ) (u d : ℕ) (low : u % 4294967296 < d) where
+  -- one that fits is that fork's
+  innermost-is : fits (forkOf u) d (forksOf recs d) ≡ true → getD recs (d - 1) 0 ≡ u
+  innermost-is e =
+      let k : forkOf (getD recs (d - 1) 0) ≡ forkOf u = sym (fork-at recs d (d - 1) (omega (arith, low))) ∙ innermost-under (forkOf u) d (forksOf recs d) e low in
+      omega (arith, ap (λ (x : Fork). x .continuation) k, ap (λ (x : Fork). x .depth) k)
 
-  pub other-not : (getD recs i 0 ≡ u → ⊥) → belong l (forkOf u) (d - i) i ≡ false
-  other-not n = by-below (getD recs i 0 / 4294967296) (u / 4294967296)
-      (λ b. unlike (omega (arith, b))) (λ a. by-below (u / 4294967296) (getD recs i 0 / 4294967296) (λ b. unlike (omega (arith, b)))
-      (λ b. other-depth l (forkOf u) d i h (same (omega (arith, a, b))) (λ q. n (all (omega (arith, a, b)) (sym deep ∙ q)))))
+  -- that fork's fits, as it fitted the forks outside it
+  innermost-fits : Nested recs d → getD recs (d - 1) 0 ≡ u → fits (forkOf u) d (forksOf recs d) ≡ true
+  innermost-fits n e = is-fits (forkOf u) d (forksOf recs d) (record {
+    shallow = omega (arith, low);
+    belongs = λ i a b. fork-at recs d i b ∙ by-order i (d - 1) (λ c. outside i a c) (λ c. ap (λ j. forkOf (getD recs j 0)) c ∙ ap forkOf e) (λ c. absurd (omega (arith, b, c)));
+  })
     where
-      here : getD l i zeroFork ≡ forkOf (getD recs i 0)
-      here = fork-at recs d i h
+      outside : (i : ℕ) → u % 4294967296 ≤ i → i < d - 1 → forkOf (getD recs i 0) ≡ forkOf u
+      outside i a b =
+          let f = subst (λ v. fits (forkOf v) (d - 1) (forksOf recs (d - 1)) ≡ true) e (n .fitted (d - 1) (omega (arith, low))) in
+          sym (fork-at recs (d - 1) i b) ∙ fits-is (forkOf u) (d - 1) (forksOf recs (d - 1)) f .belongs i a b
 
-      deep : getD l i zeroFork .depth ≡ getD recs i 0 % 4294967296
-      deep = ap (λ (k : Fork). k .depth) here
+  pub by-innermost : Nested recs d → eqb (getD recs (d - 1) 0) u ≡ fits (forkOf u) d (forksOf recs d)
+  by-innermost n = same (eqb (getD recs (d - 1) 0) u) (fits (forkOf u) d (forksOf recs d))
+      (λ e. innermost-fits n (eqb-true (getD recs (d - 1) 0) u e)) (λ e. eq-eqb (getD recs (d - 1) 0) u (innermost-is e))
 
-      same : getD recs i 0 / 4294967296 ≡ u / 4294967296 → getD l i zeroFork .continuation ≡ u / 4294967296
-      same e = ap (λ (k : Fork). k .continuation) here ∙ e
+-- ---- records that fitted: of a row with the same open forks, and with one opened under a record that fits
 
-      unlike : (getD recs i 0 / 4294967296 ≡ u / 4294967296 → ⊥) → belong l (forkOf u) (d - i) i ≡ false
-      unlike e = other-continuation l (forkOf u) d i h (λ q. e (sym (ap (λ (k : Fork). k .continuation) here) ∙ q))
+module _ (recs recs′ : List ℕ) (d : ℕ) (same-forks : (i : ℕ) → i ≤ d → forksOf recs′ i ≡ forksOf recs i) (n : Nested recs d) where
+  pub nested-same : Nested recs′ d
+  nested-same = record {
+    fitted = λ i l.
+        let e = sym (fork-at recs′ d i l) ∙ ap (λ o. getD o i zeroFork) (same-forks d (omega arith)) ∙ fork-at recs d i l in
+        ap (λ k. fits k i (forksOf recs′ i)) e ∙ ap (fits (forkOf (getD recs i 0)) i) (same-forks i (omega (arith, l))) ∙ n .fitted i l;
+  }
 
-      all : getD recs i 0 / 4294967296 ≡ u / 4294967296 → getD recs i 0 % 4294967296 ≡ u % 4294967296 → getD recs i 0 ≡ u
-      all p q = omega (arith, p, q)
+  pub nested-opened : {k : Fork} → forkOf (getD recs′ d 0) ≡ k → fits k d (forksOf recs d) ≡ true → Nested recs′ (suc d)
+  nested-opened e f = record {
+    fitted = λ i l. by-order i d (λ b. nested-same .fitted i b)
+        (λ b. subst (λ m. fits (forkOf (getD recs′ m 0)) m (forksOf recs′ m) ≡ true) (sym b) (ap (λ k. fits k d (forksOf recs′ d)) e ∙ ap (fits _ d) (same-forks d (omega arith)) ∙ f))
+        (λ b. absurd (omega (arith, b, l)));
+  }

@@ -6,7 +6,7 @@ use mathlib.Core.List.{List}
 use Prim.Native.Nat.{ℕ, zero, suc, _+_, _*_, _-_, _/_, _%_, _<_, _≤_}
 use native.Mathlib.Omega.{arith}
 use lib.ListN.{length, getD, set, length-set}
-use lib.Seq.{sets}
+use lib.Seq.{sets, getD-set-same}
 use borrow.Author.Tests.{lt-ltb, le-ltb}
 use Rattle.agreement.specs.Plain.{one, two}
 use Rattle.task.specs.declared.Value.{Value}
@@ -217,6 +217,8 @@ module _ (h : Hand) (nums kinds bank marks recs sides pile tags : List ℕ) (r :
     same-below = below;
     same-kept = λ i l. refl;
     child-kept = λ x. absurd (n (sym q ∙ x));
+    same-forks = λ i l. refl;
+    record-kept = λ x. absurd (n (sym q ∙ x));
     still-full = record {
       sized = sized;
       bank-full = full .bank-full;
@@ -468,6 +470,8 @@ module _ (h : Hand) (nums kinds bank marks recs sides pile tags : List ℕ) (r :
           (bank-other bank marks nums kinds (h .depth) i (full .sized) (λ x. absurd (omega (arith, x, l))));
       same-kept = others-kept;
       child-kept = λ x. keeps .there;
+      same-forks = λ i l. forks-below recs (h .depth) i u l;
+      record-kept = λ x. ap forkOf (getD-set-same recs (h .depth) u 0 (omega (arith, room, full .recs-full))) ∙ under;
       still-full = record {
         sized = full .sized;
         bank-full = length-sets nums bank (16 * h .depth) ∙ full .bank-full;

@@ -147,6 +147,7 @@ module _ (cells code : List ℕ) (places budget : ℕ) (nums kinds bank marks re
     kept-good = λ i l. absurd (omega (arith, l));
     full = full;
     piled = record { own-low = sym (low-none sides); none-yet = λ i l. absurd (omega (arith, l)) };
+    nested = record { fitted = λ i l. absurd (omega (arith, l)) };
     on-place = refl;
     kept-on-place = λ i l. absurd (omega (arith, l));
     counter-least = omega arith;

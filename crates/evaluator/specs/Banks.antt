@@ -1,11 +1,14 @@
 -- Banks of 16 registers in longer rows, and the records of open forks as a row of numbers.
 use mathlib.Core.Path.{_≡_}
+use mathlib.Core.Bool.{true}
 use mathlib.Core.List.{List, [], _∷_}
-use Prim.Native.Nat.{ℕ, zero, suc, _/_, _%_}
+use Prim.Native.Nat.{ℕ, zero, suc, _/_, _%_, _<_}
+use lib.ListN.{getD}
 use lib.Seq.{sets}
 use Rattle.task.specs.declared.Register.{Register}
 use Rattle.task.specs.declared.Fork.{Fork}
 use Rattle.task.specs.Frames.{zeroFork}
+use Rattle.task.specs.Effect.{fits}
 use Rattle.task.specs.Stretches.{reads}
 use Rattle.arms.specs.Registers.{registersOf}
 
@@ -27,3 +30,7 @@ unfoldable pub forksOf : List ℕ → ℕ → List Fork
 forksOf [] n = []
 forksOf (u ∷ recs) zero = zeroFork ∷ forksOf recs zero
 forksOf (u ∷ recs) (suc n) = forkOf u ∷ forksOf recs n
+
+-- each of the first d fitted, when its fork was opened, the forks outside it
+pub record Nested (recs : List ℕ) (d : ℕ) : Type 0 where
+  pub fitted : (i : ℕ) → i < d → fits (forkOf (getD recs i 0)) i (forksOf recs i) ≡ true

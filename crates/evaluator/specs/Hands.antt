@@ -21,6 +21,7 @@ use Rattle.task.specs.declared.Kind.{Kind}
 use Rattle.task.specs.declared.Kind.the-variants.{Stores, Goes, Pushes, Pops, Waits, Halts, Faults, Forks}
 use Rattle.task.specs.declared.Executed.{Executed}
 use Rattle.task.specs.Frames.{zeros, noForks, running, faultOf, workLimit}
+use Rattle.task.specs.Values.{recordOf}
 use Rattle.task.specs.Formed.{valueFits}
 use Rattle.task.specs.Step.{firstFault}
 use Rattle.evaluator.specs.declared.Side.{Side}
@@ -29,7 +30,7 @@ use Rattle.evaluator.specs.declared.Kept.{Kept}
 use Rattle.evaluator.specs.declared.Ran.{Ran}
 use Rattle.evaluator.specs.declared.Finished.{Finished}
 use Rattle.arms.specs.Registers.{valueOf, registersOf, Sized, inRegister}
-use Rattle.evaluator.specs.Banks.{bankFrom, forksOf}
+use Rattle.evaluator.specs.Banks.{bankFrom, forkOf, forksOf, Nested}
 use Rattle.evaluator.specs.Stacks.{stackOf, above}
 use Rattle.arms.specs.Turns.{Stacked, rules, Ends}
 use Rattle.evaluator.specs.Sides.{frameOf, openOf, Base, Good, madeOf}
@@ -150,6 +151,7 @@ pub record Point (cells : List ℕ) (h : Hand) (r : Rows) : Type 0 where
   pub kept-good : (i : ℕ) → i < h .depth → Good cells rank (rank - (i + 1)) (workLimit - h .left) (keptFrame r i)
   pub full : Full r
   pub piled : Piled h (r .sides)
+  pub nested : Nested (r .recs) (h .depth)
   pub on-place : h .pc ≡ 4 * (h .pc / 4)
   pub kept-on-place : (i : ℕ) → i < h .depth → keptOf (r .sides) i .pc ≡ 4 * (keptOf (r .sides) i .pc / 4)
   pub counter-least : h .left ≤ h .beat
@@ -269,6 +271,8 @@ pub record Applied (h : Hand) (rows : Rows) (r : ℕ) (e : Executed) (z : Hand) 
   pub same-below : (i : ℕ) → i < h .depth → keptFrame rows′ i ≡ keptFrame rows i
   pub same-kept : (i : ℕ) → i < h .depth → keptOf (rows′ .sides) i ≡ keptOf (rows .sides) i
   pub child-kept : e .kind ≡ Forks → keptOf (rows′ .sides) (h .depth) ≡ childOf h (e .child)
+  pub same-forks : (i : ℕ) → i ≤ h .depth → forksOf (rows′ .recs) i ≡ forksOf (rows .recs) i
+  pub record-kept : e .kind ≡ Forks → forkOf (getD (rows′ .recs) (h .depth) 0) ≡ recordOf (e .value)
   pub still-full : Full rows′
   pub less : z .left ≡ h .left - 1
   pub on-place : z .pc ≡ 4 * (z .pc / 4)

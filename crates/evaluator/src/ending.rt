@@ -27,7 +27,7 @@ ghost use Rattle.task.specs.Effect.{fork, halt, meet, push};
 ghost use Rattle.task.specs.Formed.{valueFits};
 ghost use Rattle.task.specs.Execute.{answered};
 ghost use Rattle.arms.specs.Registers.{Sized, registersOf, valueOf, operandBy};
-ghost use Rattle.evaluator.specs.Banks.{forksOf};
+ghost use Rattle.evaluator.specs.Banks.{forksOf, Nested};
 ghost use Rattle.arms.specs.Turns.{executedOf, Ends};
 ghost use Rattle.evaluator.specs.Sides.{frameOf, CanStep};
 ghost use Rattle.evaluator.specs.Hands.{handSide};
@@ -58,7 +58,8 @@ fn operand_pair(nums: &[u64], kinds: &[u8], x: Instruction) -> Pair
 // Opcode 12, of a task that has counted it: a record s that fits, a label v, two places. `ending` alone calls these four, with the values
 // of a well-formed task.
 fn fork_under(cells: &[u64], recs: &[u64], s: Pair, v: Pair, t: Active) -> Executed
-    requires { ⌜ (programNo (now cells) ≡ 0) × (valueFits (programOf (now cells)) (valueOf (v .kind) (v .num)) ≡ true) × (length (now recs) ≡ 6) × (t .pc < mostInstructions) × (t .depth ≤ 6) ⌝ }
+    requires { ⌜ (programNo (now cells) ≡ 0) × (valueFits (programOf (now cells)) (valueOf (v .kind) (v .num)) ≡ true) × (length (now recs) ≡ 6) × (t .pc < mostInstructions) × (t .depth ≤ 6)
+        × Nested (now recs) (t .depth) ⌝ }
     ensures { λ r. ⌜ ((w : List ℤ) (c : Choices) → r ≡ answered (programOf (now (cells .entry))) w c (valueOf (s .kind) (s .num)) (valueOf (v .kind)
         (v .num)) t (forksOf (now (recs .entry)) (t .depth)) fork) ⌝ }
 {
@@ -88,7 +89,8 @@ fn fork_under(cells: &[u64], recs: &[u64], s: Pair, v: Pair, t: Active) -> Execu
 
 // Opcode 15, likewise: to the continuation, which is a join target and so never promotes; or the task waits.
 fn meet_under(cells: &[u64], recs: &[u64], v: Pair, t: Active) -> Executed
-    requires { ⌜ (programNo (now cells) ≡ 0) × (valueFits (programOf (now cells)) (valueOf (v .kind) (v .num)) ≡ true) × (length (now recs) ≡ 6) × (t .depth ≤ 6) ⌝ }
+    requires { ⌜ (programNo (now cells) ≡ 0) × (valueFits (programOf (now cells)) (valueOf (v .kind) (v .num)) ≡ true) × (length (now recs) ≡ 6) × (t .depth ≤ 6)
+        × Nested (now recs) (t .depth) ⌝ }
     ensures { λ r. ⌜ ((w : List ℤ) (interval : ℕ) (s : Value) → r ≡ answered (programOf (now (cells .entry))) w (chosen interval) s (valueOf (v .kind)
         (v .num)) t (forksOf (now (recs .entry)) (t .depth)) meet) ⌝ }
 {
@@ -125,8 +127,8 @@ fn push_of(v: Pair, t: Active) -> Executed
     results::pass(Kind::Pushes, value, t)
 }
 
-// `act` alone calls it, and ensures `CanStep`; `run_hand` ensures `Ends`. The call record and the interval are the contract's: none of these
-// instructions looks at them.
+// `act` alone calls it, and ensures `CanStep` and, by `Point`, `Nested`; `run_hand` ensures `Ends`. The call record and the interval are the
+// contract's: none of these instructions looks at them.
 pub fn ending(
     cells: &[u64],
     words: &[i64],
@@ -138,7 +140,8 @@ pub fn ending(
     recs: &[u64],
 ) -> Executed
     requires { ⌜ CanStep (now cells) (handSide hand (now recs) (now nums) (now kinds)) × Sized (now nums) (now kinds) × (length (now recs) ≡ 6) × (hand .left ≤ hand .beat)
-        × (what ≡ 0 → ⊥) × Ends (now cells) (now words) interval (hand .places) (hand .depth) what (hand .pc / 4) (hand .beat - hand .left) (registersOf (now nums) (now kinds)) ⌝ }
+        × (what ≡ 0 → ⊥) × Ends (now cells) (now words) interval (hand .places) (hand .depth) what (hand .pc / 4) (hand .beat - hand .left) (registersOf (now nums) (now kinds))
+        × Nested (now recs) (hand .depth) ⌝ }
     ensures { λ r. ⌜ ((stack : List Register) → r ≡ executedOf (programOf (now (cells .entry))) (now (words .entry)) (chosen interval) (frameOf (handSide hand (now
         (recs .entry)) (now (nums .entry)) (now (kinds .entry))) stack)) ⌝ }
 {

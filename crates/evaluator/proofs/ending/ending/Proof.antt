@@ -1,5 +1,5 @@
 -- `ending` meets its contract.
-use mathlib.Core.Path.{sym, ap, _∙_}
+use mathlib.Core.Path.{sym, ap, subst, _∙_}
 use Prim.Native.Nat.{_-_}
 use native.Mathlib.Omega.{arith}
 use lib.ListN.{getD}
@@ -10,7 +10,7 @@ use Rattle.task.specs.Choices.{chosen}
 use Rattle.task.specs.Effect.{fork, halt, meet, push, pop, unknown, opcodes}
 use Rattle.task.specs.Execute.{answered}
 use Rattle.arms.specs.Registers.{valueOf}
-use Rattle.evaluator.specs.Banks.{forksOf}
+use Rattle.evaluator.specs.Banks.{forksOf, Nested}
 use Rattle.evaluator.specs.Hands.{handSide}
 use Rattle.evaluator.proofs.EndingLaws.{here, place-below, counter-below, depth-most, s-below, operand-below, s-is, v-is, v-fits, label-small, executes}
 use borrow.Author.Needs.{needs}
@@ -127,6 +127,7 @@ fork-under-requires c κs =
       a .pre .2,
       omega (arith, ap (λ (t : Active). t .pc) (c .before .before .before .before .count .ensures), place-below cells own can),
       omega (arith, ap (λ (t : Active). t .depth) (c .before .before .before .before .count .ensures), depth-most cells own can),
+      subst (Nested (a .args .recs .now)) (sym (ap (λ (t : Active). t .depth) (c .before .before .before .before .count .ensures))) (a .pre .6),
     )
 
 returns-2 : tie.Need-returns-2
@@ -160,6 +161,7 @@ meet-under-requires c κs =
       v-fits cells own can z (x .result) (x .ensures) ev,
       a .pre .2,
       omega (arith, ap (λ (t : Active). t .depth) (c .before .before .before .before .before .count .ensures), depth-most cells own can),
+      subst (Nested (a .args .recs .now)) (sym (ap (λ (t : Active). t .depth) (c .before .before .before .before .before .count .ensures))) (a .pre .6),
     )
 
 returns-3 : tie.Need-returns-3

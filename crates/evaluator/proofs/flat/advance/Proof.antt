@@ -63,7 +63,10 @@ same-length-3 c =
     c .before .before .before .before .before .before .before .before .before .before .before .before .before .before .before .before .act .ensures .1 .point .full .sized .0 ∙ sym (a .pre .0 .full .sized .0)
 
 same-length-4 : tie.Need-same-length-4
-same-length-4 c = search needs
+same-length-4 c =
+    let half = c .before .before .before .before .before .before .before .before .before .before .before .before .before .before .before .before .before .before .before .before .before .before .before in
+    let a = half .before .before .before .before .before .before .before .before .before .before .before .before .before .before .before .before .before .before .before .before .before .before .before in
+    c .before .before .before .before .before .before .before .before .before .before .before .before .before .before .before .before .act .ensures .1 .point .full .sized .1 ∙ sym (a .pre .0 .full .sized .1)
 
 same-length-5 : tie.Need-same-length-5
 same-length-5 c = search needs

@@ -26,7 +26,7 @@ ending-requires c κs =
     let rows = rowsOf (a .args .nums .now) (a .args .kinds .now) (a .args .bank .now) (a .args .marks .now) (a .args .recs .now) (a .args .sides .now)
     (a .args .pile .now) (a .args .tags .now) in
     let can = can-step cells (a .args .words .now) (a .args .interval) (a .args .hand) rows (a .pre .0) (a .pre .1) (a .pre .2) in
-    (can, a .pre .0 .full .sized, a .pre .0 .full .recs-full, a .pre .0 .counter-least, a .pre .3, a .pre .4)
+    (can, a .pre .0 .full .sized, a .pre .0 .full .recs-full, a .pre .0 .counter-least, a .pre .3, a .pre .4, a .pre .0 .nested)
 
 apply-requires : tie.Need-apply-requires
 apply-requires c κs =
