@@ -15,13 +15,15 @@ use Rattle.task.specs.declared.Frame.{Frame}
 use Rattle.task.specs.Frames.{running}
 use Rattle.task.specs.Choices.{chosen}
 use Rattle.task.specs.Step.{step}
-use Rattle.task.proofs.Formation.{formed-is, is-formed}
+use Rattle.task.proofs.Formation.{Formed, formed-is, is-formed}
 use Rattle.task.proofs.StepKeeps.{step-one}
 use Rattle.task.proofs.Counts.{within-is, is-within, within-more, step-one-within}
 use Rattle.image.proofs.Accepted.{accepted}
 use Rattle.image.specs.Questions.{programNo}
 use Rattle.arms.specs.declared.Gone.{Gone}
-use Rattle.arms.specs.Turns.{Stacked, frameAt, rules, Ends, Turned, Runs}
+use Rattle.arms.specs.Registers.{registersOf, Sized}
+use Rattle.arms.specs.Stacks.{Stacked, stackOf}
+use Rattle.arms.specs.Turns.{frameAt, rules, At, Starts, Ends, Turned, Runs}
 
 module _ (cells : List ℕ) (words : List ℤ) (interval : ℕ) where
   -- a step to one task that runs on
@@ -32,13 +34,13 @@ module _ (cells : List ℕ) (words : List ℤ) (interval : ℕ) where
       ∙ ap (λ x. run (rules cells words interval) n (taken (rules cells words interval) s x)) e
       ∙ ap (λ x. run (rules cells words interval) n x) (onward-runs (rules cells words interval) g s h)
 
-  module _ (accept : programNo cells ≡ 0) (places depth pc beat left : ℕ) (before : List Register) where
-    pub runs-start : pc ≡ 4 * (pc / 4) → pc / 4 < instructionCount cells → left ≤ beat → Runs cells words interval places depth pc beat left before
-        pc beat left before
+  module _ (accept : programNo cells ≡ 0) (places depth pc beat left : ℕ) (u : Stacked) (before : List Register) where
+    pub runs-start : pc ≡ 4 * (pc / 4) → pc / 4 < instructionCount cells → left ≤ beat → Runs cells words interval places depth pc beat left u before
+        pc beat left u before
     runs-start a h l = record {
-      same-run = λ forks span u s. rw same;
-      keeps-formed = λ forks span u D h r x. rw same x;
-      keeps-within = λ forks span u W x. rw (same, same) x;
+      same-run = λ forks span s. rw same;
+      keeps-formed = λ forks span D h r x. rw same x;
+      keeps-within = λ forks span W x. rw (same, same) x;
       aligned = a;
       inside = h;
       counted = l;
@@ -49,43 +51,46 @@ module _ (cells : List ℕ) (words : List ℤ) (interval : ℕ) where
         same : (span : ℕ) → span + (left - left) ≡ span
         same span = omega arith
 
-    -- one turn more
-    pub runs-on : (pc′ beat′ left′ : ℕ) (after : List Register) (g : Gone) (next : List Register) → 0 < left′ → g .what ≡ 0
-        → Runs cells words interval places depth pc beat left before pc′ beat′ left′ after
-        → Turned cells words interval places depth pc′ beat′ (left′ - 1) after g next
-        → Runs cells words interval places depth pc beat left before (g .pc) (g .beat) (left′ - 1) next
-    runs-on pc′ beat′ zero after g next p on h t = absurd (omega arith)
-    runs-on pc′ beat′ (suc n) after g next p on h t = record {
-      same-run = λ forks span u s. h .same-run forks span u s ∙ run-one n (here forks span u) (there forks span u) s refl (steps forks span u) refl ∙ rw less;
-      keeps-formed = λ forks span u D k r x.
-          is-formed (programOf cells) D k (there forks span u)
-          (step-one cells (accepted cells accept) D r words (chosen interval) k (here forks span u) (there forks span u)
-          (formed-is (programOf cells) D k (here forks span u) (h .keeps-formed forks span u D k r x)) refl (steps forks span u));
-      keeps-within = λ forks span u W x.
-          is-within (W + (left - (suc n - 1))) (there forks span u)
+    -- one instruction more
+    pub runs-on : (pc′ beat′ left′ : ℕ) (u′ : Stacked) (after : List Register) (pc″ beat″ : ℕ) (u″ : Stacked) (next : List Register) → 0 < left′
+        → Runs cells words interval places depth pc beat left u before pc′ beat′ left′ u′ after
+        → ((forks : List Fork) (span : ℕ)
+        → step (programOf cells) words (chosen interval) (frameAt places depth forks (pc′ / 4) (beat′ - (left′ - 1 + 1)) span u′ after)
+        ≡ one (frameAt places depth forks (pc″ / 4) (beat″ - (left′ - 1)) (span + 1) u″ next))
+        → pc″ ≡ 4 * (pc″ / 4) → pc″ / 4 < instructionCount cells → left′ - 1 ≤ beat″ → beat″ ≤ beat′
+        → Runs cells words interval places depth pc beat left u before pc″ beat″ (left′ - 1) u″ next
+    runs-on pc′ beat′ zero u′ after pc″ beat″ u″ next p h t al ins cn bm = absurd (omega arith)
+    runs-on pc′ beat′ (suc n) u′ after pc″ beat″ u″ next p h t al ins cn bm = record {
+      same-run = λ forks span s. h .same-run forks span s ∙ run-one n (here forks span) (there forks span) s refl (steps forks span) refl ∙ rw less;
+      keeps-formed = λ forks span D k r x.
+          is-formed (programOf cells) D k (there forks span)
+          (step-one cells (accepted cells accept) D r words (chosen interval) k (here forks span) (there forks span)
+          (formed-is (programOf cells) D k (here forks span) (h .keeps-formed forks span D k r x)) refl (steps forks span));
+      keeps-within = λ forks span W x.
+          is-within (W + (left - (suc n - 1))) (there forks span)
           (within-more (omega (arith, h .fewer))
-          (step-one-within (programOf cells) words (chosen interval) (W + (left - suc n)) (here forks span u) (there forks span u)
-          (within-is (W + (left - suc n)) (here forks span u) (h .keeps-within forks span u W x)) (steps forks span u)));
-      aligned = t .aligned;
-      inside = t .inside on;
-      counted = t .counted;
-      beat-most = omega (arith, t .beat-most, h .beat-most);
+          (step-one-within (programOf cells) words (chosen interval) (W + (left - suc n)) (here forks span) (there forks span)
+          (within-is (W + (left - suc n)) (here forks span) (h .keeps-within forks span W x)) (steps forks span)));
+      aligned = al;
+      inside = ins;
+      counted = cn;
+      beat-most = omega (arith, bm, h .beat-most);
       fewer = omega (arith, h .fewer);
     }
       where
-        -- before the turn, and after it
-        here : List Fork → ℕ → Stacked → Frame
-        here forks span u = frameAt places depth forks (pc′ / 4) (beat′ - suc n) (span + (left - suc n)) u after
+        -- before it, and after it
+        here : List Fork → ℕ → Frame
+        here forks span = frameAt places depth forks (pc′ / 4) (beat′ - suc n) (span + (left - suc n)) u′ after
 
-        there : List Fork → ℕ → Stacked → Frame
-        there forks span u = frameAt places depth forks (g .pc / 4) (g .beat - (suc n - 1)) (span + (left - (suc n - 1))) u next
+        there : List Fork → ℕ → Frame
+        there forks span = frameAt places depth forks (pc″ / 4) (beat″ - (suc n - 1)) (span + (left - (suc n - 1))) u″ next
 
         less : suc n - 1 ≡ n
         less = omega arith
 
-        steps : (forks : List Fork) (span : ℕ) (u : Stacked) → step (programOf cells) words (chosen interval) (here forks span u) ≡ one (there forks span u)
-        steps forks span u =
-            let e = t .steps on forks (span + (left - suc n)) u in
+        steps : (forks : List Fork) (span : ℕ) → step (programOf cells) words (chosen interval) (here forks span) ≡ one (there forks span)
+        steps forks span =
+            let e = t forks (span + (left - suc n)) in
             let c : suc n - 1 + 1 ≡ suc n = omega arith in
             let w : span + (left - suc n) + 1 ≡ span + (left - (suc n - 1)) = omega (arith, h .fewer) in
             rw (c, w) at e
@@ -98,3 +103,28 @@ stops cells words interval places depth pc beat left before g after some off t =
     let same : left - 1 + 1 ≡ left = omega (arith, some) in
     subst (Ends cells words interval places depth (g .what) (pc / 4) (beat - left)) (sym (t .stays off .0))
     (subst (λ n. Ends cells words interval places depth (g .what) (pc / 4) (beat - n) before) same (t .stays off .1))
+
+-- ---- at a turn of the loop
+
+module _ {cells code : List ℕ} {words : List ℤ} {interval places depth budget begun start low piled pc beat left height : ℕ}
+    (nums kinds pile tags nums′ kinds′ pile′ tags′ : List ℕ) (b : Starts cells code nums kinds pile tags places depth budget begun start low piled)
+    (r : Runs cells words interval places depth start begun budget (stackOf pile tags low piled) (registersOf nums kinds) pc beat left
+    (stackOf pile′ tags′ low height) (registersOf nums′ kinds′)) where
+  formed-now : Formed (programOf cells) (b .rank) (b .height)
+      (frameAt places depth (b .forks) (pc / 4) (beat - left) (b .span + (budget - left)) (stackOf pile′ tags′ low height) (registersOf nums′ kinds′))
+  formed-now = formed-is (programOf cells) (b .rank) (b .height) _ (r .keeps-formed (b .forks) (b .span) (b .rank) (b .height) (b .room) (b .is-formed))
+
+  pub height-now : height ≤ 32
+  height-now = formed-now .height-most
+
+  pub turn-at : Sized nums′ kinds′ → 0 < left → At cells code nums′ kinds′ depth (left - 1) beat pc
+  turn-at sized some = record {
+    accepted-program = b .accepted-program;
+    decodes = b .decodes;
+    sized = sized;
+    on-place = r .aligned;
+    inside-program = r .inside;
+    counter-least = omega (arith, r .counted, some);
+    values-fit = formed-now .values-fit;
+    depth-most = omega (arith, formed-now .has-depth, b .room);
+  }

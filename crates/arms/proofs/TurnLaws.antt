@@ -29,7 +29,8 @@ use Rattle.arms.specs.declared.Gone.{Gone}
 use Rattle.arms.specs.Registers.{registersOf, inRegister, operandBy}
 use Rattle.arms.specs.Code.{Plain, Decoded, Decodes}
 use Rattle.arms.specs.Arms.{active, contextOf, Sets, SetsBy, Leads, Unready}
-use Rattle.arms.specs.Turns.{Stacked, frameAt, LeftOpcode, At, Turned}
+use Rattle.arms.specs.Stacks.{Stacked}
+use Rattle.arms.specs.Turns.{frameAt, LeftOpcode, At, Turned}
 use Rattle.arms.proofs.SetLaws.{NoneOf}
 use Rattle.arms.proofs.CodeLaws.{opcode-known, has-operand}
 
@@ -200,7 +201,7 @@ module _ (cells : List ℕ) (words : List ℤ) (interval places depth pc beat le
   operand-is g i (suc (suc (suc (suc k)))) l e = absurd (omega (arith, l))
 
   module _ (n k s v : ℕ) (h : Named y n k v) (same-s : s ≡ y .s) where
-    means : (forks : List Fork) (span : ℕ) (u : Stacked)
+    pub means : (forks : List Fork) (span : ℕ) (u : Stacked)
         → executed (programOf cells) words (chosen interval) y (register (f forks span u) (y .s)) (operand (f forks span u) y) (activeOf (f forks span u .task)) forks
         ≡ answered (programOf cells) words (chosen interval) (inRegister s before) (operandBy k v before) a forks (getD opcodes n unknown)
     unfolding executed

@@ -24,12 +24,10 @@ use Rattle.task.specs.Execute.{ending, executed}
 use Rattle.arms.specs.declared.Gone.{Gone}
 use Rattle.arms.specs.declared.Stopped.{Stopped}
 use Rattle.arms.specs.Registers.{registersOf, Sized, inRegister}
+use Rattle.arms.specs.Stacks.{stackOf, Lies, SameBelow}
 use Rattle.arms.specs.Code.{Decodes}
-
--- a task's stack, which no instruction that it carries out by itself looks at or changes
-pub record Stacked : Type 0 where
-  pub height : ℕ
-  pub values : List Register
+-- for the crates above, too
+pub use Rattle.arms.specs.Stacks.{Stacked}
 
 -- a running task with these numbers, this stack and these registers
 abbrev pub frameAt : ℕ → ℕ → List Fork → ℕ → ℕ → ℕ → Stacked → List Register → Frame
@@ -66,15 +64,15 @@ pub record At (cells code nums kinds : List ℕ) (depth left beat pc : ℕ) : Ty
   pub depth-most : depth ≤ 6
 
 -- a task where instructions by itself begin: well-formed
-pub record Starts (cells code nums kinds : List ℕ) (places depth left beat pc : ℕ) : Type 0 where
+pub record Starts (cells code nums kinds pile tags : List ℕ) (places depth left beat pc low piled : ℕ) : Type 0 where
   pub rank : ℕ
   pub height : ℕ
   pub forks : List Fork
   pub span : ℕ
-  pub stacked : Stacked
   pub room : rank ≤ 6
   pub is-formed : formed (programOf cells) rank height
-      (frameAt places depth forks (pc / 4) (beat - left) span stacked (registersOf nums kinds)) ≡ true
+      (frameAt places depth forks (pc / 4) (beat - left) span (stackOf pile tags low piled) (registersOf nums kinds)) ≡ true
+  pub lies : Lies pile tags low
   pub accepted-program : programNo cells ≡ 0
   pub decodes : Decodes cells code
   pub sized : Sized nums kinds
@@ -84,7 +82,8 @@ pub record Starts (cells code nums kinds : List ℕ) (places depth left beat pc 
 
 -- ---- What they do
 
--- the opcode of an instruction that a task does not carry out by itself: fork, join, push, pop or halt
+-- the opcode of an instruction that `turn` does not carry out: fork, join, halt, push or pop. The loop then carries out a push that has a place
+-- and a pop that has a value
 abbrev pub LeftOpcode : ℕ → Type 0
 LeftOpcode n = (n ≡ 12 → ⊥) → (n ≡ 15 → ⊥) → (n ≡ 16 → ⊥) → (n ≡ 17 → ⊥) → n ≡ 14
 
@@ -107,25 +106,26 @@ module _ (cells : List ℕ) (words : List ℤ) (interval places depth : ℕ) whe
     pub counted : left ≤ g .beat
     pub beat-most : g .beat ≤ beat
 
-  -- several: they are the run so far, whatever the task's open forks, its span, its stack and the forks pending
-  pub record Runs (pc beat left : ℕ) (before : List Register) (pc′ beat′ left′ : ℕ) (after : List Register) : Type 0 where
-    pub same-run : (forks : List Fork) (span : ℕ) (u : Stacked) (s : Pending Frame)
+  -- several: they are the run so far, whatever the task's open forks, its span and the forks pending; u and u′ are its stack
+  pub record Runs (pc beat left : ℕ) (u : Stacked) (before : List Register) (pc′ beat′ left′ : ℕ) (u′ : Stacked) (after : List Register) : Type 0 where
+    pub same-run : (forks : List Fork) (span : ℕ) (s : Pending Frame)
         → run (rules cells words interval) left (held (frameAt places depth forks (pc / 4) (beat - left) span u before) s)
-        ≡ run (rules cells words interval) left′ (held (frameAt places depth forks (pc′ / 4) (beat′ - left′) (span + (left - left′)) u after) s)
-    pub keeps-formed : (forks : List Fork) (span : ℕ) (u : Stacked) (D h : ℕ) → D ≤ 6
+        ≡ run (rules cells words interval) left′ (held (frameAt places depth forks (pc′ / 4) (beat′ - left′) (span + (left - left′)) u′ after) s)
+    pub keeps-formed : (forks : List Fork) (span : ℕ) (D h : ℕ) → D ≤ 6
         → formed (programOf cells) D h (frameAt places depth forks (pc / 4) (beat - left) span u before) ≡ true
-        → formed (programOf cells) D h (frameAt places depth forks (pc′ / 4) (beat′ - left′) (span + (left - left′)) u after) ≡ true
-    pub keeps-within : (forks : List Fork) (span : ℕ) (u : Stacked) (W : ℕ)
+        → formed (programOf cells) D h (frameAt places depth forks (pc′ / 4) (beat′ - left′) (span + (left - left′)) u′ after) ≡ true
+    pub keeps-within : (forks : List Fork) (span : ℕ) (W : ℕ)
         → within W (frameAt places depth forks (pc / 4) (beat - left) span u before) ≡ true
-        → within (W + (left - left′)) (frameAt places depth forks (pc′ / 4) (beat′ - left′) (span + (left - left′)) u after) ≡ true
+        → within (W + (left - left′)) (frameAt places depth forks (pc′ / 4) (beat′ - left′) (span + (left - left′)) u′ after) ≡ true
     pub aligned : pc′ ≡ 4 * (pc′ / 4)
     pub inside : pc′ / 4 < instructionCount cells
     pub counted : left′ ≤ beat′
     pub beat-most : beat′ ≤ beat
     pub fewer : left′ ≤ left
 
-  -- until one that the task does not carry out by itself, or the budget is used up
-  pub record RunsUntil (pc beat left : ℕ) (before : List Register) (z : Stopped) (after : List Register) : Type 0 where
-    pub runs : Runs pc beat left before (z .pc) (z .beat) (z .left) after
+  -- until one that the task does not carry out by itself, or the budget is used up; the stack begins at `low`
+  pub record RunsUntil (pc beat left low piled : ℕ) (pile tags : List ℕ) (before : List Register) (z : Stopped) (pile′ tags′ : List ℕ) (after : List Register) : Type 0 where
+    pub runs : Runs pc beat left (stackOf pile tags low piled) before (z .pc) (z .beat) (z .left) (stackOf pile′ tags′ low (z .height)) after
+    pub same-below : SameBelow low pile tags pile′ tags′
     pub when-spent : z .what ≡ 0 → z .left ≡ 0
     pub when-not : (z .what ≡ 0 → ⊥) → (0 < z .left) × Ends (z .what) (z .pc / 4) (z .beat - z .left) after

@@ -1,4 +1,5 @@
-// The loop of a task by itself: one turn is one instruction that neither forks nor ends the task, and leaves its stack alone.
+// The loop of a task by itself: one turn is one instruction that neither forks nor ends the task. Push and pop, which `turn` leaves, have theirs
+// after it; one for which there is no place or no value ends the loop.
 use crate::Gone;
 use crate::Stopped;
 use crate::jumps::branch_plain;
@@ -7,6 +8,7 @@ use crate::jumps::branch_to;
 use crate::jumps::enter;
 use crate::jumps::jump_register;
 use crate::setting::set_register;
+use crate::stacking::stack_turn;
 ghost use Rattle.arms.specs.Registers.{Sized, registersOf};
 ghost use Rattle.arms.specs.Turns.{At, Turned, Starts, RunsUntil};
 
@@ -102,8 +104,8 @@ fn turn(
     }
 }
 
-// Instructions until one that the task does not carry out by itself, which is not carried out, or the budget is used up. `run_hand`
-// alone calls it, with a well-formed task.
+// Instructions until one that the task does not carry out by itself, which is not carried out, or the budget is used up. The task's stack begins
+// at `low` and has `piled` values. `run_hand` alone calls it, with a well-formed task.
 pub fn run_on(
     cells: &[u64],
     code: &[u64],
@@ -116,16 +118,22 @@ pub fn run_on(
     budget: u64,
     begun: u64,
     start: usize,
+    pile: &mut [u64],
+    tags: &mut [u8],
+    low: u64,
+    piled: u64,
 ) -> Stopped
-    requires { ⌜ Starts (now cells) (now code) (now nums) (now kinds) places depth budget begun start ⌝ }
+    requires { ⌜ Starts (now cells) (now code) (now nums) (now kinds) (now pile) (now tags) places depth budget begun start low piled ⌝ }
     ensures { λ z. ⌜ Sized (now (nums .exit)) (now (kinds .exit)) ⌝ }
-    ensures { λ z. ⌜ RunsUntil (now (cells .entry)) (now (words .entry)) interval places depth start begun budget
-        (registersOf (now (nums .entry)) (now (kinds .entry))) z (registersOf (now (nums .exit)) (now (kinds .exit))) ⌝ }
+    ensures { λ z. ⌜ RunsUntil (now (cells .entry)) (now (words .entry)) interval places depth start begun budget low piled (now (pile .entry)) (now (tags .entry))
+        (registersOf (now (nums .entry)) (now (kinds .entry))) z (now (pile .exit)) (now (tags .exit)) (registersOf (now (nums .exit)) (now (kinds .exit))) ⌝ }
 {
     let mut left = budget;
     let mut pc = start;
     let mut beat = begun;
+    let mut height = piled;
     while 0 < left {
+        let rest = left - 1;
         let g = turn(
             cells,
             code,
@@ -135,26 +143,44 @@ pub fn run_on(
             interval,
             places,
             depth,
-            left - 1,
+            rest,
             beat,
             pc,
         );
-        if g.what != 0 {
+        if g.what == 0 {
+            pc = g.pc;
+            beat = g.beat;
+            left = rest;
+            continue;
+        }
+        if g.what != 1 {
             return Stopped {
                 what: g.what,
                 pc,
                 beat,
                 left,
+                height,
             };
         }
-        pc = g.pc;
-        beat = g.beat;
-        left = left - 1;
+        let h = stack_turn(code, nums, kinds, pile, tags, low, height, pc);
+        if h == 33 {
+            return Stopped {
+                what: 1,
+                pc,
+                beat,
+                left,
+                height,
+            };
+        }
+        height = h;
+        pc = pc + 4;
+        left = rest;
     }
     Stopped {
         what: 0,
         pc,
         beat,
         left,
+        height,
     }
 }

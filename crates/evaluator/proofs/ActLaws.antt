@@ -27,15 +27,15 @@ use Rattle.evaluator.specs.declared.Kept.{Kept}
 use Rattle.arms.specs.Registers.{registersOf, Sized}
 use Rattle.evaluator.specs.Banks.{forksOf, Nested}
 use Rattle.arms.specs.Code.{Decodes}
-use Rattle.arms.specs.Turns.{Stacked, frameAt, rules, executedOf, Starts, RunsUntil}
-use Rattle.evaluator.specs.Stacks.{stackOf}
+use Rattle.arms.specs.Stacks.{Stacked, stackOf}
+use Rattle.arms.specs.Turns.{frameAt, rules, executedOf, Starts, RunsUntil}
 use Rattle.evaluator.specs.Sides.{Good, CanStep, madeOf}
 use Rattle.evaluator.specs.Hands.{frameFrom, Rows, rowsOf, keptOf, lowOf, handFrame, keptFrame, pendingFrom, Point, LeadsTo}
 use Rattle.evaluator.specs.Hands.{handSide, steppedIn, ownFrame, Applied}
 use Rattle.evaluator.proofs.GoodLaws.{good-more, good-depth}
 use Rattle.evaluator.proofs.ForkLaws.{nested-same, nested-opened}
-use Rattle.evaluator.proofs.StackLaws.{low-top, low-same}
-use Rattle.evaluator.proofs.HandLaws.{is-running}
+use Rattle.evaluator.proofs.StackLaws.{low-top, low-same, low-most}
+use Rattle.evaluator.proofs.HandLaws.{is-running, kept-stays}
 use Rattle.evaluator.proofs.OpeningLaws.{opened-under}
 use Rattle.evaluator.proofs.FrameLaws.{pending-same, pending-top, one-run, two-run, one-good, two-good}
 
@@ -62,15 +62,20 @@ module _ (cells : List ℕ) (words : List ℤ) (interval : ℕ) (h : Hand) (rows
 
   -- ---- by itself
 
-  pub starts : (code : List ℕ) → Decodes cells code → Starts cells code (rows .nums) (rows .kinds) (h .places) (h .depth) (h .left) (h .beat) (h .pc)
+  pub starts : (code : List ℕ) → Decodes cells code
+      → Starts cells code (rows .nums) (rows .kinds) (rows .pile) (rows .tags) (h .places) (h .depth) (h .left) (h .beat) (h .pc) (h .low) (h .height)
   starts code d = record {
     rank = p .rank;
     height = p .height;
     forks = forksOf (rows .recs) (h .depth);
     span = h .spun - h .left;
-    stacked = own-stack;
     room = p .room;
     is-formed = good .is-formed;
+    lies = record {
+      pile-full = p .full .pile-full;
+      tags-full = p .full .tags-full;
+      low-most = omega (arith, p .piled .own-low, low-most (rows .sides) (h .depth), formed-here .has-depth, p .room);
+    };
     accepted-program = p .accepted-program;
     decodes = d;
     sized = p .full .sized;
@@ -79,8 +84,9 @@ module _ (cells : List ℕ) (words : List ℤ) (interval : ℕ) (h : Hand) (rows
     counter-least = p .counter-least;
   }
 
-  module _ (z : Stopped) (nums kinds : List ℕ) (sized : Sized nums kinds)
-      (t : RunsUntil cells words interval (h .places) (h .depth) (h .pc) (h .beat) (h .left) (registersOf (rows .nums) (rows .kinds)) z (registersOf nums kinds)) where
+  module _ (z : Stopped) (nums kinds pile tags : List ℕ) (sized : Sized nums kinds)
+      (t : RunsUntil cells words interval (h .places) (h .depth) (h .pc) (h .beat) (h .left) (h .low) (h .height) (rows .pile) (rows .tags)
+      (registersOf (rows .nums) (rows .kinds)) z pile tags (registersOf nums kinds)) where
     abbrev h′ : Hand
     h′ = record {
       what = 0;
@@ -91,11 +97,11 @@ module _ (cells : List ℕ) (words : List ℤ) (interval : ℕ) (h : Hand) (rows
       left = z .left;
       spun = h .spun;
       low = h .low;
-      height = h .height;
+      height = z .height;
     }
 
     abbrev rows′ : Rows
-    rows′ = rowsOf nums kinds (rows .bank) (rows .marks) (rows .recs) (rows .sides) (rows .pile) (rows .tags)
+    rows′ = rowsOf nums kinds (rows .bank) (rows .marks) (rows .recs) (rows .sides) pile tags
 
     abbrev o : List Fork
     o = forksOf (rows .recs) (h .depth)
@@ -107,14 +113,17 @@ module _ (cells : List ℕ) (words : List ℤ) (interval : ℕ) (h : Hand) (rows
     work-is = omega (arith, t .runs .fewer, p .limited)
 
     abbrev after : ℕ → Frame
-    after span = frameAt (h .places) (h .depth) o (z .pc / 4) (z .beat - z .left) span own-stack (registersOf nums kinds)
+    after span = frameAt (h .places) (h .depth) o (z .pc / 4) (z .beat - z .left) span (stackOf pile tags (h .low) (z .height)) (registersOf nums kinds)
+
+    same-kept : (i : ℕ) → i < h .depth → keptFrame rows′ i ≡ keptFrame rows i
+    same-kept i l = kept-stays h rows nums kinds pile tags i (t .same-below) (p .piled) l
 
     good-after : Good cells (p .rank) (p .height) (workLimit - z .left) (after (h .spun - z .left))
     good-after = record {
       is-formed = ap (λ n. formed (programOf cells) (p .rank) (p .height) (after n)) (sym span-is)
-          ∙ t .runs .keeps-formed o (h .spun - h .left) own-stack (p .rank) (p .height) (p .room) (good .is-formed);
+          ∙ t .runs .keeps-formed o (h .spun - h .left) (p .rank) (p .height) (p .room) (good .is-formed);
       is-within = ap (λ n. within n (after (h .spun - z .left))) (sym work-is) ∙ ap (λ n. within (workLimit - h .left + (h .left - z .left)) (after n)) (sym span-is)
-          ∙ t .runs .keeps-within o (h .spun - h .left) own-stack (workLimit - h .left) (good .is-within);
+          ∙ t .runs .keeps-within o (h .spun - h .left) (workLimit - h .left) (good .is-within);
     }
 
     pub run-leads : LeadsTo cells words interval h rows h′ rows′
@@ -126,15 +135,16 @@ module _ (cells : List ℕ) (words : List ℤ) (interval : ℕ) (h : Hand) (rows
         room = p .room;
         limited = omega (arith, t .runs .fewer, p .limited);
         own-good = good-after;
-        kept-good = λ i l. good-more cells (p .rank) (p .rank - (i + 1)) (keptFrame rows i) (omega (arith, t .runs .fewer)) (p .kept-good i l);
+        kept-good = λ i l. subst (Good cells (p .rank) (p .rank - (i + 1)) (workLimit - z .left)) (sym (same-kept i l))
+            (good-more cells (p .rank) (p .rank - (i + 1)) (keptFrame rows i) (omega (arith, t .runs .fewer)) (p .kept-good i l));
         full = record {
           sized = sized;
           bank-full = p .full .bank-full;
           marks-full = p .full .marks-full;
           recs-full = p .full .recs-full;
           sides-full = p .full .sides-full;
-          pile-full = p .full .pile-full;
-          tags-full = p .full .tags-full;
+          pile-full = t .same-below .still-lies .pile-full;
+          tags-full = t .same-below .still-lies .tags-full;
         };
         piled = record { own-low = p .piled .own-low; none-yet = p .piled .none-yet };
         nested = p .nested;
@@ -147,9 +157,10 @@ module _ (cells : List ℕ) (words : List ℤ) (interval : ℕ) (h : Hand) (rows
           let s = pendingFrom (keptFrame rows) (h .depth) in
           ap (λ x. run R (h .left) (onward R x s)) own-is
           ∙ ap (run R (h .left)) (onward-runs R f s refl)
-          ∙ t .runs .same-run o (h .spun - h .left) own-stack s
+          ∙ t .runs .same-run o (h .spun - h .left) s
           ∙ ap (λ n. run R (z .left) (held (after n) s)) span-is
-          ∙ ap (run R (z .left)) (sym (onward-runs R (after (h .spun - z .left)) s refl));
+          ∙ ap (run R (z .left)) (sym (onward-runs R (after (h .spun - z .left)) s refl))
+          ∙ ap (λ x. run R (z .left) (onward R (after (h .spun - z .left)) x)) (sym (pending-same (keptFrame rows′) (keptFrame rows) (h .depth) same-kept));
     }
 
   -- ---- one that it does not carry out by itself

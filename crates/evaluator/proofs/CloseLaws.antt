@@ -32,14 +32,15 @@ use Rattle.evaluator.specs.declared.Hand.{Hand}
 use Rattle.evaluator.specs.declared.Kept.{Kept}
 use Rattle.arms.specs.Registers.{registersOf}
 use Rattle.evaluator.specs.Banks.{bankFrom, Exchanged, forkOf, forksOf}
-use Rattle.evaluator.specs.Stacks.{entriesFrom, stackOf}
+use Rattle.arms.specs.Stacks.{entriesFrom, stackOf}
 use Rattle.arms.specs.Turns.{rules}
 use Rattle.evaluator.specs.Sides.{Good}
 use Rattle.evaluator.specs.Hands.{statusFrom, registersFrom, frameFrom, Rows, rowsOf, keptOf, lowOf, Keeps, handFrame}
 use Rattle.evaluator.specs.Hands.{keptFrame, pendingFrom, Full, Point, LeadsTo, sideOf, otherOf, joinedOf, FirstFault}
 use Rattle.evaluator.proofs.BankLaws.{length-sets}
 use Rattle.evaluator.proofs.ForkLaws.{fork-at, forks-closed}
-use Rattle.evaluator.proofs.StackLaws.{entries-none, above-ended, low-top, low-same}
+use Rattle.arms.proofs.StackLaws.{entries-none}
+use Rattle.evaluator.proofs.StackLaws.{above-ended, low-top, low-same}
 use Rattle.evaluator.proofs.HandLaws.{not-running, is-running, fault-status, fault-registers, bank-same, bank-other, kept-by, stack-none}
 use Rattle.evaluator.proofs.FrameLaws.{turn-run, join-run, join-good}
 

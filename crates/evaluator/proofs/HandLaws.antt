@@ -29,16 +29,16 @@ use Rattle.facts.proofs.Tests.{by-below, by-order}
 use Rattle.evaluator.specs.declared.Hand.{Hand}
 use Rattle.evaluator.specs.declared.Kept.{Kept}
 use Rattle.arms.specs.Registers.{valueOf, registersOf, Sized}
-use Rattle.arms.specs.Turns.{Stacked}
+use Rattle.arms.specs.Stacks.{Stacked, entriesFrom, stackOf, Lies, SameBelow}
 use Rattle.evaluator.specs.Banks.{bankFrom, forkOf, forksOf}
-use Rattle.evaluator.specs.Stacks.{entriesFrom, stackOf}
 use Rattle.evaluator.specs.Sides.{madeOf}
 use Rattle.evaluator.specs.Hands.{statusFrom, registersFrom, frameFrom, Rows, rowsOf, keptOf, lowOf, Keeps, handFrame, Piled}
 use Rattle.evaluator.specs.Hands.{keptFrame, Full, handSide, goneOn, endedWith, parentOf, childOf, Pushed, Popped, steppedIn, ownFrame, Applied}
 use Rattle.arms.proofs.RegisterLaws.{written, still-sized}
 use Rattle.evaluator.proofs.BankLaws.{length-sets}
 use Rattle.evaluator.proofs.ForkLaws.{forks-opened, forks-below}
-use Rattle.evaluator.proofs.StackLaws.{entries-none, entries-pushed, entries-popped, entry-at, entries-other, low-same, low-most, low-above}
+use Rattle.arms.proofs.StackLaws.{entries-none, entries-pushed, entries-popped, entry-at, entries-below, below-set}
+use Rattle.evaluator.proofs.StackLaws.{low-same, low-most, low-above}
 
 -- ---- by the number of what a task does
 
@@ -113,19 +113,28 @@ by-zero : {A : Type 0} (w : ℕ) → (w ≡ 0 → A) → ((w ≡ 0 → ⊥) → 
 by-zero zero f g = f refl
 by-zero (suc w) f g = g (λ e. absurd (omega (arith, e)))
 
--- a push of the task in hand leaves them
-pub stack-stays : (h : Hand) (sides pile tags : List ℕ) (u k i : ℕ) → Piled h sides → i < h .depth
-    → stackOf (set pile (h .low + h .height) u) (set tags (h .low + h .height) k) (lowOf sides i) (keptOf sides i .height)
-    ≡ stackOf pile tags (lowOf sides i) (keptOf sides i .height)
-stack-stays h sides pile tags u k i piled l = by-zero (keptOf sides i .what)
+-- what the task in hand does to its own leaves them
+stack-stays : (h : Hand) (sides pile tags pile′ tags′ : List ℕ) (i : ℕ) → SameBelow (h .low) pile tags pile′ tags′ → Piled h sides → i < h .depth
+    → stackOf pile′ tags′ (lowOf sides i) (keptOf sides i .height) ≡ stackOf pile tags (lowOf sides i) (keptOf sides i .height)
+stack-stays h sides pile tags pile′ tags′ i same piled l = by-zero (keptOf sides i .what)
     (λ e.
     let n = piled .none-yet i l e in
-    stack-none (set pile (h .low + h .height) u) (set tags (h .low + h .height) k) (lowOf sides i) (keptOf sides i .height) n
+    stack-none pile′ tags′ (lowOf sides i) (keptOf sides i .height) n
     ∙ sym (stack-none pile tags (lowOf sides i) (keptOf sides i .height) n))
     (λ n.
     let below = low-above sides (h .depth) i l n in
-    let e = entries-other pile tags (lowOf sides i) (keptOf sides i .height) 32 (h .low + h .height) u k (omega (arith, below, piled .own-low)) in
+    let e = entries-below pile tags pile′ tags′ (h .low) (lowOf sides i) (keptOf sides i .height) 32 same (omega (arith, below, piled .own-low)) in
     λ j. record { height = keptOf sides i .height; values = e j })
+
+-- and so the sides
+pub kept-stays : (h : Hand) (rows : Rows) (nums kinds pile tags : List ℕ) (i : ℕ) → SameBelow (h .low) (rows .pile) (rows .tags) pile tags → Piled h (rows .sides)
+    → i < h .depth → keptFrame (rowsOf nums kinds (rows .bank) (rows .marks) (rows .recs) (rows .sides) pile tags) i ≡ keptFrame rows i
+kept-stays h rows nums kinds pile tags i same piled l =
+    let k = keptOf (rows .sides) i in
+    let o = forksOf (rows .recs) (i + 1) in
+    let b = bankFrom (rows .bank) (rows .marks) (16 * i) in
+    kept-by k k (i + 1) o o (stackOf pile tags (lowOf (rows .sides) i) (k .height)) (stackOf (rows .pile) (rows .tags) (lowOf (rows .sides) i) (k .height)) b b refl refl
+    (stack-stays h (rows .sides) (rows .pile) (rows .tags) pile tags i same piled l) refl
 
 -- ---- by the kind of what was carried out
 
@@ -312,9 +321,9 @@ module _ (h : Hand) (nums kinds bank marks recs sides pile tags : List ℕ) (r :
           ∙ ap (λ w. set (f .stack) (h .height) (record { value = w })) v
 
       push-below : (i : ℕ) → i < h .depth → keptFrame (rowsOf nums kinds bank marks recs sides pile-now tags-now) i ≡ keptFrame rows i
-      push-below i l = kept-by (keptOf sides i) (keptOf sides i) (i + 1) (forksOf recs (i + 1)) (forksOf recs (i + 1))
-          (stackOf pile-now tags-now (lowOf sides i) (keptOf sides i .height)) (stackOf pile tags (lowOf sides i) (keptOf sides i .height))
-          (bankFrom bank marks (16 * i)) (bankFrom bank marks (16 * i)) refl refl (stack-stays h sides pile tags u k i piled l) refl
+      push-below i l =
+          let lies : Lies pile tags (h .low) = record { pile-full = full .pile-full; tags-full = full .tags-full; low-most = low-small } in
+          kept-stays h rows nums kinds pile-now tags-now i (below-set pile tags (h .low) (h .low + h .height) u k lies (omega arith)) piled l
 
       push-placed : {z : Hand} {pile′ tags′ : List ℕ} → e .kind ≡ Pushes → z ≡ now → pile′ ≡ pile-now → tags′ ≡ tags-now
           → Applied h rows r e z (rowsOf nums kinds bank marks recs sides pile′ tags′)

@@ -25,8 +25,8 @@ use Rattle.task.proofs.Counts.{within-is, is-within, start-within}
 use Rattle.evaluator.specs.declared.Hand.{Hand}
 use Rattle.arms.specs.Registers.{registersOf, inRegister}
 use Rattle.evaluator.specs.Banks.{forksOf}
-use Rattle.evaluator.specs.Stacks.{stackOf}
-use Rattle.arms.specs.Turns.{Stacked, rules}
+use Rattle.arms.specs.Stacks.{Stacked, stackOf}
+use Rattle.arms.specs.Turns.{rules}
 use Rattle.evaluator.specs.Sides.{Good}
 use Rattle.evaluator.specs.Hands.{statusFrom, registersFrom, frameFrom, Rows, rowsOf, handFrame, keptFrame, pendingFrom, Full, Point}
 use Rattle.evaluator.specs.Hands.{found, LeadsTo, overBy, endedBy, weight, lastFrame, outcomeFrom, CanEvaluate, Closes}

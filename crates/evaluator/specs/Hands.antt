@@ -20,7 +20,7 @@ use Rattle.task.specs.declared.Frame.{Frame}
 use Rattle.task.specs.declared.Kind.{Kind}
 use Rattle.task.specs.declared.Kind.the-variants.{Stores, Goes, Pushes, Pops, Waits, Halts, Faults, Forks}
 use Rattle.task.specs.declared.Executed.{Executed}
-use Rattle.task.specs.Frames.{zeros, noForks, running, faultOf, workLimit}
+use Rattle.task.specs.Frames.{zeros, stackLength, noForks, running, faultOf, workLimit}
 use Rattle.task.specs.Values.{recordOf}
 use Rattle.task.specs.Formed.{valueFits}
 use Rattle.task.specs.Step.{firstFault}
@@ -31,8 +31,8 @@ use Rattle.evaluator.specs.declared.Ran.{Ran}
 use Rattle.evaluator.specs.declared.Finished.{Finished}
 use Rattle.arms.specs.Registers.{valueOf, registersOf, Sized, inRegister}
 use Rattle.evaluator.specs.Banks.{bankFrom, forkOf, forksOf, Nested}
-use Rattle.evaluator.specs.Stacks.{stackOf, above}
-use Rattle.arms.specs.Turns.{Stacked, rules, Ends}
+use Rattle.arms.specs.Stacks.{Stacked, stackOf}
+use Rattle.arms.specs.Turns.{rules, Ends}
 use Rattle.evaluator.specs.Sides.{frameOf, openOf, Base, Good, madeOf}
 
 -- ---- Frames
@@ -100,6 +100,11 @@ keptOf sides d = record {
   span = getD sides (5 * d + 3) 0;
   height = getD sides (5 * d + 4) 0;
 }
+
+-- where the next stack begins, above a side that does what the number says (0: it is still to come, and its stack is empty)
+abbrev pub above : ℕ → ℕ → ℕ
+above zero low = low
+above (suc w) low = low + stackLength
 
 -- where a stack inside the outermost d forks begins: above those of their sides that have ended
 unfoldable pub lowOf : List ℕ → ℕ → ℕ

@@ -1,4 +1,5 @@
-// The instruction that the task in hand does not carry out by itself: a fault that its arm has found, or fork, join, halt, push or pop.
+// The instruction that the task in hand does not carry out by itself: a fault that its arm has found, or fork, join, halt, push or pop. Of the last
+// two the loop leaves those for which there is no place or no value; nothing here rests on that.
 use crate::Hand;
 use crate::fitting::does_fit;
 use arms::Pair;

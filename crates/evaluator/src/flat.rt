@@ -52,7 +52,7 @@ fn advance(
         (tags .exit))) ⌝ }
 {
     if hand.what == 0 {
-        let ran = run_hand(cells, code, words, interval, hand, nums, kinds);
+        let ran = run_hand(cells, code, words, interval, hand, nums, kinds, pile, tags);
         if ran.what == 0 {
             return ran.hand;
         }

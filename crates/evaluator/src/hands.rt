@@ -34,12 +34,16 @@ pub fn run_hand(
     hand: Hand,
     nums: &mut [u64],
     kinds: &mut [u8],
+    pile: &mut [u64],
+    tags: &mut [u8],
 ) -> Ran
-    requires { ⌜ Starts (now cells) (now code) (now nums) (now kinds) (hand .places) (hand .depth) (hand .left) (hand .beat) (hand .pc) × (hand .what ≡ 0) ⌝ }
+    requires { ⌜ Starts (now cells) (now code) (now nums) (now kinds) (now pile) (now tags) (hand .places) (hand .depth) (hand .left) (hand .beat) (hand .pc) (hand .low)
+        (hand .height) × (hand .what ≡ 0) ⌝ }
     ensures { λ z. ⌜ Rests (now (cells .entry)) (now (words .entry)) interval hand z (registersOf (now (nums .exit)) (now (kinds .exit))) ⌝ }
-    ensures { λ z. ⌜ ((bank marks recs sides pile tags : List ℕ) → Point (now (cells .entry)) hand (rowsOf (now (nums .entry)) (now
-        (kinds .entry)) bank marks recs sides pile tags) → LeadsTo (now (cells .entry)) (now (words .entry)) interval hand (rowsOf (now (nums .entry))
-        (now (kinds .entry)) bank marks recs sides pile tags) (z .hand) (rowsOf (now (nums .exit)) (now (kinds .exit)) bank marks recs sides pile tags)) ⌝ }
+    ensures { λ z. ⌜ ((bank marks recs sides : List ℕ) → Point (now (cells .entry)) hand (rowsOf (now (nums .entry)) (now
+        (kinds .entry)) bank marks recs sides (now (pile .entry)) (now (tags .entry))) → LeadsTo (now (cells .entry)) (now (words .entry)) interval hand (rowsOf (now
+        (nums .entry)) (now (kinds .entry)) bank marks recs sides (now (pile .entry)) (now (tags .entry))) (z .hand) (rowsOf (now (nums .exit)) (now
+        (kinds .exit)) bank marks recs sides (now (pile .exit)) (now (tags .exit)))) ⌝ }
 {
     let ran = run_on(
         cells,
@@ -53,6 +57,10 @@ pub fn run_hand(
         hand.left,
         hand.beat,
         hand.pc,
+        pile,
+        tags,
+        hand.low,
+        hand.height,
     );
     Ran {
         what: ran.what,
@@ -65,7 +73,7 @@ pub fn run_hand(
             left: ran.left,
             spun: hand.spun,
             low: hand.low,
-            height: hand.height,
+            height: ran.height,
         },
     }
 }

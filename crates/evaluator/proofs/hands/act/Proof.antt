@@ -2,7 +2,7 @@
 use mathlib.Core.Path.{ap}
 use native.Mathlib.Omega.{arith}
 use Rattle.image.specs.declared.Instruction.{Instruction}
-use Rattle.evaluator.specs.Stacks.{stackOf}
+use Rattle.arms.specs.Stacks.{stackOf}
 use Rattle.evaluator.specs.Hands.{rowsOf, handSide}
 use Rattle.evaluator.proofs.EndingLaws.{here, depth-most}
 use Rattle.evaluator.proofs.ActLaws.{can-step, height-most, fault-least, fork-room, act-leads}

@@ -15,21 +15,23 @@ same-length c = search needs
 same-length-2 : tie.Need-same-length-2
 same-length-2 c = search needs
 
+same-length-3 : tie.Need-same-length-3
+same-length-3 c = search needs
+
+same-length-4 : tie.Need-same-length-4
+same-length-4 c = search needs
+
 returns : tie.Need-returns
 returns c =
-    let a = c .before .before .before .before .before .before .before .before .before .before .before in
-    let t = c .before .before .before .before .run-on in (
+    let a = c .before .before .before .before .before .before .before .before .before .before .before .before .before .before .before .before .before .before .before in
+    let t = c .before .before .before .before .before .before .before .before .run-on in (
       record { still-runs = refl; fewer = t .ensures .1 .runs .fewer; when-spent = t .ensures .1 .when-spent; when-not = t .ensures .1 .when-not },
-      λ bank marks recs sides pile tags p.
+      λ bank marks recs sides p.
           run-leads (a .args .cells .now) (a .args .words .now) (a .args .interval) (a .args .hand) (rowsOf (a .args .nums .now)
-          (a .args .kinds .now) bank marks recs sides pile tags) p (a .pre .1) (t .result) _ _ (t .ensures .0) (t .ensures .1),
+          (a .args .kinds .now) bank marks recs sides (a .args .pile .now) (a .args .tags .now)) p (a .pre .1) (t .result) _ _ _ _ (t .ensures .0) (t .ensures .1),
     )
 
 pub run-hand-spec : {M : Type 1} → statement M
 run-hand-spec =
     tie.close
-    (tie.spec
-    run-on-requires
-    same-length
-    same-length-2
-    returns)
+    (tie.spec run-on-requires same-length same-length-2 same-length-3 same-length-4 returns)
