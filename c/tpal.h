@@ -9,7 +9,7 @@
  *
  * Threads. The engine has no global state, takes no memory from the heap and makes no system
  * calls. Each function may be called from any thread, by several at once. Leave 64 KiB of stack for
- * tpal_image_check and tpal_image_rewrite and 256 KiB for any other call. docs/api.md has the
+ * tpal_image_check and tpal_image_rewrite and 512 KiB for any other call. docs/api.md has the
  * measured figures, and what holds in a signal handler; docs/numbers.md says what to do about each
  * number.
  *
