@@ -322,7 +322,8 @@ module _ (cells : List ℕ) (words : List ℤ) (interval : ℕ) (h : Hand) (rows
                   ∙ two-run cells words interval f (h .left) some (p .limited) refl (handFrame z rows′) c st s
                   ∙ ap (λ n. run R n (onward R (handFrame z rows′) (toCome c ∷ s))) (sym (a .less))
                   ∙ ap (λ x. run R (z .left) (onward R (handFrame z rows′) (toCome c ∷ x))) (sym same-pending)
-                  ∙ ap (λ x. run R (z .left) (onward R (handFrame z rows′) x)) (sym (pending-top (keptFrame rows′) (h .depth) true (is-running (keptOf (rows′ .sides) (h .depth) .what) (ap (λ (x : Kept). x .what) (a .child-kept k)))))
+                  ∙ ap (λ x. run R (z .left) (onward R (handFrame z rows′) x)) (sym (pending-top (keptFrame rows′) (h .depth) true
+                  (is-running (keptOf (rows′ .sides) (h .depth) .what) (ap (λ (x : Kept). x .what) (a .child-kept k)))))
                   ∙ ap (λ n. run R (z .left) (onward R (handFrame z rows′) (pendingFrom (keptFrame rows′) n))) (sym d);
             }
 

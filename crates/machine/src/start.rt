@@ -160,7 +160,8 @@ impl Machine {
         registers: &[i64],
         words: &[i64],
     ) -> Answered
-        ensures { λ r. ⌜ (r .no ≡ startNo (now (cells .entry)) places interval (now (registers .entry)) (now (words .entry))) × (r .machine .state ≡ started (self .state) (now (cells .entry)) places interval (now (registers .entry)) (now (words .entry))) ⌝ }
+        ensures { λ r. ⌜ (r .no ≡ startNo (now (cells .entry)) places interval (now (registers .entry)) (now (words .entry)))
+            × (r .machine .state ≡ started (self .state) (now (cells .entry)) places interval (now (registers .entry)) (now (words .entry))) ⌝ }
     {
         let no = ask_start(cells, places, interval, registers.len(), words.len());
         if no != 0 {

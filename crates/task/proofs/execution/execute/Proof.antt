@@ -44,7 +44,12 @@ allocate-requires : tie.Need-allocate-requires
 allocate-requires c κs = (c .before .before .before .pre .accepted-program, c .before .before .before .pre .v-fits, counted-pc (c .before .before .before .args .cells .now) (c .before .count .ensures) (c .before .before .before .pre))
 
 fork-requires : tie.Need-fork-requires
-fork-requires c κs = (c .before .before .before .pre .accepted-program, c .before .before .before .pre .v-fits, counted-pc (c .before .before .before .args .cells .now) (c .before .count .ensures) (c .before .before .before .pre), counted-depth (c .before .before .before .args .cells .now) (c .before .count .ensures) (c .before .before .before .pre))
+fork-requires c κs = (
+  c .before .before .before .pre .accepted-program,
+  c .before .before .before .pre .v-fits,
+  counted-pc (c .before .before .before .args .cells .now) (c .before .count .ensures) (c .before .before .before .pre),
+  counted-depth (c .before .before .before .args .cells .now) (c .before .count .ensures) (c .before .before .before .pre),
+)
 
 jump-requires : tie.Need-jump-requires
 jump-requires c κs = search needs
