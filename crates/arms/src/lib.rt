@@ -7,7 +7,7 @@ mod jumps;
 mod moves;
 pub mod rows;
 mod setting;
-mod stacking;
+pub mod stacking;
 pub mod turning;
 
 // A value's kind and its 64 bits.

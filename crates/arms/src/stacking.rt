@@ -1,5 +1,5 @@
 // Push and pop, on a stack that lies in two rows, the pile. Each answers the stack's height after it, or 33, where there is no place or no value,
-// and has then changed nothing. The loop in `turning` ensures what they rest on.
+// and has then changed nothing. Our crates alone call them: the loop in `turning`, and `evaluator` for what the loop leaves, ensure what they rest on.
 use crate::rows::put;
 ghost use Prim.Native.Nat.{_+_, _<_, _≤_};
 ghost use lib.ListN.{getD};
@@ -7,7 +7,7 @@ ghost use Rattle.arms.specs.Registers.{Sized};
 ghost use Rattle.arms.specs.Stacks.{Lies, PushedOn, PoppedTo, CanStack, StackTurned};
 
 // The value goes on the stack.
-fn push_on(pile: &mut [u64], tags: &mut [u8], low: u64, height: u64, num: u64, kind: u8) -> u64
+pub fn push_on(pile: &mut [u64], tags: &mut [u8], low: u64, height: u64, num: u64, kind: u8) -> u64
     requires { ⌜ Lies (now pile) (now tags) low ⌝ }
     ensures { λ h. ⌜ PushedOn low height num kind (now (pile .entry)) (now (tags .entry)) h (now (pile .exit)) (now (tags .exit)) ⌝ }
 {
@@ -21,7 +21,7 @@ fn push_on(pile: &mut [u64], tags: &mut [u8], low: u64, height: u64, num: u64, k
 }
 
 // The value pushed last goes to r; its place on the pile is not in use any more.
-fn pop_to(
+pub fn pop_to(
     nums: &mut [u64],
     kinds: &mut [u8],
     r: usize,

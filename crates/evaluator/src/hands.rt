@@ -7,6 +7,8 @@ use crate::ending::ending;
 use crate::keeping::keep;
 use arms::rows::pair_of;
 use arms::rows::put;
+use arms::stacking::pop_to;
+use arms::stacking::push_on;
 use arms::turning::run_on;
 use image::layout;
 use task::Executed;
@@ -176,15 +178,13 @@ fn push_value(hand: Hand, e: Executed, pile: &mut [u64], tags: &mut [u8]) -> Han
     requires { ⌜ (length (now pile) ≡ 224) × (length (now tags) ≡ 224) × (hand .low ≤ 192) × (0 < hand .left) × (hand .left ≤ 4294967295) ⌝ }
     ensures { λ z. ⌜ Pushed hand e (now (pile .entry)) (now (tags .entry)) z (now (pile .exit)) (now (tags .exit)) ⌝ }
 {
-    if 32 <= hand.height {
-        return end_with(hand, 42, 0);
-    }
     let value = e.value;
     let p = pair_of(value);
-    let at = (hand.low + hand.height) as usize;
-    pile[at] = p.num;
-    tags[at] = p.kind;
-    go_on(hand, e.pc, e.counter, hand.height + 1)
+    let height = push_on(pile, tags, hand.low, hand.height, p.num, p.kind);
+    if height == 33 {
+        return end_with(hand, 42, 0);
+    }
+    go_on(hand, e.pc, e.counter, height)
 }
 
 // The value pushed last goes to r, where there is one (43); its place on the pile is not in use any more.
@@ -201,12 +201,10 @@ fn pop_value(
         (0 < hand .left) × (hand .left ≤ 4294967295) ⌝ }
     ensures { λ z. ⌜ Popped hand r e (now (pile .entry)) (now (tags .entry)) (now (nums .entry)) (now (kinds .entry)) z (now (nums .exit)) (now (kinds .exit)) ⌝ }
 {
-    if hand.height == 0 {
+    let height = pop_to(nums, kinds, r as usize, pile, tags, hand.low, hand.height);
+    if height == 33 {
         return end_with(hand, 43, 0);
     }
-    let height = hand.height - 1;
-    let at = (hand.low + height) as usize;
-    put(nums, kinds, r as usize, pile[at], tags[at]);
     go_on(hand, e.pc, e.counter, height)
 }
 
