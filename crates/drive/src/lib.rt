@@ -1,4 +1,6 @@
 // The state of a job, and the one loop that carries out picks on it.
+#![tactic(auto)]
+
 pub mod ending;
 pub mod picks;
 pub mod slots;
@@ -7,7 +9,7 @@ use task::{Register, Task};
 
 // Slot k has tasks[k], the 16 registers of bank from 16·k on and the 32 values of stacks from 32·k on. Whether the job has ended, and how, is
 // read off slot 0.
-#[derive(Drop)]
+#[derive(Clone, Copy)]
 pub struct State {
     pub places: u64,
     pub interval: u16,
@@ -18,7 +20,7 @@ pub struct State {
 }
 
 // How a job has ended: by halt, or by a fault with its number.
-#[derive(Drop)]
+#[derive(Clone, Copy)]
 pub enum End {
     NotEnded,
     Halt,
@@ -26,7 +28,7 @@ pub enum End {
 }
 
 // What the loop over the slots leaves: the state, the picks carried out, and of rounds how many were begun.
-#[derive(Drop)]
+#[derive(Clone, Copy)]
 pub struct Driven {
     pub state: State,
     pub picks: u64,

@@ -1,5 +1,7 @@
 // The plain evaluation of a task, in its own order: one task at a time, its registers and its stack in rows of numbers. `serial` says what that
 // order is and proves that it finds what the plain evaluation finds.
+#![tactic(auto)]
+
 use task::Task;
 
 mod banks;
@@ -11,7 +13,7 @@ mod hands;
 mod keeping;
 
 // A task with its registers; its stack stands beside it.
-#[derive(Drop)]
+#[derive(Clone, Copy)]
 pub struct Side {
     pub task: Task,
     pub nums: [u64; 16],
@@ -21,7 +23,7 @@ pub struct Side {
 // The task in hand, but for its registers and the records of its open forks. What it does: 0 it runs, 1 it has halted, 2 it waits; any other
 // number is its fault's. Its counter is the difference of `beat` and what is left of the budget, its span that of `spun`. Its stack begins at
 // `low` of the pile and has `height` values.
-#[derive(Drop)]
+#[derive(Clone, Copy)]
 pub struct Hand {
     pub what: u64,
     pub places: u64,
@@ -35,7 +37,7 @@ pub struct Hand {
 }
 
 // The task in hand after its instructions by itself, and what its next one is, as in `Stopped`.
-#[derive(Drop)]
+#[derive(Clone, Copy)]
 pub struct Ran {
     pub what: u8,
     pub hand: Hand,
@@ -43,7 +45,7 @@ pub struct Ran {
 
 // The other side of a fork: the child's, still to come, whose stack is empty; or the parent's, that has ended, whose stack lies on the pile right
 // below that of the child.
-#[derive(Drop)]
+#[derive(Clone, Copy)]
 pub struct Kept {
     pub what: u64,
     pub places: u64,
@@ -53,7 +55,7 @@ pub struct Kept {
 }
 
 // How an evaluation ended: 0 the budget was used up, else as in `Hand`.
-#[derive(Drop)]
+#[derive(Clone, Copy)]
 pub struct Finished {
     pub what: u64,
     pub places: u64,

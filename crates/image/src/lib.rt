@@ -1,4 +1,6 @@
 // Program images: the reader, the writer, and the questions that are put to a program.
+#![tactic(auto)]
+
 ghost use Rattle.std.specs.Prelude.{◌≡◌, length};
 ghost use Rattle.image.specs.Doors.{rewrite_no, unless_refused};
 
@@ -9,7 +11,7 @@ mod walk;
 pub mod writer;
 
 // A block record. `packed` has the pair bytes, four or eight by the version, the first in its low eight bits.
-#[derive(Drop)]
+#[derive(Clone, Copy)]
 pub struct Block {
     pub first: u64,
     pub annotation: u64,
@@ -20,7 +22,7 @@ pub struct Block {
 }
 
 // An instruction record. By its kind the operand is a register's number, a label or an integer's 64 bits.
-#[derive(Drop)]
+#[derive(Clone, Copy)]
 pub struct Instruction {
     pub opcode: u64,
     pub r: u64,

@@ -14,7 +14,7 @@ ghost use Rattle.image.specs.Walked.{blocks_walked, instructions_walked, records
 use crate::{Block, layout, questions};
 
 // What the walk came to: the first no, or 0, and the offset there.
-#[derive(Drop)]
+#[derive(Clone, Copy)]
 pub struct Walked {
     pub no: u8,
     pub at: usize,

@@ -1,4 +1,6 @@
 // The exports: what a program in C or another language calls. Numbers and byte slices only.
+#![tactic(auto)]
+
 mod evaluating;
 mod input;
 
@@ -142,7 +144,7 @@ pub extern "C" fn tpal_job_run(job: &[u8], budget: u64, out: &mut [u8]) -> u8
 }
 
 // What the dispatcher comes to for a job: the report of the state that it leaves, and the rounds begun.
-#[derive(Drop)]
+#[derive(Clone, Copy)]
 pub struct RoundsReport {
     pub report: Report,
     pub rounds: u64,

@@ -1,5 +1,7 @@
 // A round looks over the task records in slot order and takes the first tasks running at the round's start, one a lane, until the lanes or the
 // tasks are used up.
+#![tactic(auto)]
+
 ghost use Rattle.std.specs.Prelude.{◌≡◌, ◌<◌};
 ghost use Rattle.looks.specs.Looking.{looked, walked, tasks_taken};
 
@@ -8,7 +10,7 @@ use task::running::is_running;
 
 // Where a round stands: the slot that it looks at next, and the lanes that are left. The tasks taken are the lanes gone, and have no count of
 // their own.
-#[derive(Drop)]
+#[derive(Clone, Copy)]
 pub struct Look {
     pub at: usize,
     pub lanes: u64,

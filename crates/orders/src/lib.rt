@@ -1,4 +1,6 @@
 // Whatever the order of picks: the statements stand in specs/, the theorems in proofs/. `replay` carries an order out.
+#![tactic(auto)]
+
 ghost use Rattle.std.specs.Prelude.{◌≡◌, length};
 ghost use Rattle.machine.specs.Starting.{start_no, empty};
 ghost use Rattle.orders.specs.Demand.{Job, WhateverTheOrder, start_on, played};

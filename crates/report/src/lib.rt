@@ -1,4 +1,6 @@
 // What is handed out of a state: its bytes, and the report of a run.
+#![tactic(auto)]
+
 pub mod bytes;
 pub mod text;
 mod words;
@@ -19,7 +21,7 @@ pub const ROUNDS_REPORT_BYTES: usize = 432;
 pub const TEXT_BYTES: usize = 1024;
 
 // Of a spent job, one that has not ended, the span is 0 and the registers are 16 integers 0.
-#[derive(Drop)]
+#[derive(Clone, Copy)]
 pub struct Report {
     pub end: End,
     pub picks: u64,

@@ -1,4 +1,6 @@
 // The state's bytes: written, and read again.
+#![tactic(auto)]
+
 mod clear;
 pub mod numbers;
 mod places;

@@ -1,4 +1,5 @@
 // Values, task records, a task record with its registers, and what one instruction makes of a task.
+#![tactic(auto)]
 
 mod arithmetic;
 mod control;
@@ -20,7 +21,7 @@ pub const STACK: usize = 32;
 
 pub const STACKS: usize = 2048;
 
-#[derive(Drop)]
+#[derive(Clone, Copy)]
 pub enum Value {
     Int(i64),
     Label(u32),
@@ -28,12 +29,12 @@ pub enum Value {
     Record(u32, u32),
 }
 
-#[derive(Drop)]
+#[derive(Clone, Copy)]
 pub struct Register {
     pub value: Value,
 }
 
-#[derive(Drop)]
+#[derive(Clone, Copy)]
 pub enum Status {
     Vacant,
     Running,
@@ -43,14 +44,14 @@ pub enum Status {
 }
 
 // An open fork: the two numbers of the record that it was opened under.
-#[derive(Drop)]
+#[derive(Clone, Copy)]
 pub struct Fork {
     pub continuation: u32,
     pub depth: u32,
 }
 
 // height is the number of values on the task's stack. forks has the open forks, outermost first; its unused entries are 0.
-#[derive(Drop)]
+#[derive(Clone, Copy)]
 pub struct Task {
     pub status: Status,
     pub height: u32,
@@ -63,7 +64,7 @@ pub struct Task {
 }
 
 // stack has the values on the task's stack, the first one pushed first; its unused entries are the integer 0.
-#[derive(Drop)]
+#[derive(Clone, Copy)]
 pub struct Frame {
     pub task: Task,
     pub registers: [Register; 16],
@@ -72,7 +73,7 @@ pub struct Frame {
 
 // What an instruction looks at, and changes, of a running task, besides its open forks and its stack: a few numbers and no array, so that the
 // loop over the slots keeps them in registers.
-#[derive(Drop)]
+#[derive(Clone, Copy)]
 pub struct Active {
     pub places: u64,
     pub pc: u16,
@@ -82,7 +83,7 @@ pub struct Active {
 
 // What becomes of a task that has carried out an instruction; a push or a pop faults yet where the stack, which the machine has, is full (42)
 // or empty (43). A kind holds nothing, so that it is one small number: what a fault or a fork has to say besides stands in `Executed`.
-#[derive(Drop)]
+#[derive(Clone, Copy)]
 pub enum Kind {
     Stores,
     Goes,
@@ -97,7 +98,7 @@ pub enum Kind {
 // One instruction carried out: the new pc and counter, 0 where the task does not run on; the value for r, the value to push, or the record that
 // a fork is opened under, else the integer 0; the fault's number, 0 where the task has not faulted; and the child's first instruction, 0 where
 // it does not fork.
-#[derive(Drop)]
+#[derive(Clone, Copy)]
 pub struct Executed {
     pub kind: Kind,
     pub value: Value,
@@ -109,7 +110,7 @@ pub struct Executed {
 
 // What two ended sides of a fork come to: the joined task, and the pairs that are copied from the child's registers to the parent's. Its
 // stack is the parent's. A faulted task's registers are 16 integers 0, and its stack is empty.
-#[derive(Drop)]
+#[derive(Clone, Copy)]
 pub struct Joint {
     pub task: Task,
     pub faulted: bool,

@@ -1,11 +1,13 @@
 // The run program: a job on standard input, and on standard output its report, or its refusal.
+#![tactic(auto)]
+
 ghost use Rattle.std.specs.Prelude.{◌+◌, ◌≤◌, length};
 
 // The most picks that a job is given.
 const BUDGET: u64 = 1_000_000;
 
 // What came of reading: so many bytes, or a read that failed.
-#[derive(Drop)]
+#[derive(Clone, Copy)]
 pub struct Input {
     pub failed: bool,
     pub bytes: usize,

@@ -7,7 +7,7 @@ use crate::rows;
 // Passes over the slots, from a slot on and for at most so many picks: one stretch. Or the slots of an order: for each of them that the
 // state has a stretch of one look. Or rounds on so many lanes, at most so many: a stretch goes on from one to the next for as long as they
 // take the same tasks.
-#[derive(Drop)]
+#[derive(Clone, Copy)]
 pub enum Course {
     Passes(usize, u64),
     Listed,
@@ -17,7 +17,7 @@ pub enum Course {
 // Where the loop stands: the slot that it looks at next, the places ahead that it may go by without a pick, the work at which the stretch
 // stops, and how many stretches (of an order: slots; of rounds: rounds) are begun. Along rounds also the row of slots that each of them
 // takes, those left of the present one, and the last round that takes them; other courses have no row.
-#[derive(Drop)]
+#[derive(Clone, Copy)]
 pub struct Position {
     pub slot: usize,
     pub ahead: u64,
@@ -29,7 +29,7 @@ pub struct Position {
 }
 
 // The next stretch's first position. Or it is over: there is none.
-#[derive(Drop)]
+#[derive(Clone, Copy)]
 pub struct Stretch {
     pub over: bool,
     pub first: Position,

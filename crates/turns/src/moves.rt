@@ -7,7 +7,7 @@ use task::{Kind, Register, Value};
 
 // First pairs of registers from slot `from` to slot `to`, as a continuation block packs them; then, where clears is 1, from's are cleared, and
 // the last `drops` values of slot `dropped`'s stack with them; then, where whole is 1, all of from's registers are copied.
-#[derive(Drop)]
+#[derive(Clone, Copy)]
 pub struct Moves {
     pub from: usize,
     pub to: usize,
@@ -65,7 +65,7 @@ pub fn end_moves(k: usize, kind: Kind, height: u32) -> Moves
 }
 
 // A joined task: its register pairs and whether it is faulted, and the heights of the two stacks.
-#[derive(Drop)]
+#[derive(Clone, Copy)]
 pub struct Sides {
     pub pairs: u64,
     pub packed: u64,

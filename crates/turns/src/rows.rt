@@ -4,7 +4,7 @@ ghost use Rattle.std.specs.Prelude.{◌≡◌, ◌<◌, ◌≤◌};
 ghost use Rattle.turns.specs.Rows.{slot_in, no_slots, with_slot, looks_on};
 
 // A row that is being made: its slots so far, what the next one counts, and the lanes that are left.
-#[derive(Drop)]
+#[derive(Clone, Copy)]
 pub struct Row {
     pub slots: u64,
     pub unit: u64,
