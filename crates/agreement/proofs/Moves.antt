@@ -2,7 +2,7 @@
 use Prim.Native.Nat.{ℕ, zero, suc, ◌+◌, ◌*◌, ◌-◌, ◌%◌, ◌^◌, ◌≤◌, ◌<◌}
 use mathlib.Core.Path.{◌≡◌, refl, ap, ◌∙◌, subst, subst⁻¹}
 use mathlib.Core.Logic.{◌⊎◌, inl, inr, ◌≢◌}
-use mathlib.Core.Bool.{true, false, not, ◌&&◌, and_false}
+use mathlib.Core.Bool.{true, false, not, ◌&&◌, and-false}
 use native.Mathlib.Omega.{arith}
 use native.Mathlib.Nat.{add-zero}
 use lib.Pow.{pow_pos}
@@ -87,7 +87,7 @@ module _ {F S : Type 0} (M : Model F S) (K : Forms F S) (count : ℕ → ℕ) wh
                 ∙ laws.put_other m (b + 2 ^ j) vacant i laws.vacant_fine (outside_apart o (omega arith) (omega (arith, pow_pos j)));
             rest = inr (join f g, refl, settle-go slots d m k b (2 ^ j) hw hq u ∙ ap (λ n. settle slots n (merged slots m b (2 ^ j)) b) jd);
           }
-      joined (leaf f) (node y z) lx ly t u = clash t (and_false (not (running f)))
+      joined (leaf f) (node y z) lx ly t u = clash t (and-false (not (running f)))
       joined (node x z) y lx ly t u = clash t refl
 
       settled_fork : (x y : Tree F) → Held m b j x → Held m (b + 2 ^ j) j y → Settled running x → Settled running y
@@ -226,7 +226,7 @@ module _ {F S : Type 0} (M : Model F S) (K : Forms F S) (count : ℕ → ℕ) wh
           fork-moved fits inner v.state v.sound (λ i o. v.outside i (outside-upper b j i o)) x v.tree
           (holds_same slots K x m v.state b j (λ i p q. v.outside i (inl q)) l.0) v.holds st.0 v.settled
           (ahead_upper (rules M) count x v.ahead) (b + 2 ^ j) v.tree (fork_from_upper b j al) v.holds
-          (λ e. rw e (and_false (ended_tree running x))) v.rest
+          (λ e. rw e (and-false (ended_tree running x))) v.rest
 
     moved : (T : Tree F) (m : S) (b h : ℕ) → Sound m → Aligned b h → b + 2 ^ h ≤ size → h ≤ D → Settled running T → Held m b h T
         → (k : ℕ) → b ≤ k → k < b + 2 ^ h → running (at m k) ≡ true → Moved (count k) m b h T (carry slots step m k)

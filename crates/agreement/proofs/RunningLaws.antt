@@ -2,7 +2,7 @@
 use Prim.Native.Nat.{ℕ, zero, suc, ◌+◌, ◌*◌, ◌-◌, ◌/◌, ◌%◌, ◌^◌, ◌≤◌, ◌<◌}
 use mathlib.Core.Path.{◌≡◌, refl, sym, ap, ◌∙◌, subst}
 use mathlib.Core.Logic.{◌⊎◌, inl, inr}
-use mathlib.Core.Bool.{Bool, true, false, ◌&&◌, and_false}
+use mathlib.Core.Bool.{Bool, true, false, ◌&&◌, and-false}
 use native.Mathlib.Omega.{arith}
 use native.Mathlib.Nat.{two-pow-succ}
 use lib.Dec.{eqb, ltb}
@@ -22,15 +22,15 @@ module _ {F S : Type 0} (slots : Slots F S) where
 
   -- no side that has a running task at its first slot has ended
   side_open : (m : S) (b d : ℕ) → running (at m b) ≡ true → side_ended slots m b d ≡ false
-  side_open m b d r = rw r (and_false (eqb (depth (at m b)) d))
+  side_open m b d r = rw r (and-false (eqb (depth (at m b)) d))
 
   module _ (m : S) (q w d : ℕ) where
     lower_open : side_ended slots m q d ≡ false → due slots m q w d ≡ false
-    lower_open e = rw e (ap (λ (t : Bool). ltb 0 w && t) (and_false (ltb (q + w) size)) ∙ and_false (ltb 0 w))
+    lower_open e = rw e (ap (λ (t : Bool). ltb 0 w && t) (and-false (ltb (q + w) size)) ∙ and-false (ltb 0 w))
 
     upper_open : side_ended slots m (q + w) d ≡ false → due slots m q w d ≡ false
     upper_open e =
-        rw (e, and_false (side_ended slots m q d)) (ap (λ (t : Bool). ltb 0 w && t) (and_false (ltb (q + w) size)) ∙ and_false (ltb 0 w))
+        rw (e, and-false (side_ended slots m q d)) (ap (λ (t : Bool). ltb 0 w && t) (and-false (ltb (q + w) size)) ∙ and-false (ltb 0 w))
 
   even : {k h : ℕ} → (a : Aligned k h) → a.times % 2 ≡ 0 → Aligned k (suc h)
   even {k} {h} a e = record { times = a.times / 2; is = a.is ∙ doubled a.times e }

@@ -164,11 +164,11 @@ module _ (cells : List ℕ) (words : List ℤ) (interval places depth pc beat le
   next-inside : {arm r s v : ℕ} (n : ℕ) → Fetched cells pc arm r s v → 16 ≤ n → y.opcode ≡ n → (pc + 4) / 4 < instruction_count cells
   next-inside n d l e =
       let t : leb y.opcode 15 ≡ false = lt-leb y.opcode 15 (omega (arith, l, e)) in
-      rw (← next_place) (d.its.next_below (ap (λ b. leb 13 y.opcode && b) t ∙ and_false (leb 13 y.opcode)))
+      rw (← next_place) (d.its.next_below (ap (λ b. leb 13 y.opcode && b) t ∙ and-false (leb 13 y.opcode)))
     where
-      and_false : (b : Bool) → (b && false) ≡ false
-      and_false true = refl
-      and_false false = refl
+      and-false : (b : Bool) → (b && false) ≡ false
+      and-false true = refl
+      and-false false = refl
 
   pub record Stacks (h : ℕ) (nums' kinds' pile' tags' : List ℕ) : Type 0 where
     pub steps : (forks : List Fork) (span : ℕ) → step (program_of cells) words (chosen interval) (f forks span)

@@ -24,9 +24,9 @@ use Rattle.drive.specs.declared.End.TheVariants.{NotEnded, Fault}
 use Rattle.drive.specs.Ending.{end_at, is_end, job_ended}
 use Rattle.drive.proofs.Models.{forms_of}
 
-and_false : (a : Bool) → false ≡ a && false
-and_false true = refl
-and_false false = refl
+and-false : (a : Bool) → false ≡ a && false
+and-false true = refl
+and-false false = refl
 
 end_by_fault : (a : Bool) (n : ℕ) → is_end (cond a (Fault n) NotEnded) ≡ a && true
 end_by_fault true n = refl
@@ -34,7 +34,7 @@ end_by_fault false n = refl
 
 end_test : (version : ℕ) (f : Frame) (s : Status) → status_fits version f s ≡ true → is_end (end_at f.task.depth s) ≡ eqb f.task.depth 0 && not (is_running s)
 end_test version f Vacant fit = clash fit refl
-end_test version f Running fit = and_false (eqb f.task.depth 0)
+end_test version f Running fit = and-false (eqb f.task.depth 0)
 end_test version f Waiting fit =
     let p = both_true (ltb 0 f.task.depth) (at_rest f.task) fit in
     rw (ne_eqb f.task.depth 0 (omega (arith, ltb-true 0 f.task.depth p.0)))

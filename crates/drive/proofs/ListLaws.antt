@@ -1,7 +1,7 @@
 -- The slots of an order, as the loop goes through them: from where it stands, the run along the slots that are left is the whole run.
 use mathlib.Core.Path.{◌≡◌, refl, sym, ap, ◌∙◌}
 use mathlib.Core.Logic.{◌⊎◌, inl, inr}
-use mathlib.Core.Bool.{true, false, not, and_false}
+use mathlib.Core.Bool.{true, false, not, and-false}
 use mathlib.Core.List.{List, [], ◌∷◌}
 use Prim.Native.Nat.{ℕ, zero, suc, ◌+◌, ◌-◌, ◌<◌, ◌≤◌}
 use native.Mathlib.Omega.{arith}
@@ -141,7 +141,7 @@ module _ (cells : List ℕ) (words : List ℤ) where
           no_row = x.no_row;
           stands = inr (record {
             behind_it = refl;
-            no_more = rw (le-ltb 0 (p.ahead - w) (omega (arith, l.one_look))) (and_false (ltb m.work p.until));
+            no_more = rw (le-ltb 0 (p.ahead - w) (omega (arith, l.one_look))) (and-false (ltb m.work p.until));
           });
         }
 

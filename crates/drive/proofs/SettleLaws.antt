@@ -1,7 +1,7 @@
 -- Whether a join is due, test by test; and what one turn of settling does.
 use Prim.Native.Nat.{ℕ, zero, suc, ◌+◌, ◌*◌, ◌-◌, ◌%◌, ◌≤◌, ◌<◌}
 use mathlib.Core.Path.{◌≡◌, refl, sym}
-use mathlib.Core.Bool.{Bool, true, false, not, ◌&&◌, and_false}
+use mathlib.Core.Bool.{Bool, true, false, not, ◌&&◌, and-false}
 use mathlib.Core.List.{List}
 use native.Mathlib.Omega.{arith}
 use lib.Dec.{eqb, ltb}
@@ -24,7 +24,7 @@ pub no-width : (q w : ℕ) → w ≡ 0 → false ≡ (ltb 0 w && ltb (q + w) 64)
 no-width q w e = rw (le-ltb 0 w (omega arith))
 
 pub no_room : (q w : ℕ) → 64 ≤ q + w → false ≡ (ltb 0 w && ltb (q + w) 64)
-no_room q w e = rw (le-ltb (q + w) 64 e) (sym (and_false (ltb 0 w)))
+no_room q w e = rw (le-ltb (q + w) 64 e) (sym (and-false (ltb 0 w)))
 
 pub room : (q w : ℕ) → 0 < w → q + w < 64 → true ≡ (ltb 0 w && ltb (q + w) 64)
 room q w a b = rw (lt-ltb 0 w a, lt-ltb (q + w) 64 b)

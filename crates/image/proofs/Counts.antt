@@ -1,6 +1,6 @@
 -- The version, question 3, and the counts of blocks and instructions, question 4.
 use mathlib.Core.Path.{◌≡◌, refl, ap, ◌∙◌}
-use mathlib.Core.Bool.{Bool, true, false, ◌&&◌, and_false}
+use mathlib.Core.Bool.{Bool, true, false, ◌&&◌, and-false}
 use mathlib.Core.List.{List}
 use Prim.Native.Nat.{ℕ, ◌<◌, ◌≤◌}
 use native.Mathlib.Omega.{arith}
@@ -44,7 +44,7 @@ counted b i h =
 
 no-instruction : (b : ℕ) → counts_no b 0 ≡ 4
 unfolding counts_no
-no-instruction b = rw (and_false (leb b 128), and_false (leb 1 b))
+no-instruction b = rw (and-false (leb b 128), and-false (leb 1 b))
 
 no-version : version_no 0 ≡ 3
 unfolding version_no

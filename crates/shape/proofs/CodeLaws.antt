@@ -1,7 +1,7 @@
 -- A slot's code tells whether it is vacant, whether it is a task of so many places, and whether that has ended its side.
 use Prim.Native.Nat.{ℕ, ◌+◌, ◌-◌, ◌^◌, ◌≤◌}
 use mathlib.Core.Path.{◌≡◌, refl, sym, ap, ◌∙◌}
-use mathlib.Core.Bool.{Bool, true, false, not, ◌&&◌, and_false}
+use mathlib.Core.Bool.{Bool, true, false, not, ◌&&◌, and-false}
 use mathlib.Core.List.{List}
 use native.Mathlib.Omega.{arith}
 use lib.Dec.{eqb}
@@ -75,7 +75,7 @@ module _ (program : Program) (D : ℕ) (small : D ≤ 6) where
       let d = formed-height g f t in
       rw (formed_live g f t, formed_own g f t)
       (by-test (running f)
-      (λ r. rw (r, ne_eqb (height f + 1) (h + 9) (λ e. omega arith), and_false))
+      (λ r. rw (r, ne_eqb (height f + 1) (h + 9) (λ e. omega arith), and-false))
       (λ r. by-test (eqb f.task.depth (D - h))
       (λ s. let e = eqb-true f.task.depth (D - h) s in rw (r, s, eq-eqb (height f + 9) (h + 9) (omega arith)))
       (λ s. let n = eqb-false f.task.depth (D - h) s in rw (r, s, ne_eqb (height f + 9) (h + 9) (λ e. n (omega arith))))))

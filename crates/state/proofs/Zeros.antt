@@ -22,9 +22,9 @@ pub record Tested (test : ℕ → Bool) (n i : ℕ) (passed : Bool) : Type 0 whe
   pub at_most : i ≤ n
   pub all : every test n 0 ≡ passed && every test (n - i) i
 
-and_false : (b : Bool) → (b && false) ≡ false
-and_false true = refl
-and_false false = refl
+and-false : (b : Bool) → (b && false) ≡ false
+and-false true = refl
+and-false false = refl
 
 and_true : (b : Bool) → (b && true) ≡ b
 and_true true = refl
@@ -39,7 +39,7 @@ module _ (test : ℕ → Bool) (n : ℕ) where
     tested_yes h e = record { at_most = omega arith; all = x.all ∙ ap (λ (b : Bool). passed && b) (every-goes-on test n i h e) }
 
     pub tested_no : i < n → test i ≡ false → Tested test n (i + 1) false
-    tested_no h e = record { at_most = omega arith; all = x.all ∙ ap (λ (b : Bool). passed && b) (every-stops test n i h e) ∙ and_false passed }
+    tested_no h e = record { at_most = omega arith; all = x.all ∙ ap (λ (b : Bool). passed && b) (every-stops test n i h e) ∙ and-false passed }
 
     pub tested_all : n ≤ i → passed ≡ every test n 0
     tested_all h = sym (x.all ∙ ap (λ (b : Bool). passed && b) (every-ends test n i h) ∙ and_true passed)

@@ -1,5 +1,5 @@
 -- `is_listed` meets its contract.
-use mathlib.Core.Bool.{and_false}
+use mathlib.Core.Bool.{and-false}
 use native.Mathlib.Omega.{arith}
 use borrow.Author.Tests.{eq-eqb, ne_eqb, le-leb, lt-leb}
 use Rattle.shape.proofs.tasks.is_listed.Statement.{statement}
@@ -8,7 +8,7 @@ use Rattle.shape.proofs.tasks.is_listed.Tie as tie
 returns : tie.Need-returns
 returns c =
     let n = c.before.args.n in
-    rw (lt-leb 31 n c.if1.true, ne_eqb n 42 (λ e. omega arith), ne_eqb n 43 (λ e. omega arith), and_false)
+    rw (lt-leb 31 n c.if1.true, ne_eqb n 42 (λ e. omega arith), ne_eqb n 43 (λ e. omega arith), and-false)
 
 returns-2 : tie.Need-returns-2
 returns-2 c = rw (le-leb _ _ c.before.if1.false, le-leb _ _ c.if2.true)
