@@ -75,9 +75,9 @@ module _ (program : Program) (p c : Frame) where
     parent_fault_first = λ n e. by-faults (some n) (fault_of c.task.status) (ap fault_of e) refl;
     child_fault_else = λ n e f. by-faults none (some n) e (ap fault_of f);
     no_fault_runs = λ e f. by-faults none none e f;
-    all_places = by_both (λ t. t.places) _ (λ o. elim o [ none ↦ refl | some n ↦ refl ]);
-    larger_span = by_both (λ t. t.span) _ (λ o. elim o [ none ↦ refl | some n ↦ refl ]);
-    counter_cleared = by_both (λ t. t.counter) _ (λ o. elim o [ none ↦ refl | some n ↦ refl ]);
+    all_places = by_both (λ t. t.places) _ (elim [ none ↦ refl | some n ↦ refl ]);
+    larger_span = by_both (λ t. t.span) _ (elim [ none ↦ refl | some n ↦ refl ]);
+    counter_cleared = by_both (λ t. t.counter) _ (elim [ none ↦ refl | some n ↦ refl ]);
     parent_stack = λ e f. ap (λ (g : Frame). g.stack) (joined_by_lem none none e f);
     parent_height = λ e f. ap (λ (g : Frame). g.task.height) (joined_by_lem none none e f);
     faulted_empty = emptied;
