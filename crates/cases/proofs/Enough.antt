@@ -3,7 +3,7 @@
 -- order agrees with the evaluation (orders' `demand-3`).
 use mathlib.Core.Path.{◌≡◌, refl, ap, ap₂, ◌∙◌, subst}
 use mathlib.Core.Bool.{Bool, true}
-use mathlib.Core.List.{List, ◌∷◌, Memᴰ}
+use mathlib.Core.List.{List, [], ◌∷◌, Memᴰ}
 use Prim.Native.Nat.{ℕ}
 use lib.Dec.{eqb, leb}
 use lib.ListN.{length}
@@ -38,6 +38,7 @@ use Rattle.cases.specs.Cases.{held, Case, job_of, start, after, orders_of, Shows
 use Rattle.cases.proofs.Test.{every, same_end, same_value, holds, shows, evaluates, startable, ends_in, passes}
 
 pub every-at : {A : Type 0} (test : A → Bool) (xs : List A) → every test xs ≡ true → (x : A) → Memᴰ x xs → test x ≡ true
+every-at test [] e x h = elim h [ ]
 every-at test (y ∷ ys) e x (Memᴰ.head p) = ap test p ∙ (both_true (test y) (every test ys) e).0
 every-at test (y ∷ ys) e x (Memᴰ.tail h) = every-at test ys (both_true (test y) (every test ys) e).1 x h
 

@@ -122,7 +122,7 @@ record_of first (target policy pairs combining) =
 -- all instructions, block after block
 abbrev pub all_code : List Listed → List Instruction
 all_code [] = []
-all_code (block note code ∷ blocks) = code ++ all_code blocks
+all_code (block _ code ∷ blocks) = code ++ all_code blocks
 
 abbrev pub code_bytes : List Instruction → List ℕ
 code_bytes [] = []
