@@ -1,4 +1,4 @@
-// The exports: what a program in C or another language calls. Numbers and byte slices only.
+// The calls: job_c exports each under its name, to programs in C or another language. Numbers and byte slices only.
 #![tactic(auto)]
 
 mod evaluating;
@@ -36,16 +36,14 @@ const FEW_NUMBERS: usize = 512;
 const MOST_NUMBERS: usize = 4096;
 
 // The image check: 0, or the number of the first question, 1 to 9, that is answered with no.
-#[unsafe(no_mangle)]
-pub extern "C" fn tpal_image_check(image: &[u8]) -> u8
+pub fn tpal_image_check(image: &[u8]) -> u8
     ensures { result ≡ image_no image.now }
 {
     image::reader::check(image)
 }
 
 // Reads an image and writes its program back into `out`, which has the image's length (15). A refusal leaves `out` as it was.
-#[unsafe(no_mangle)]
-pub extern "C" fn tpal_image_rewrite(image: &[u8], out: &mut [u8]) -> u8
+pub fn tpal_image_rewrite(image: &[u8], out: &mut [u8]) -> u8
     ensures value { result ≡ rewrite_no image.now (length out.old) }
     ensures out_after { out.new ≡ unless_refused result image.now out.old }
 {
@@ -68,8 +66,7 @@ fn carry_out(job: &[u8], cells: &[u64], words: &mut [i64], order: &[u8]) -> Stat
 
 // Starts a job, given by its bytes, and carries out one pick for each byte of the order; then writes the whole state into `state`, which
 // has 83,992 bytes (15). A refusal leaves `state` as it was.
-#[unsafe(no_mangle)]
-pub extern "C" fn tpal_replay(job: &[u8], order: &[u8], state: &mut [u8]) -> u8
+pub fn tpal_replay(job: &[u8], order: &[u8], state: &mut [u8]) -> u8
     ensures value { result ≡ replay_no job.now (length state.old) }
     ensures state_after { state.new ≡ unless_refused result (state_bytes (replay_of job.now order.now)) state.old }
     ensures whatever_the_order { result ≡ 0 → WhateverTheOrder (job_in job.now) (start_on (job_in job.now) (empty 0 0)) order.now }
@@ -125,8 +122,7 @@ fn run_accepted(job: &[u8], cells: &[u64], budget: u64) -> Report
 
 // Runs a job, given by its bytes, with this budget, and writes its report into `out`, which has 424 bytes (15). A refusal leaves `out` as
 // it was.
-#[unsafe(no_mangle)]
-pub extern "C" fn tpal_job_run(job: &[u8], budget: u64, out: &mut [u8]) -> u8
+pub fn tpal_job_run(job: &[u8], budget: u64, out: &mut [u8]) -> u8
     ensures value { result ≡ run_no job.now (length out.old) }
     ensures out_after { out.new ≡ unless_refused result (report_bytes (report_in job.now budget)) out.old }
 {
@@ -179,8 +175,7 @@ fn dispatch_job(
 
 // Runs a job, given by its bytes, in rounds on 1 to 8 lanes (41), at most so many, and writes its report and the rounds into `out`, which has
 // 432 bytes (15). A refusal leaves `out` as it was.
-#[unsafe(no_mangle)]
-pub extern "C" fn tpal_job_dispatch(job: &[u8], lanes: u64, rounds: u64, out: &mut [u8]) -> u8
+pub fn tpal_job_dispatch(job: &[u8], lanes: u64, rounds: u64, out: &mut [u8]) -> u8
     ensures value { result ≡ dispatch_job_no job.now lanes (length out.old) }
     ensures out_after { out.new ≡ unless_refused result (rounds_report_in job.now lanes rounds) out.old }
 {
@@ -205,8 +200,7 @@ pub extern "C" fn tpal_job_dispatch(job: &[u8], lanes: u64, rounds: u64, out: &m
 
 // What the run program prints for a job: the report's text, or its refusal. It goes to the front of `out`, which has 1,024 bytes, and the
 // answer is its length; a buffer of another length stays as it was, and the answer is 0.
-#[unsafe(no_mangle)]
-pub extern "C" fn tpal_job_text(job: &[u8], budget: u64, out: &mut [u8]) -> u64
+pub fn tpal_job_text(job: &[u8], budget: u64, out: &mut [u8]) -> u64
     ensures value { result ≡ text_length job.now budget (length out.old) }
     ensures out_after { out.new ≡ text_stored job.now budget out.old }
 {
@@ -225,8 +219,7 @@ pub extern "C" fn tpal_job_text(job: &[u8], budget: u64, out: &mut [u8]) -> u64
 // ---- A job in steps
 
 // Reads an image into a program buffer of 47,128 bytes (15). A refusal leaves `program` as it was.
-#[unsafe(no_mangle)]
-pub extern "C" fn tpal_program_read(image: &[u8], program: &mut [u8]) -> u8
+pub fn tpal_program_read(image: &[u8], program: &mut [u8]) -> u8
     ensures value { result ≡ read_no image.now (length program.old) }
     ensures program_after { program.new ≡ program_after image.now program.old }
 {
@@ -234,8 +227,7 @@ pub extern "C" fn tpal_program_read(image: &[u8], program: &mut [u8]) -> u8
 }
 
 // Writes a program buffer to an image of its length (15). A refusal leaves `image` as it was.
-#[unsafe(no_mangle)]
-pub extern "C" fn tpal_program_write(program: &[u8], image: &mut [u8]) -> u8
+pub fn tpal_program_write(program: &[u8], image: &mut [u8]) -> u8
     ensures value { result ≡ written_no program.now (length image.old) }
     ensures image_after { image.new ≡ image_after program.now image.old }
 {
@@ -243,8 +235,7 @@ pub extern "C" fn tpal_program_write(program: &[u8], image: &mut [u8]) -> u8
 }
 
 // Starts a job: `state`, 83,992 bytes (15), then holds its state. A refusal leaves `state` as it was.
-#[unsafe(no_mangle)]
-pub extern "C" fn tpal_start(
+pub fn tpal_start(
     program: &[u8],
     places: u64,
     interval: u64,
@@ -259,8 +250,7 @@ pub extern "C" fn tpal_start(
 }
 
 // One pick of a slot on the state that the bytes stand for; they then are the new state's. A refusal leaves them as they were.
-#[unsafe(no_mangle)]
-pub extern "C" fn tpal_pick(program: &[u8], words: &[u8], slot: u64, state: &mut [u8]) -> u8
+pub fn tpal_pick(program: &[u8], words: &[u8], slot: u64, state: &mut [u8]) -> u8
     ensures value { result ≡ picked_no program.now words.now slot state.old }
     ensures state_after { state.new ≡ state_after_pick program.now words.now slot state.old }
 {
@@ -269,8 +259,7 @@ pub extern "C" fn tpal_pick(program: &[u8], words: &[u8], slot: u64, state: &mut
 
 // A run on the state that the bytes stand for; they then are the new state's, and `report`, 424 bytes (15), has this run's picks. A
 // refusal leaves both as they were.
-#[unsafe(no_mangle)]
-pub extern "C" fn tpal_run(
+pub fn tpal_run(
     program: &[u8],
     words: &[u8],
     budget: u64,
