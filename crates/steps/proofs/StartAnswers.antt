@@ -127,9 +127,9 @@ module _ (program : List ℕ) (places interval : ℕ) (registers words : List �
       ∙ or_else_none first
 
 -- start's answer, to what was read
-pub start-answered : (program : List ℕ) (places interval : ℕ) (registers words : List ℕ) (answer : ℕ) (m blank : State) (cells : List ℕ) (first held : List ℤ)
-    → blank ≡ empty 0 0 → cells ≡ cells_of program → first ≡ integers_of registers → held ≡ integers_of words
-    → answer ≡ start_no cells places interval first held → m ≡ started blank cells places interval first held
+pub start-answered : (program : List ℕ) (places interval : ℕ) (registers words : List ℕ) (answer : ℕ) (m blank : State) (cells : List ℕ) (given held : List ℤ)
+    → blank ≡ empty 0 0 → cells ≡ cells_of program → given ≡ integers_of registers → held ≡ integers_of words
+    → answer ≡ start_no cells places interval given held → m ≡ started blank cells places interval given held
     → (answer ≡ start_no (cells_of program) places interval (integers_of registers) (integers_of words)) × (m ≡ start_state program places interval registers words)
-start-answered program places interval registers words answer m blank cells first held a b c d p q =
+start-answered program places interval registers words answer m blank cells given held a b c d p q =
     (p ∙ (λ i. start_no (b i) places interval (c i) (d i)), q ∙ (λ i. started (a i) (b i) places interval (c i) (d i)))
