@@ -1,0 +1,31 @@
+-- `put_block_bytes` meets its contract.
+use Rattle.std.proofs.Common.{rules, ◌≡◌, ◌++◌, ◌+◌, ◌<◌, ◌≤◌, length, ℕ, ◌-◌, ◌*◌, ◌/◌, ◌%◌, Bool, true, false, nat_eq, nat_lt, List, [], ◌∷◌, slice_index_or, slice_set, bit_and, bit_or, Fits, w8, w32, w64, Bor, MutBor}
+use Rattle.std.proofs.lemmas.List.Edits.{sets}
+use Rattle.int64.specs.Little.{little, bytes_of}
+use Rattle.image.specs.Layout.{most_pairs, block_size, image_length, version_of, block_count, instruction_count, block_in, block_bytes, block_from, block_cell, block_of, block_cells, instruction_in, instruction_bytes, instruction_from, instruction_cell, instruction_of, instruction_cells}
+use Rattle.image.specs.Questions.{most_blocks, most_instructions}
+use Rattle.image.proofs.layout.put_block_bytes.Goals as goal
+use mathlib.Core.Path.{refl, ap, ◌∙◌}
+use mathlib.Core.List.{List, ◌++◌}
+use Prim.Native.Nat.{ℕ, ◌+◌}
+use lib.Seq.{sets}
+use Rattle.int64.specs.Little.{bytes_of}
+use Rattle.image.specs.Layout.{most_pairs}
+use Rattle.image.proofs.Rows.{placed}
+use borrow.Author.Rules.{rules}
+
+pub returns : goal.returns
+unfolding bytes_of
+returns c =
+    let start = c in
+    let l = start.args.image.now in
+    let at = start.args.at in
+    let k = start.args.k in
+    let pairs = most_pairs start.args.version in
+    let middle = c.four_bytes-middle.result in
+    let two = placed l _ _ at (at + 2) (bytes_of 2 k.first) (bytes_of 4 middle)
+    c.write_u16.ensures
+    c.write_u32.ensures refl in
+    placed l _ _ at (at + 6) (bytes_of 2 k.first ++ bytes_of 4 middle) (bytes_of pairs k.packed) two c.put_pairs.ensures refl
+    ∙ ap (λ (m : List ℕ). sets l at ((bytes_of 2 k.first ++ m) ++ bytes_of pairs k.packed))
+    c.four_bytes-middle.ensures

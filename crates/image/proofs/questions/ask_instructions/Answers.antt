@@ -1,0 +1,57 @@
+-- `ask_instructions` meets its contract.
+use Rattle.std.proofs.Common.{rules, ◌≡◌, ℕ, ◌+◌, ◌-◌, ◌*◌, ◌<◌, ◌≤◌, eqb, length, ◌/◌, ◌%◌, Bool, true, false, nat_lt, List, [], ◌∷◌, ◌++◌, slice_index_or, slice_set, bit_and, bit_or, Fits, w8, w32, w64, Bor, MutBor}
+use Rattle.std.proofs.lemmas.List.Edits.{sets}
+use Rattle.image.specs.Layout.{rows, most_pairs, version_of, block_count, instruction_count, block_cell, instruction_cell, block_of}
+use Rattle.image.specs.Questions.{version_no, most_blocks, most_instructions, counts_no, in_order, rising, unjoined, joined, annotated, block_no, first_no, last_opcode, ends_block, fields, laid_out, instruction_no, records_no, program_no}
+use Rattle.image.specs.Records.{block_record_no, instruction_record_no}
+use Rattle.image.specs.Marks.{flag, Marked, Ended}
+use Rattle.image.specs.Limits.{limit_row, limits_at, limit_rows, largest_of, Limited, blocks_by}
+use Rattle.image.proofs.questions.ask_instructions.Goals as goal
+use mathlib.Core.Path.{◌≡◌, sym, ap, ◌∙◌}
+use Prim.Native.Nat.{◌+◌, ◌-◌, ◌≤◌}
+use native.Mathlib.Omega.{arith}
+use lib.ListN.{get_or}
+use Rattle.image.specs.Layout.{block_count, instruction_count, program_of}
+use Rattle.image.specs.Questions.{first_no, last_in_block, instruction_no}
+use Rattle.image.specs.Records.{instruction_record_no}
+use Rattle.image.proofs.Asked.{begins, its_goes_on, decides, no_more}
+use Rattle.image.proofs.Marking.{mark_told}
+use Rattle.image.proofs.Limiting.{limited_by, asked_by, asked-held, not-held}
+
+pub returns-then-no-ne0 : goal.returns-then-no-ne0
+returns-then-no-ne0 c =
+    let start = c in
+    let cells = start.args.cells.now in
+    let l = c.loop-i in
+    let held = c.instructions_held-held.ensures in
+    let no = c.ask_instruction-no.ensures ∙ asked_by cells start.args.marks.now start.args.opcodes (block_count cells) start.args.limits.now
+    start.args.largest.now start.requires.1 start.requires.4 l.i (omega (arith, held.0))
+    c.instruction_of-x.result ∙ ap (instruction_record_no start.args.opcodes (block_count cells) (last_in_block (program_of cells) l.i))
+    c.instruction_of-x.ensures ∙ asked-held cells start.args.opcodes l.i start.requires.0
+    (held.1 l.i c.loop-i-test.true) in
+    no ∙ sym (l.invariant.1 ∙ decides (instruction_no cells) (instruction_count cells) l.i (omega (arith, held.0)) (λ e. c.if-no-ne0.true (no ∙ e)))
+
+pub loop-i-preserved : goal.loop-i-preserved
+loop-i-preserved c =
+    let start = c in
+    let cells = start.args.cells.now in
+    let l = c.loop-i in
+    let held = c.instructions_held-held.ensures in
+    let no = c.ask_instruction-no.ensures ∙ asked_by cells start.args.marks.now start.args.opcodes (block_count cells) start.args.limits.now
+    start.args.largest.now start.requires.1 start.requires.4 l.i (omega (arith, held.0))
+    c.instruction_of-x.result ∙ ap (instruction_record_no start.args.opcodes (block_count cells) (last_in_block (program_of cells) l.i))
+    c.instruction_of-x.ensures ∙ asked-held cells start.args.opcodes l.i start.requires.0
+    (held.1 l.i c.loop-i-test.true) in
+    (omega arith, l.invariant.1 ∙ its_goes_on (instruction_no cells) (instruction_count cells) l.i (omega (arith, held.0)) (sym no ∙ c.if-no-ne0.false))
+
+pub returns-then-held-cells : goal.returns-then-held-cells
+returns-then-held-cells c =
+    let cells = c.args.cells.now in
+    let l = c.loop-i in
+    let short = not-held cells l.i (omega (arith, c.instructions_held-held.ensures.2 c.if-held-cells.true)) in
+    sym (l.invariant.1 ∙ decides (instruction_no cells) (instruction_count cells) l.i (omega arith) (λ e. (omega (arith, short, e))) ∙ short)
+
+pub returns : goal.returns
+returns c =
+    let start = c in
+    sym (c.loop-i.invariant.1 ∙ no_more (instruction_no start.args.cells.now) (instruction_count start.args.cells.now) c.loop-i.i (omega arith))

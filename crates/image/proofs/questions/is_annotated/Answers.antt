@@ -1,0 +1,36 @@
+-- `is_annotated` meets its contract.
+use Rattle.std.proofs.Common.{rules, ◌≡◌, ℕ, ◌+◌, ◌-◌, ◌*◌, ◌<◌, ◌≤◌, eqb, length, ◌/◌, ◌%◌, Bool, true, false, nat_lt, List, [], ◌∷◌, ◌++◌, slice_index_or, slice_set, bit_and, bit_or, Fits, w8, w32, w64, Bor, MutBor}
+use Rattle.std.proofs.lemmas.List.Edits.{sets}
+use Rattle.image.specs.Layout.{rows, most_pairs, version_of, block_count, instruction_count, block_cell, instruction_cell, block_of}
+use Rattle.image.specs.Questions.{version_no, most_blocks, most_instructions, counts_no, in_order, rising, unjoined, joined, annotated, block_no, first_no, last_opcode, ends_block, fields, laid_out, instruction_no, records_no, program_no}
+use Rattle.image.specs.Records.{block_record_no, instruction_record_no}
+use Rattle.image.specs.Marks.{flag, Marked, Ended}
+use Rattle.image.specs.Limits.{limit_row, limits_at, limit_rows, largest_of, Limited, blocks_by}
+use Rattle.image.proofs.questions.is_annotated.Goals as goal
+use borrow.Author.Tests.{lt-ltb, le-ltb, eq-eqb, ne_eqb}
+use Rattle.image.specs.Questions.{annotated}
+use borrow.Author.Rules.{rules}
+
+pub returns-then-k-ne0 : goal.returns-then-k-ne0
+unfolding annotated
+returns-then-k-ne0 c = rw (eq-eqb _ _ c.if-k-eq0.true, ne_eqb _ _ c.if-k-ne0.true)
+
+pub returns-then-k-eq0 : goal.returns-then-k-eq0
+unfolding annotated
+returns-then-k-eq0 c = rw (eq-eqb _ _ c.if-k-eq0.true, eq-eqb _ _ c.if-k-ne0.false) c.is_unjoined.ensures
+
+pub returns-then-blocks-k : goal.returns-then-blocks-k
+unfolding annotated
+returns-then-blocks-k c = rw (ne_eqb _ _ c.if-k-eq0.false, le-ltb _ _ c.if-blocks-k.true)
+
+pub returns-then-k-eq1 : goal.returns-then-k-eq1
+unfolding annotated
+returns-then-k-eq1 c = rw (ne_eqb _ _ c.if-k-eq0.false, lt-ltb _ _ c.if-blocks-k.false, eq-eqb _ _ c.if-k-eq1.true) c.is_unjoined-then-k-eq1.ensures
+
+pub returns-then-k-ne2 : goal.returns-then-k-ne2
+unfolding annotated
+returns-then-k-ne2 c = rw (ne_eqb _ _ c.if-k-eq0.false, lt-ltb _ _ c.if-blocks-k.false, ne_eqb _ _ c.if-k-eq1.false, ne_eqb _ _ c.if-k-ne2.true)
+
+pub returns : goal.returns
+unfolding annotated
+returns c = rw (ne_eqb _ _ c.if-k-eq0.false, lt-ltb _ _ c.if-blocks-k.false, ne_eqb _ _ c.if-k-eq1.false, eq-eqb _ _ c.if-k-ne2.false) c.is_joined.ensures

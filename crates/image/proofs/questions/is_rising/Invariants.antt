@@ -1,0 +1,12 @@
+-- What the loop of `is_rising` keeps.
+use mathlib.Core.Path.{◌≡◌, refl, sym, ◌∙◌}
+use Rattle.image.specs.Questions.{rising}
+use Rattle.image.proofs.Pairs.{rising_falls, rising-goes-on, rising_none, rising-one}
+use native.Mathlib.Omega.{arith}
+use Rattle.image.proofs.questions.is_rising.Given as goal
+
+abbrev pub invariant-loop-n : goal.invariant-loop-n
+invariant-loop-n l = rising l.pairs l.packed ≡ rising l.n l.rest
+
+abbrev pub decreases-loop-n : goal.decreases-loop-n
+decreases-loop-n l = l.n

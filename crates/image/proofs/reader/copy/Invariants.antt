@@ -1,0 +1,14 @@
+-- What the loop of `copy` keeps.
+use mathlib.Core.Path.{◌≡◌, refl, ◌∙◌}
+use Prim.Native.Nat.{ℕ, ◌-◌, ◌<◌, ◌≤◌}
+use lib.ListN.{length, get_or, length-set}
+use lib.Seq.{ext_get_or}
+use Rattle.image.proofs.Copying.{copied_more}
+use native.Mathlib.Omega.{arith}
+use Rattle.image.proofs.reader.copy.Given as goal
+
+abbrev pub invariant-loop-i : goal.invariant-loop-i
+invariant-loop-i l = (length l.to ≡ length l.initial.to) × (l.i ≤ length l.initial.to) × ((j : ℕ) → j < l.i → get_or l.to j 0 ≡ get_or l.from j 0)
+
+abbrev pub decreases-loop-i : goal.decreases-loop-i
+decreases-loop-i l = length l.initial.to - l.i

@@ -1,0 +1,45 @@
+-- `read` meets its contract.
+use Rattle.std.proofs.Common.{rules, ◌≡◌, true, cond, ◌≤◌, length, replicate, ℕ, ◌+◌, ◌-◌, ◌*◌, ◌<◌, ◌/◌, ◌%◌, Bool, false, nat_eq, nat_lt, List, [], ◌∷◌, ◌++◌, slice_index_or, slice_set, bit_and, bit_or, Fits, w8, w32, w64, Bor, MutBor}
+use Rattle.image.specs.Layout.{program_cells, cells_in}
+use Rattle.image.specs.Doors.{mark_in, header_no, image_no, read_no, unless_refused}
+use Rattle.image.specs.Offset.{offset_in}
+use Rattle.image.specs.Walked.{scanned}
+use Rattle.image.proofs.reader.read.Goals as goal
+use mathlib.Core.Path.{refl, sym, ◌∙◌}
+use borrow.Author.Tests.{eq-eqb, ne_eqb}
+use Rattle.image.specs.Doors.{image_no, read_no, unless_refused}
+use Rattle.image.proofs.Asked.{or_else_no, or_else_yes}
+use Rattle.image.proofs.Walked.{scanned-accepted}
+use borrow.Author.Rules.{rules}
+
+pub returns-then-no-ne0 : goal.returns-then-no-ne0
+unfolding read_no unless_refused
+returns-then-no-ne0 c =
+    let s = c in
+    let no = image_no s.args.image.now in
+    record {
+      value = s.scan-no.ensures.value ∙ sym (or_else_no no _ (λ e. c.if-no-ne0.true (s.scan-no.ensures.value ∙ e)));
+      cells_after = rw (ne_eqb _ _ c.if-no-ne0.true);
+    }
+
+pub returns-then-cells-ne-PROGRAM_CELLS : goal.returns-then-cells-ne-PROGRAM_CELLS
+unfolding read_no unless_refused
+returns-then-cells-ne-PROGRAM_CELLS c =
+    let s = c in
+    let no = image_no s.args.image.now in
+    record {
+      value = sym (or_else_yes no _ (sym s.scan-no.ensures.value ∙ c.if-no-ne0.false) ∙ rw (ne_eqb _ _ c.if-cells-ne-PROGRAM_CELLS.true));
+      cells_after = refl;
+    }
+
+pub returns : goal.returns
+unfolding read_no unless_refused
+returns c =
+    let asked = c in
+    let s = asked in
+    let image = s.args.image.now in
+    let accepted = sym s.scan-no.ensures.value ∙ asked.if-no-ne0.false in
+    record {
+      value = sym (or_else_yes (image_no image) _ accepted ∙ rw (eq-eqb _ _ asked.if-cells-ne-PROGRAM_CELLS.false));
+      cells_after = c.copy.ensures ∙ s.scan-no.ensures.cells_after ∙ scanned-accepted image accepted;
+    }

@@ -1,0 +1,57 @@
+-- `walk_image` meets its contract.
+use Rattle.std.proofs.Common.{rules, ◌≡◌, true, cond, ◌≤◌, length, replicate, ℕ, ◌+◌, ◌-◌, ◌*◌, ◌<◌, ◌/◌, ◌%◌, Bool, false, nat_eq, nat_lt, List, [], ◌∷◌, ◌++◌, slice_index_or, slice_set, bit_and, bit_or, Fits, w8, w32, w64, Bor, MutBor}
+use Rattle.image.specs.Layout.{program_cells, cells_in}
+use Rattle.image.specs.Doors.{mark_in, header_no, image_no, read_no, unless_refused}
+use Rattle.image.specs.Offset.{offset_in}
+use Rattle.image.specs.Walked.{scanned}
+use Rattle.image.proofs.reader.walk_image.Goals as goal
+use mathlib.Core.Path.{◌≡◌, sym, ap, ◌∙◌}
+use mathlib.Core.List.{List, [], ◌∷◌}
+use Prim.Native.Nat.{ℕ}
+use lib.ListN.{length, length-replicate}
+use native.Mathlib.Omega.{arith}
+use Rattle.image.specs.Layout.{version_in, blocks_in, instructions_in, program_cells, cells_in}
+use Rattle.image.specs.Questions.{records_no}
+use Rattle.image.specs.Doors.{header_no, image_no}
+use Rattle.image.proofs.Asked.{or_else_no, or_else_yes}
+use Rattle.image.proofs.Header.{header}
+use Rattle.image.proofs.Walking.{laid_length}
+use Rattle.image.proofs.Offset.{offset_unread}
+use Rattle.image.proofs.Walked.{scanned-none, scanned-records}
+use borrow.Author.Rules.{rules}
+
+pub returns-then-no-ne0 : goal.returns-then-no-ne0
+unfolding image_no
+returns-then-no-ne0 c =
+    let start = c in
+    let image = start.args.image.now in
+    let asked = c.ask_header-no.ensures in
+    let refused : header_no image ≡ 0 → ⊥ = λ e. c.if-no-ne0.true (asked ∙ e) in
+    record {
+      no_value = asked ∙ sym (or_else_no (header_no image) (records_no (cells_in image)) refused);
+      at_value = sym (offset_unread image refused);
+      cells_after = scanned-none image start.args.lays start.args.cells.now start.requires refused;
+    }
+
+pub lay_head-requires : goal.lay_head-requires
+lay_head-requires c =
+    let start = c in (
+      (header start.args.image.now (sym c.ask_header-no.ensures ∙ c.if-no-ne0.false)).long,
+      λ t.
+          (omega (arith, ap length (start.requires t), length-replicate {A = ℕ} program_cells 0)),
+    )
+
+pub returns : goal.returns
+unfolding image_no
+returns c =
+    let counted = c in
+    let asked = counted in
+    let start = asked in
+    let image = start.args.image.now in
+    let w = c.walk_records.ensures in
+    let accepted = sym asked.ask_header-no.ensures ∙ counted.if-no-ne0.false in
+    record {
+      no_value = w.no_value ∙ sym (or_else_yes (header_no image) (records_no (cells_in image)) accepted);
+      at_value = w.at_value;
+      cells_after = scanned-records image start.args.lays start.args.cells.now start.requires _ _ accepted counted.lay_head.ensures w.cells_after;
+    }

@@ -1,0 +1,103 @@
+-- `walk_blocks` meets its contract.
+use Rattle.std.proofs.Common.{rules, ◌≡◌, true, cond, [], ◌∷◌, ◌+◌, ◌-◌, ◌<◌, ◌≤◌, length, ℕ, ◌*◌, ◌/◌, ◌%◌, Bool, false, nat_eq, nat_lt, List, ◌++◌, slice_index_or, slice_set, bit_and, bit_or, Fits, w8, w32, w64, Bor, MutBor}
+use Rattle.std.proofs.lemmas.List.Edits.{sets}
+use Rattle.image.specs.Layout.{block_place, instruction_place, version_in, blocks_in, instructions_in, program_cells, block_in, instruction_in, block_cells, instruction_cells, cells_in}
+use Rattle.image.specs.Questions.{first_no, block_no, last_opcode, instruction_no, records_no}
+use Rattle.image.specs.Marks.{Marked, Ended}
+use Rattle.image.specs.Limits.{Limited}
+use Rattle.image.specs.Doors.{header_no}
+use Rattle.image.specs.Offset.{blocks_passed, blocks_offset, instructions_offset, offset_in}
+use Rattle.image.specs.Walked.{blocks_walked, instructions_walked, records_walked}
+use Rattle.image.proofs.walk.walk_blocks.Goals as goal
+use Prim.Native.Nat.{ℕ, ◌-◌}
+use borrow.Author.Rules.{rules}
+use mathlib.Core.Path.{◌≡◌, sym, ap, ap₂, ◌∙◌}
+use native.Mathlib.Omega.{arith}
+use Rattle.image.specs.declared.Block.{Block}
+use Rattle.image.specs.Layout.{most_pairs, block_size, block_place, version_in, blocks_in, block_in}
+use Rattle.image.proofs.Counts.{counted}
+use Rattle.image.proofs.Header.{header}
+use Rattle.image.proofs.Walks.{AtBlock, blocks-begin, next_block, block_refused, blocks_end, block_length, block_within, first_below}
+
+pub read_u16-version-requires : goal.read_u16-version-requires
+read_u16-version-requires c =
+    let start = c in
+    omega (arith, (header start.args.image.now start.requires.0).long)
+
+pub bounds-image-5 : goal.bounds-image-5
+bounds-image-5 c =
+    let start = c in
+    omega (arith, (header start.args.image.now start.requires.0).long)
+
+pub loop-b-init : goal.loop-b-init
+loop-b-init c =
+    let start = c in
+    blocks-begin start.args.image.now start.requires.0 start.args.lays start.args.cells.now start.args.marks.now start.requires.1
+
+pub block_in-k-requires : goal.block_in-k-requires
+block_in-k-requires c =
+    let start = c in
+    let image = start.args.image.now in
+    let ok = start.requires.0 in
+    let l = c.loop-b in
+    let version = c.read_u16-version.ensures.equal in
+    omega (arith, ap most_pairs version, (block_within image ok l.b (omega (arith, c.wide-blocks.ensures))).0, l.invariant.offset)
+
+pub returns-then-no-ne0 : goal.returns-then-no-ne0
+returns-then-no-ne0 c =
+    let start = c in
+    let image = start.args.image.now in
+    let ok = start.requires.0 in
+    let l = c.loop-b in
+    let asked = c.ask_block_in-no.ensures in
+    let s = block_refused image ok start.args.lays start.args.cells.now l.marks l.cells l.at l.to l.before l.b l.invariant
+    (omega (arith, c.wide-blocks.ensures)) (λ e. c.if-no-ne0.true (asked ∙ e)) in
+    record {
+      no_value = asked ∙ sym s.0;
+      at_value = s.1.0;
+      marked = s.1.1.0;
+      cells_after = s.1.1.1;
+    }
+
+pub bounds-marks-before : goal.bounds-marks-before
+bounds-marks-before c =
+    let start = c in
+    let image = start.args.image.now in
+    let ok = start.requires.0 in
+    let l = c.loop-b in
+    let version = c.read_u16-version.ensures.equal in
+    let here = c.block_in-k.ensures ∙ ap₂ (λ (v n : ℕ). block_in v image n) version l.invariant.offset in
+    let first : c.block_in-k.result.first ≡ (block_in (version_in image) image (block_place (version_in image) l.b)).first =
+    ap (λ (k : Block). k.first) here in
+    let below = first_below image ok l.b (omega (arith, c.wide-blocks.ensures)) (sym c.ask_block_in-no.ensures ∙ c.if-no-ne0.false) in
+    omega (arith, first, below, (counted _ _ (header image ok).counts).instructions_fit, l.invariant.marking.sized)
+
+pub loop-b-preserved : goal.loop-b-preserved
+loop-b-preserved c =
+    let start = c in
+    let image = start.args.image.now in
+    let ok = start.requires.0 in
+    let l = c.loop-b in
+    let version = c.read_u16-version.ensures.equal in
+    let size = c.block_size-size.ensures ∙ ap block_size version in
+    let asked = c in
+    next_block image ok start.args.lays start.args.cells.now l.marks l.cells l.at l.to l.before l.b l.invariant _
+    asked.block_in-k.result _ (omega (arith, c.wide-blocks.ensures))
+    (sym asked.ask_block_in-no.ensures ∙ c.if-no-ne0.false)
+    (asked.block_in-k.ensures ∙ ap₂ (λ (v n : ℕ). block_in v image n) version l.invariant.offset) c.lay_block.ensures
+    (omega (arith, size))
+
+pub returns : goal.returns
+returns c =
+    let start = c in
+    let image = start.args.image.now in
+    let ok = start.requires.0 in
+    let l = c.loop-b in
+    let s = blocks_end image ok start.args.lays start.args.cells.now l.marks l.cells l.at l.to l.before l.b l.invariant
+    (omega (arith, c.wide-blocks.ensures)) in
+    record {
+      no_value = sym s.0;
+      at_value = s.1.0;
+      marked = s.1.1.0;
+      cells_after = s.1.1.1;
+    }

@@ -1,0 +1,90 @@
+-- `walk_instructions` meets its contract.
+use Rattle.std.proofs.Common.{rules, ◌≡◌, true, cond, [], ◌∷◌, ◌+◌, ◌-◌, ◌<◌, ◌≤◌, length, ℕ, ◌*◌, ◌/◌, ◌%◌, Bool, false, nat_eq, nat_lt, List, ◌++◌, slice_index_or, slice_set, bit_and, bit_or, Fits, w8, w32, w64, Bor, MutBor}
+use Rattle.std.proofs.lemmas.List.Edits.{sets}
+use Rattle.image.specs.Layout.{block_place, instruction_place, version_in, blocks_in, instructions_in, program_cells, block_in, instruction_in, block_cells, instruction_cells, cells_in}
+use Rattle.image.specs.Questions.{first_no, block_no, last_opcode, instruction_no, records_no}
+use Rattle.image.specs.Marks.{Marked, Ended}
+use Rattle.image.specs.Limits.{Limited}
+use Rattle.image.specs.Doors.{header_no}
+use Rattle.image.specs.Offset.{blocks_passed, blocks_offset, instructions_offset, offset_in}
+use Rattle.image.specs.Walked.{blocks_walked, instructions_walked, records_walked}
+use Rattle.image.proofs.walk.walk_instructions.Goals as goal
+use mathlib.Core.Path.{sym, ◌∙◌}
+use Prim.Native.Nat.{◌-◌}
+use native.Mathlib.Omega.{arith}
+use Rattle.image.specs.Layout.{version_in, blocks_in, instructions_in}
+use Rattle.image.proofs.Versions.{places_most}
+use Rattle.image.proofs.Counts.{counted}
+use Rattle.image.proofs.Header.{header}
+use Rattle.image.proofs.Walks.{AtInstruction, instructions-begin, next_instruction, instruction-refused, instructions_end, instruction-length}
+
+pub read_u16-instructions-requires : goal.read_u16-instructions-requires
+read_u16-instructions-requires c =
+    let start = c in
+    omega (arith, (header start.args.image.now start.requires.0).long)
+
+pub loop-i-init : goal.loop-i-init
+loop-i-init c =
+    let start = c in
+    instructions-begin start.args.image.now start.requires.0 start.args.lays start.args.cells.now start.args.start start.requires.4
+
+pub returns-then-no-ne0 : goal.returns-then-no-ne0
+returns-then-no-ne0 c =
+    let start = c in
+    let image = start.args.image.now in
+    let ok = start.requires.0 in
+    let l = c.loop-i in
+    let asked = c.ask_instruction_in-no.ensures in
+    let s = instruction-refused image ok start.args.lays start.args.cells.now l.cells l.at l.to l.i l.invariant
+    (omega (arith, c.read_u16-instructions.ensures.equal)) (λ e. c.if-no-ne0.true (asked ∙ e)) in
+    record {
+      no_value = asked ∙ sym s.0;
+      at_value = s.1.0;
+      cells_after = s.1.1;
+    }
+
+pub lay_instruction-requires : goal.lay_instruction-requires
+lay_instruction-requires c =
+    let start = c in
+    let image = start.args.image.now in
+    let ok = start.requires.0 in
+    let l = c.loop-i in
+    let below = c.read_u16-instructions.ensures.equal in
+    let few = (counted _ _ (header image ok).counts).instructions_fit in (
+      omega (arith, (header image ok).size, below, l.invariant.offset),
+      λ t.
+          (omega (
+            arith,
+            start.requires.5 t,
+            instruction-length image ok start.args.lays start.args.cells.now l.cells l.at l.to l.i
+                l.invariant,
+            l.invariant.target,
+            below,
+            few,
+          )),
+    )
+
+pub loop-i-preserved : goal.loop-i-preserved
+loop-i-preserved c =
+    let start = c in
+    let image = start.args.image.now in
+    let ok = start.requires.0 in
+    let l = c.loop-i in
+    next_instruction image ok start.args.lays start.args.cells.now l.cells l.at l.to l.i l.invariant _
+    (omega (arith, c.read_u16-instructions.ensures.equal))
+    (sym c.ask_instruction_in-no.ensures ∙ c.if-no-ne0.false)
+    c.lay_instruction.ensures
+
+pub returns : goal.returns
+returns c =
+    let start = c in
+    let image = start.args.image.now in
+    let ok = start.requires.0 in
+    let l = c.loop-i in
+    let s = instructions_end image ok start.args.lays start.args.cells.now l.cells l.at l.to l.i l.invariant
+    (omega (arith, c.read_u16-instructions.ensures.equal)) in
+    record {
+      no_value = sym s.0;
+      at_value = s.1.0;
+      cells_after = s.1.1;
+    }

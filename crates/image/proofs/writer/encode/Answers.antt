@@ -1,0 +1,36 @@
+-- `encode` meets its contract.
+use Rattle.std.proofs.Common.{rules, ◌≡◌, ◌<◌, ◌≤◌, length, ℕ, ◌+◌, ◌-◌, ◌*◌, ◌/◌, ◌%◌, Bool, true, false, nat_eq, nat_lt, List, [], ◌∷◌, ◌++◌, slice_index_or, slice_set, bit_and, bit_or, Fits, w8, w32, w64, Bor, MutBor}
+use Rattle.std.proofs.lemmas.List.Edits.{sets}
+use Rattle.image.specs.Layout.{rows, block_place, image_length, program_cells, version_of, block_count, instruction_count, block_of, instruction_of, block_bytes, instruction_bytes, header_of, image_of}
+use Rattle.image.specs.Questions.{most_blocks, most_instructions, counts_no}
+use Rattle.image.specs.Doors.{write_no, unless_refused}
+use Rattle.image.proofs.writer.encode.Goals as goal
+use mathlib.Core.Path.{◌∙◌}
+use native.Mathlib.Omega.{arith}
+use Rattle.image.proofs.Counts.{counted, three-cells}
+use Rattle.image.proofs.Written.{encoded}
+use borrow.Author.Rules.{rules}
+
+pub encode_blocks-end-requires : goal.encode_blocks-end-requires
+encode_blocks-end-requires c =
+    let start = c in
+    let k = counted _ _ start.requires.1 in (start.requires.0, k.blocks_fit, omega (arith, c.encode_header.auto.image))
+
+pub encode_instructions-requires : goal.encode_instructions-requires
+encode_instructions-requires c =
+    let start = c in
+    let k = counted _ _ start.requires.1 in (
+      start.requires.0,
+      k.instructions_fit,
+      c.encode_blocks-end.ensures.value,
+      c.encode_blocks-end.auto.image ∙ c.encode_header.auto.image ∙
+          start.requires.2,
+    )
+
+pub returns : goal.returns
+returns c =
+    let start = c in
+    encoded start.args.cells.now start.args.image.now _ _ _
+    c.encode_header.ensures
+    c.encode_blocks-end.ensures.image_after c.encode_instructions.ensures.image_after
+    start.requires.2

@@ -1,0 +1,39 @@
+-- `encode_blocks` meets its contract.
+use Rattle.std.proofs.Common.{rules, ◌≡◌, ◌<◌, ◌≤◌, length, ℕ, ◌+◌, ◌-◌, ◌*◌, ◌/◌, ◌%◌, Bool, true, false, nat_eq, nat_lt, List, [], ◌∷◌, ◌++◌, slice_index_or, slice_set, bit_and, bit_or, Fits, w8, w32, w64, Bor, MutBor}
+use Rattle.std.proofs.lemmas.List.Edits.{sets}
+use Rattle.image.specs.Layout.{rows, block_place, image_length, program_cells, version_of, block_count, instruction_count, block_of, instruction_of, block_bytes, instruction_bytes, header_of, image_of}
+use Rattle.image.specs.Questions.{most_blocks, most_instructions, counts_no}
+use Rattle.image.specs.Doors.{write_no, unless_refused}
+use Rattle.image.proofs.writer.encode_blocks.Goals as goal
+use mathlib.Core.Path.{◌≡◌, refl, ap, ap₂, ◌∙◌}
+use Prim.Native.Nat.{ℕ, ◌+◌, ◌-◌, ◌*◌, ◌≤◌}
+use lib.ListN.{length}
+use lib.Seq.{sets}
+use native.Mathlib.Omega.{arith}
+use Rattle.image.specs.declared.Block.{Block}
+use Rattle.image.specs.Layout.{rows, block_size, block_place, block_cell, version_of, block_count, block_from, block_of, block_bytes}
+use Rattle.image.proofs.Versions.{places_most, block_inside}
+use Rattle.image.proofs.Written.{block_bytes_length}
+use borrow.Author.Rules.{rules}
+use Rattle.image.proofs.Rows.{row-placed}
+
+pub loop-b-init : goal.loop-b-init
+unfolding rows
+loop-b-init c = (omega arith, omega arith, refl, refl, refl)
+
+pub loop-b-preserved : goal.loop-b-preserved
+loop-b-preserved c =
+    let cells = c.args.cells.now in
+    let l = c.loop-b in
+    let version = version_of cells in
+    let rest = c.block_from-k.ensures ∙ ap (block_from cells) l.invariant.2 in
+    let at : l.at ≡ block_place version 0 + block_size version * l.b = omega (arith, l.invariant.1) in (
+      omega arith,
+      omega (arith, l.invariant.1, c.block_size-size.ensures),
+      omega (arith, l.invariant.2),
+      c.put_block_bytes.auto.image ∙ l.invariant.3,
+      row-placed
+          (λ (b : ℕ). block_bytes version (block_of cells b)) (block_size version) (λ b. block_bytes_length version (block_of cells b)) _ l.image _
+          (block_place version 0) l.b l.invariant.4
+          (c.put_block_bytes.ensures ∙ ap₂ (λ (n : ℕ) (k : Block). sets l.image n (block_bytes version k)) at rest),
+    )

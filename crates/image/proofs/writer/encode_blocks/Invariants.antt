@@ -1,0 +1,20 @@
+-- What the loop of `encode_blocks` keeps.
+use mathlib.Core.Path.{◌≡◌, refl, ap, ap₂, ◌∙◌}
+use Prim.Native.Nat.{ℕ, ◌+◌, ◌-◌, ◌*◌, ◌≤◌}
+use lib.ListN.{length}
+use lib.Seq.{sets}
+use native.Mathlib.Omega.{arith}
+use Rattle.image.specs.declared.Block.{Block}
+use Rattle.image.specs.Layout.{rows, block_size, block_place, block_cell, version_of, block_count, block_from, block_of, block_bytes}
+use Rattle.image.proofs.Versions.{places_most, block_inside}
+use Rattle.image.proofs.Written.{block_bytes_length}
+use borrow.Author.Rules.{rules}
+use Rattle.image.proofs.Rows.{row-placed}
+use Rattle.image.proofs.writer.encode_blocks.Given as goal
+
+abbrev pub invariant-loop-b : goal.invariant-loop-b
+invariant-loop-b l = (l.b ≤ block_count l.cells) × (l.at ≡ block_place (version_of l.cells) l.b) × (l.from ≡ block_cell l.b) ×
+    (length l.image ≡ length l.initial.image) × (l.image ≡ sets l.initial.image (block_place (version_of l.cells) 0) (rows (λ (b : ℕ). block_bytes (version_of l.cells) (block_of l.cells b)) l.b))
+
+abbrev pub decreases-loop-b : goal.decreases-loop-b
+decreases-loop-b l = block_count l.cells - l.b

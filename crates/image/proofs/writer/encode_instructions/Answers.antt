@@ -1,0 +1,36 @@
+-- `encode_instructions` meets its contract.
+use Rattle.std.proofs.Common.{rules, ◌≡◌, ◌<◌, ◌≤◌, length, ℕ, ◌+◌, ◌-◌, ◌*◌, ◌/◌, ◌%◌, Bool, true, false, nat_eq, nat_lt, List, [], ◌∷◌, ◌++◌, slice_index_or, slice_set, bit_and, bit_or, Fits, w8, w32, w64, Bor, MutBor}
+use Rattle.std.proofs.lemmas.List.Edits.{sets}
+use Rattle.image.specs.Layout.{rows, block_place, image_length, program_cells, version_of, block_count, instruction_count, block_of, instruction_of, block_bytes, instruction_bytes, header_of, image_of}
+use Rattle.image.specs.Questions.{most_blocks, most_instructions, counts_no}
+use Rattle.image.specs.Doors.{write_no, unless_refused}
+use Rattle.image.proofs.writer.encode_instructions.Goals as goal
+use mathlib.Core.Path.{◌≡◌, refl, ap, ap₂, ◌∙◌}
+use Prim.Native.Nat.{ℕ, ◌-◌, ◌≤◌}
+use lib.ListN.{length}
+use lib.Seq.{sets}
+use native.Mathlib.Omega.{arith}
+use Rattle.int64.specs.Little.{bytes_of}
+use Rattle.image.specs.declared.Instruction.{Instruction}
+use Rattle.image.specs.Layout.{rows, block_place, instruction_place, instruction_cell, version_of, block_count, instruction_count, instruction_from, instruction_of, instruction_bytes}
+use Rattle.image.proofs.Rows.{row-placed}
+
+pub loop-i-init : goal.loop-i-init
+unfolding rows
+loop-i-init c = (omega arith, omega (arith, c.requires.2), refl, refl, refl)
+
+pub loop-i-preserved : goal.loop-i-preserved
+unfolding bytes_of
+loop-i-preserved c =
+    let cells = c.args.cells.now in
+    let l = c.loop-i in
+    let rest = c.instruction_from-x.ensures ∙ ap (instruction_from cells) l.invariant.2 in (
+      omega arith,
+      omega (arith, l.invariant.1),
+      omega (arith, l.invariant.2),
+      c.put_instruction_bytes.auto.image ∙ l.invariant.3,
+      row-placed
+          (λ (i : ℕ). instruction_bytes (instruction_of cells i)) 12 (λ i. refl) _ l.image _ (block_place (version_of cells) (block_count cells)) l.i l.invariant.4
+          (c.put_instruction_bytes.ensures ∙ ap₂ (λ (n : ℕ) (k : Instruction). sets l.image n (instruction_bytes k)) l.invariant.1
+          rest),
+    )
