@@ -1,11 +1,11 @@
 -- An image cut into its fields: what is read from a chunk of bytes is written back as that chunk.
 use mathlib.Core.Path.{◌≡◌, refl, sym, ap, ap₂, ◌∙◌}
-use mathlib.Core.List.{List, [], ◌∷◌, ◌++◌, append_assoc}
+use mathlib.Core.List.{List, ◌++◌}
 use Prim.Native.Nat.{ℕ, zero, suc, ◌+◌, ◌*◌, ◌<◌, ◌≤◌}
 use native.Mathlib.Omega.{arith}
 use native.Mathlib.Nat.{mul-suc}
 use lib.ListN.{length, get_or, take, drop}
-use lib.Seq.{take-add, drop-drop, take_all}
+use lib.Seq.{take-add, drop-drop}
 use Rattle.int64.specs.Little.{little, bytes_of}
 use Rattle.int64.proofs.Little.{bytes_of_little}
 use Rattle.image.specs.Layout.{rows, most_pairs, block_size, block_in, block_bytes, instruction_in, instruction_bytes}

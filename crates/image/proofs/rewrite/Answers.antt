@@ -1,5 +1,4 @@
 -- `rewrite` meets its contract.
-use Rattle.std.proofs.Common.{rules, ◌≡◌, length, ℕ, ◌+◌, ◌-◌, ◌*◌, ◌<◌, ◌≤◌, ◌/◌, ◌%◌, Bool, true, false, nat_eq, nat_lt, List, [], ◌∷◌, ◌++◌, slice_index_or, slice_set, bit_and, bit_or, Fits, w8, w32, w64, Bor, MutBor}
 use Rattle.image.specs.Doors.{rewrite_no, unless_refused}
 use Rattle.image.proofs.rewrite.Goals as goal
 use mathlib.Core.Path.{refl, sym, ap, ◌∙◌}
@@ -10,7 +9,6 @@ use Rattle.image.specs.Doors.{rewrite_no, image_no, unless_refused}
 use Rattle.image.proofs.Header.{cells_in_version, cells_in_blocks, cells_in_instructions, cells_in_counts, cells_in_length}
 use Rattle.image.proofs.Walked.{scanned-accepted}
 use Rattle.image.proofs.RoundTrip.{image_accepted, same_bytes_lem}
-use borrow.Author.Rules.{rules}
 
 pub returns-then-no-ne0 : goal.returns-then-no-ne0
 unfolding rewrite_no unless_refused

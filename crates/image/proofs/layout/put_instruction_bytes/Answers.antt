@@ -1,9 +1,7 @@
 -- `put_instruction_bytes` meets its contract.
-use Rattle.std.proofs.Common.{rules, ◌≡◌, ◌++◌, ◌+◌, ◌<◌, ◌≤◌, length, ℕ, ◌-◌, ◌*◌, ◌/◌, ◌%◌, Bool, true, false, nat_eq, nat_lt, List, [], ◌∷◌, slice_index_or, slice_set, bit_and, bit_or, Fits, w8, w32, w64, Bor, MutBor}
+use Rattle.std.proofs.Common.{◌++◌, ◌+◌, ℕ, List}
 use Rattle.std.proofs.lemmas.List.Edits.{sets}
-use Rattle.int64.specs.Little.{little, bytes_of}
-use Rattle.image.specs.Layout.{most_pairs, block_size, image_length, version_of, block_count, instruction_count, block_in, block_bytes, block_from, block_cell, block_of, block_cells, instruction_in, instruction_bytes, instruction_from, instruction_cell, instruction_of, instruction_cells}
-use Rattle.image.specs.Questions.{most_blocks, most_instructions}
+use Rattle.int64.specs.Little.{bytes_of}
 use Rattle.image.proofs.layout.put_instruction_bytes.Goals as goal
 use mathlib.Core.Path.{refl, ap, ◌∙◌}
 use mathlib.Core.List.{List, ◌++◌}
@@ -11,7 +9,6 @@ use Prim.Native.Nat.{ℕ, ◌+◌}
 use lib.Seq.{sets}
 use Rattle.int64.specs.Little.{bytes_of}
 use Rattle.image.proofs.Rows.{placed}
-use borrow.Author.Rules.{rules}
 
 pub returns : goal.returns
 unfolding bytes_of

@@ -1,13 +1,9 @@
 -- What the loop of `ask_blocks` keeps.
-use mathlib.Core.Path.{◌≡◌, sym, ◌∙◌, subst}
-use Prim.Native.Nat.{ℕ, ◌-◌, ◌≤◌}
+use mathlib.Core.Path.{◌≡◌}
+use Prim.Native.Nat.{◌-◌, ◌≤◌}
 use Rattle.image.specs.Questions.{first_no, block_no}
 use Rattle.image.specs.Layout.{block_count}
 use Rattle.image.specs.Marks.{Marked}
-use Rattle.image.proofs.Asked.{begins, its_goes_on, decides, no_more}
-use Rattle.image.proofs.Accepted.{block_is}
-use Rattle.image.proofs.Marking.{marked_more}
-use native.Mathlib.Omega.{arith}
 use Rattle.image.proofs.questions.ask_blocks.Given as goal
 
 abbrev pub invariant-loop-b : goal.invariant-loop-b

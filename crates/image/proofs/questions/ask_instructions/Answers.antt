@@ -1,22 +1,15 @@
 -- `ask_instructions` meets its contract.
-use Rattle.std.proofs.Common.{rules, ◌≡◌, ℕ, ◌+◌, ◌-◌, ◌*◌, ◌<◌, ◌≤◌, eqb, length, ◌/◌, ◌%◌, Bool, true, false, nat_lt, List, [], ◌∷◌, ◌++◌, slice_index_or, slice_set, bit_and, bit_or, Fits, w8, w32, w64, Bor, MutBor}
-use Rattle.std.proofs.lemmas.List.Edits.{sets}
-use Rattle.image.specs.Layout.{rows, most_pairs, version_of, block_count, instruction_count, block_cell, instruction_cell, block_of}
-use Rattle.image.specs.Questions.{version_no, most_blocks, most_instructions, counts_no, in_order, rising, unjoined, joined, annotated, block_no, first_no, last_opcode, ends_block, fields, laid_out, instruction_no, records_no, program_no}
-use Rattle.image.specs.Records.{block_record_no, instruction_record_no}
-use Rattle.image.specs.Marks.{flag, Marked, Ended}
-use Rattle.image.specs.Limits.{limit_row, limits_at, limit_rows, largest_of, Limited, blocks_by}
-use Rattle.image.proofs.questions.ask_instructions.Goals as goal
-use mathlib.Core.Path.{◌≡◌, sym, ap, ◌∙◌}
-use Prim.Native.Nat.{◌+◌, ◌-◌, ◌≤◌}
-use native.Mathlib.Omega.{arith}
-use lib.ListN.{get_or}
-use Rattle.image.specs.Layout.{block_count, instruction_count, program_of}
-use Rattle.image.specs.Questions.{first_no, last_in_block, instruction_no}
+use Rattle.image.specs.Layout.{block_count, instruction_count}
+use Rattle.image.specs.Questions.{instruction_no}
 use Rattle.image.specs.Records.{instruction_record_no}
-use Rattle.image.proofs.Asked.{begins, its_goes_on, decides, no_more}
-use Rattle.image.proofs.Marking.{mark_told}
-use Rattle.image.proofs.Limiting.{limited_by, asked_by, asked-held, not-held}
+use Rattle.image.proofs.questions.ask_instructions.Goals as goal
+use mathlib.Core.Path.{sym, ap, ◌∙◌}
+use native.Mathlib.Omega.{arith}
+use Rattle.image.specs.Layout.{block_count, instruction_count, program_of}
+use Rattle.image.specs.Questions.{last_in_block, instruction_no}
+use Rattle.image.specs.Records.{instruction_record_no}
+use Rattle.image.proofs.Asked.{its_goes_on, decides, no_more}
+use Rattle.image.proofs.Limiting.{asked_by, asked-held, not-held}
 
 pub returns-then-no-ne0 : goal.returns-then-no-ne0
 returns-then-no-ne0 c =

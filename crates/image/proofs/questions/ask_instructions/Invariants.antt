@@ -1,14 +1,8 @@
 -- What the loop of `ask_instructions` keeps.
-use mathlib.Core.Path.{◌≡◌, sym, ap, ◌∙◌}
-use Prim.Native.Nat.{◌+◌, ◌-◌, ◌≤◌}
-use native.Mathlib.Omega.{arith}
-use lib.ListN.{get_or}
-use Rattle.image.specs.Layout.{block_count, instruction_count, program_of}
-use Rattle.image.specs.Questions.{first_no, last_in_block, instruction_no}
-use Rattle.image.specs.Records.{instruction_record_no}
-use Rattle.image.proofs.Asked.{begins, its_goes_on, decides, no_more}
-use Rattle.image.proofs.Marking.{mark_told}
-use Rattle.image.proofs.Limiting.{limited_by, asked_by, asked-held, not-held}
+use mathlib.Core.Path.{◌≡◌}
+use Prim.Native.Nat.{◌-◌, ◌≤◌}
+use Rattle.image.specs.Layout.{instruction_count}
+use Rattle.image.specs.Questions.{first_no, instruction_no}
 use Rattle.image.proofs.questions.ask_instructions.Given as goal
 
 abbrev pub invariant-loop-i : goal.invariant-loop-i

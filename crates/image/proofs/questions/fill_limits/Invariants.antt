@@ -1,13 +1,10 @@
 -- What the loop of `fill_limits` keeps.
-use mathlib.Core.Path.{◌≡◌, refl, ap, ◌∙◌}
-use mathlib.Core.List.{List}
-use Prim.Native.Nat.{ℕ, ◌-◌, ◌≤◌}
+use mathlib.Core.Path.{◌≡◌}
+use Prim.Native.Nat.{◌-◌, ◌≤◌}
 use lib.ListN.{length}
 use lib.Seq.{sets}
 use Rattle.image.specs.Layout.{rows}
 use Rattle.image.specs.Limits.{limits_at}
-use Rattle.image.proofs.Limiting.{row-filled}
-use native.Mathlib.Omega.{arith}
 use Rattle.image.proofs.questions.fill_limits.Given as goal
 
 abbrev pub invariant-loop-row : goal.invariant-loop-row

@@ -1,8 +1,6 @@
 -- What the loop of `is_rising` keeps.
-use mathlib.Core.Path.{◌≡◌, refl, sym, ◌∙◌}
+use mathlib.Core.Path.{◌≡◌}
 use Rattle.image.specs.Questions.{rising}
-use Rattle.image.proofs.Pairs.{rising_falls, rising-goes-on, rising_none, rising-one}
-use native.Mathlib.Omega.{arith}
 use Rattle.image.proofs.questions.is_rising.Given as goal
 
 abbrev pub invariant-loop-n : goal.invariant-loop-n

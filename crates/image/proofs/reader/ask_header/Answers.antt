@@ -1,16 +1,11 @@
 -- `ask_header` meets its contract.
-use Rattle.std.proofs.Common.{rules, ◌≡◌, true, cond, ◌≤◌, length, replicate, ℕ, ◌+◌, ◌-◌, ◌*◌, ◌<◌, ◌/◌, ◌%◌, Bool, false, nat_eq, nat_lt, List, [], ◌∷◌, ◌++◌, slice_index_or, slice_set, bit_and, bit_or, Fits, w8, w32, w64, Bor, MutBor}
-use Rattle.image.specs.Layout.{program_cells, cells_in}
-use Rattle.image.specs.Doors.{mark_in, header_no, image_no, read_no, unless_refused}
-use Rattle.image.specs.Offset.{offset_in}
-use Rattle.image.specs.Walked.{scanned}
+use Rattle.image.specs.Doors.{header_no}
 use Rattle.image.proofs.reader.ask_header.Goals as goal
 use mathlib.Core.Path.{sym, ◌∙◌}
 use borrow.Author.Tests.{le-leb, lt-leb, eq-eqb, ne_eqb, not-true, not-false}
 use Rattle.image.specs.Doors.{header_no}
 use Rattle.image.proofs.Asked.{or_else_no, or_else_yes}
 use Rattle.image.proofs.Counts.{counted}
-use borrow.Author.Rules.{rules}
 
 pub returns-then-image-lt8 : goal.returns-then-image-lt8
 unfolding header_no

@@ -1,10 +1,7 @@
 -- What the loop of `copy` keeps.
-use mathlib.Core.Path.{◌≡◌, refl, ◌∙◌}
+use mathlib.Core.Path.{◌≡◌}
 use Prim.Native.Nat.{ℕ, ◌-◌, ◌<◌, ◌≤◌}
-use lib.ListN.{length, get_or, length-set}
-use lib.Seq.{ext_get_or}
-use Rattle.image.proofs.Copying.{copied_more}
-use native.Mathlib.Omega.{arith}
+use lib.ListN.{length, get_or}
 use Rattle.image.proofs.reader.copy.Given as goal
 
 abbrev pub invariant-loop-i : goal.invariant-loop-i

@@ -1,24 +1,19 @@
 -- `walk_image` meets its contract.
-use Rattle.std.proofs.Common.{rules, ◌≡◌, true, cond, ◌≤◌, length, replicate, ℕ, ◌+◌, ◌-◌, ◌*◌, ◌<◌, ◌/◌, ◌%◌, Bool, false, nat_eq, nat_lt, List, [], ◌∷◌, ◌++◌, slice_index_or, slice_set, bit_and, bit_or, Fits, w8, w32, w64, Bor, MutBor}
+use Rattle.std.proofs.Common.{◌≡◌, length, ℕ}
 use Rattle.image.specs.Layout.{program_cells, cells_in}
-use Rattle.image.specs.Doors.{mark_in, header_no, image_no, read_no, unless_refused}
-use Rattle.image.specs.Offset.{offset_in}
-use Rattle.image.specs.Walked.{scanned}
+use Rattle.image.specs.Doors.{header_no, image_no}
 use Rattle.image.proofs.reader.walk_image.Goals as goal
 use mathlib.Core.Path.{◌≡◌, sym, ap, ◌∙◌}
-use mathlib.Core.List.{List, [], ◌∷◌}
 use Prim.Native.Nat.{ℕ}
 use lib.ListN.{length, length-replicate}
 use native.Mathlib.Omega.{arith}
-use Rattle.image.specs.Layout.{version_in, blocks_in, instructions_in, program_cells, cells_in}
+use Rattle.image.specs.Layout.{program_cells, cells_in}
 use Rattle.image.specs.Questions.{records_no}
 use Rattle.image.specs.Doors.{header_no, image_no}
 use Rattle.image.proofs.Asked.{or_else_no, or_else_yes}
 use Rattle.image.proofs.Header.{header}
-use Rattle.image.proofs.Walking.{laid_length}
 use Rattle.image.proofs.Offset.{offset_unread}
 use Rattle.image.proofs.Walked.{scanned-none, scanned-records}
-use borrow.Author.Rules.{rules}
 
 pub returns-then-no-ne0 : goal.returns-then-no-ne0
 unfolding image_no

@@ -1,23 +1,15 @@
 -- `walk_blocks` meets its contract.
-use Rattle.std.proofs.Common.{rules, ◌≡◌, true, cond, [], ◌∷◌, ◌+◌, ◌-◌, ◌<◌, ◌≤◌, length, ℕ, ◌*◌, ◌/◌, ◌%◌, Bool, false, nat_eq, nat_lt, List, ◌++◌, slice_index_or, slice_set, bit_and, bit_or, Fits, w8, w32, w64, Bor, MutBor}
-use Rattle.std.proofs.lemmas.List.Edits.{sets}
-use Rattle.image.specs.Layout.{block_place, instruction_place, version_in, blocks_in, instructions_in, program_cells, block_in, instruction_in, block_cells, instruction_cells, cells_in}
-use Rattle.image.specs.Questions.{first_no, block_no, last_opcode, instruction_no, records_no}
-use Rattle.image.specs.Marks.{Marked, Ended}
-use Rattle.image.specs.Limits.{Limited}
-use Rattle.image.specs.Doors.{header_no}
-use Rattle.image.specs.Offset.{blocks_passed, blocks_offset, instructions_offset, offset_in}
-use Rattle.image.specs.Walked.{blocks_walked, instructions_walked, records_walked}
+use Rattle.std.proofs.Common.{◌≡◌, ℕ}
+use Rattle.image.specs.Layout.{block_place, version_in, block_in}
 use Rattle.image.proofs.walk.walk_blocks.Goals as goal
-use Prim.Native.Nat.{ℕ, ◌-◌}
-use borrow.Author.Rules.{rules}
+use Prim.Native.Nat.{ℕ}
 use mathlib.Core.Path.{◌≡◌, sym, ap, ap₂, ◌∙◌}
 use native.Mathlib.Omega.{arith}
 use Rattle.image.specs.declared.Block.{Block}
-use Rattle.image.specs.Layout.{most_pairs, block_size, block_place, version_in, blocks_in, block_in}
+use Rattle.image.specs.Layout.{most_pairs, block_size, block_place, version_in, block_in}
 use Rattle.image.proofs.Counts.{counted}
 use Rattle.image.proofs.Header.{header}
-use Rattle.image.proofs.Walks.{AtBlock, blocks-begin, next_block, block_refused, blocks_end, block_length, block_within, first_below}
+use Rattle.image.proofs.Walks.{blocks-begin, next_block, block_refused, blocks_end, block_within, first_below}
 
 pub read_u16-version-requires : goal.read_u16-version-requires
 read_u16-version-requires c =

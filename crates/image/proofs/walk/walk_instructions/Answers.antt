@@ -1,22 +1,10 @@
 -- `walk_instructions` meets its contract.
-use Rattle.std.proofs.Common.{rules, ◌≡◌, true, cond, [], ◌∷◌, ◌+◌, ◌-◌, ◌<◌, ◌≤◌, length, ℕ, ◌*◌, ◌/◌, ◌%◌, Bool, false, nat_eq, nat_lt, List, ◌++◌, slice_index_or, slice_set, bit_and, bit_or, Fits, w8, w32, w64, Bor, MutBor}
-use Rattle.std.proofs.lemmas.List.Edits.{sets}
-use Rattle.image.specs.Layout.{block_place, instruction_place, version_in, blocks_in, instructions_in, program_cells, block_in, instruction_in, block_cells, instruction_cells, cells_in}
-use Rattle.image.specs.Questions.{first_no, block_no, last_opcode, instruction_no, records_no}
-use Rattle.image.specs.Marks.{Marked, Ended}
-use Rattle.image.specs.Limits.{Limited}
-use Rattle.image.specs.Doors.{header_no}
-use Rattle.image.specs.Offset.{blocks_passed, blocks_offset, instructions_offset, offset_in}
-use Rattle.image.specs.Walked.{blocks_walked, instructions_walked, records_walked}
 use Rattle.image.proofs.walk.walk_instructions.Goals as goal
 use mathlib.Core.Path.{sym, ◌∙◌}
-use Prim.Native.Nat.{◌-◌}
 use native.Mathlib.Omega.{arith}
-use Rattle.image.specs.Layout.{version_in, blocks_in, instructions_in}
-use Rattle.image.proofs.Versions.{places_most}
 use Rattle.image.proofs.Counts.{counted}
 use Rattle.image.proofs.Header.{header}
-use Rattle.image.proofs.Walks.{AtInstruction, instructions-begin, next_instruction, instruction-refused, instructions_end, instruction-length}
+use Rattle.image.proofs.Walks.{instructions-begin, next_instruction, instruction-refused, instructions_end, instruction-length}
 
 pub read_u16-instructions-requires : goal.read_u16-instructions-requires
 read_u16-instructions-requires c =

@@ -1,13 +1,8 @@
 -- `walk_records` meets its contract.
-use Rattle.std.proofs.Common.{rules, ◌≡◌, true, cond, [], ◌∷◌, ◌+◌, ◌-◌, ◌<◌, ◌≤◌, length, ℕ, ◌*◌, ◌/◌, ◌%◌, Bool, false, nat_eq, nat_lt, List, ◌++◌, slice_index_or, slice_set, bit_and, bit_or, Fits, w8, w32, w64, Bor, MutBor}
-use Rattle.std.proofs.lemmas.List.Edits.{sets}
-use Rattle.image.specs.Layout.{block_place, instruction_place, version_in, blocks_in, instructions_in, program_cells, block_in, instruction_in, block_cells, instruction_cells, cells_in}
-use Rattle.image.specs.Questions.{first_no, block_no, last_opcode, instruction_no, records_no}
-use Rattle.image.specs.Marks.{Marked, Ended}
-use Rattle.image.specs.Limits.{Limited}
-use Rattle.image.specs.Doors.{header_no}
-use Rattle.image.specs.Offset.{blocks_passed, blocks_offset, instructions_offset, offset_in}
-use Rattle.image.specs.Walked.{blocks_walked, instructions_walked, records_walked}
+use Rattle.std.proofs.Common.{◌≡◌}
+use Rattle.image.specs.Layout.{version_in, blocks_in, instructions_in, cells_in}
+use Rattle.image.specs.Questions.{first_no, block_no, last_opcode, instruction_no}
+use Rattle.image.specs.Offset.{blocks_passed}
 use Rattle.image.proofs.walk.walk_records.Goals as goal
 use mathlib.Core.Path.{◌≡◌, sym, ap, ◌∙◌}
 use native.Mathlib.Omega.{arith}
@@ -24,7 +19,6 @@ use Rattle.image.proofs.Walking.{laid_length}
 use Rattle.image.proofs.Offset.{records-no, offset_at_block, offset_past-blocks, past-blocks}
 use Rattle.image.proofs.Walked.{walked-to_block, walked-past-blocks}
 use Rattle.image.proofs.Walks.{end_marked}
-use borrow.Author.Rules.{rules}
 
 pub walk_blocks-walked-requires : goal.walk_blocks-walked-requires
 walk_blocks-walked-requires c =

@@ -1,20 +1,15 @@
 -- `encode_blocks` meets its contract.
-use Rattle.std.proofs.Common.{rules, ◌≡◌, ◌<◌, ◌≤◌, length, ℕ, ◌+◌, ◌-◌, ◌*◌, ◌/◌, ◌%◌, Bool, true, false, nat_eq, nat_lt, List, [], ◌∷◌, ◌++◌, slice_index_or, slice_set, bit_and, bit_or, Fits, w8, w32, w64, Bor, MutBor}
+use Rattle.std.proofs.Common.{◌≡◌, ℕ, ◌+◌, ◌*◌}
 use Rattle.std.proofs.lemmas.List.Edits.{sets}
-use Rattle.image.specs.Layout.{rows, block_place, image_length, program_cells, version_of, block_count, instruction_count, block_of, instruction_of, block_bytes, instruction_bytes, header_of, image_of}
-use Rattle.image.specs.Questions.{most_blocks, most_instructions, counts_no}
-use Rattle.image.specs.Doors.{write_no, unless_refused}
+use Rattle.image.specs.Layout.{rows, block_place, version_of, block_of, block_bytes}
 use Rattle.image.proofs.writer.encode_blocks.Goals as goal
 use mathlib.Core.Path.{◌≡◌, refl, ap, ap₂, ◌∙◌}
-use Prim.Native.Nat.{ℕ, ◌+◌, ◌-◌, ◌*◌, ◌≤◌}
-use lib.ListN.{length}
+use Prim.Native.Nat.{ℕ, ◌+◌, ◌*◌}
 use lib.Seq.{sets}
 use native.Mathlib.Omega.{arith}
 use Rattle.image.specs.declared.Block.{Block}
-use Rattle.image.specs.Layout.{rows, block_size, block_place, block_cell, version_of, block_count, block_from, block_of, block_bytes}
-use Rattle.image.proofs.Versions.{places_most, block_inside}
+use Rattle.image.specs.Layout.{rows, block_size, block_place, version_of, block_from, block_of, block_bytes}
 use Rattle.image.proofs.Written.{block_bytes_length}
-use borrow.Author.Rules.{rules}
 use Rattle.image.proofs.Rows.{row-placed}
 
 pub loop-b-init : goal.loop-b-init

@@ -1,15 +1,9 @@
 -- What the loop of `encode_blocks` keeps.
-use mathlib.Core.Path.{◌≡◌, refl, ap, ap₂, ◌∙◌}
-use Prim.Native.Nat.{ℕ, ◌+◌, ◌-◌, ◌*◌, ◌≤◌}
+use mathlib.Core.Path.{◌≡◌}
+use Prim.Native.Nat.{ℕ, ◌-◌, ◌≤◌}
 use lib.ListN.{length}
 use lib.Seq.{sets}
-use native.Mathlib.Omega.{arith}
-use Rattle.image.specs.declared.Block.{Block}
-use Rattle.image.specs.Layout.{rows, block_size, block_place, block_cell, version_of, block_count, block_from, block_of, block_bytes}
-use Rattle.image.proofs.Versions.{places_most, block_inside}
-use Rattle.image.proofs.Written.{block_bytes_length}
-use borrow.Author.Rules.{rules}
-use Rattle.image.proofs.Rows.{row-placed}
+use Rattle.image.specs.Layout.{rows, block_place, block_cell, version_of, block_count, block_of, block_bytes}
 use Rattle.image.proofs.writer.encode_blocks.Given as goal
 
 abbrev pub invariant-loop-b : goal.invariant-loop-b

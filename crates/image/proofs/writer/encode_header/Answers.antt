@@ -1,18 +1,12 @@
 -- `encode_header` meets its contract.
-use Rattle.std.proofs.Common.{rules, ◌≡◌, ◌<◌, ◌≤◌, length, ℕ, ◌+◌, ◌-◌, ◌*◌, ◌/◌, ◌%◌, Bool, true, false, nat_eq, nat_lt, List, [], ◌∷◌, ◌++◌, slice_index_or, slice_set, bit_and, bit_or, Fits, w8, w32, w64, Bor, MutBor}
-use Rattle.std.proofs.lemmas.List.Edits.{sets}
-use Rattle.image.specs.Layout.{rows, block_place, image_length, program_cells, version_of, block_count, instruction_count, block_of, instruction_of, block_bytes, instruction_bytes, header_of, image_of}
-use Rattle.image.specs.Questions.{most_blocks, most_instructions, counts_no}
-use Rattle.image.specs.Doors.{write_no, unless_refused}
+use Rattle.std.proofs.Common.{◌++◌}
+use Rattle.image.specs.Layout.{version_of, block_count, instruction_count}
 use Rattle.image.proofs.writer.encode_header.Goals as goal
-use mathlib.Core.Path.{◌≡◌, refl, ◌∙◌}
+use mathlib.Core.Path.{refl}
 use mathlib.Core.List.{◌++◌}
-use lib.ListN.{length, length-set}
 use Rattle.image.proofs.Rows.{placed}
 use Rattle.int64.specs.Little.{bytes_of}
 use Rattle.image.specs.Layout.{mark, version_of, block_count, instruction_count}
-use borrow.Author.Rules.{rules}
-use native.Mathlib.Omega.{arith}
 
 pub returns : goal.returns
 unfolding bytes_of

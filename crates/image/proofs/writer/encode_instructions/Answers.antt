@@ -1,18 +1,15 @@
 -- `encode_instructions` meets its contract.
-use Rattle.std.proofs.Common.{rules, ◌≡◌, ◌<◌, ◌≤◌, length, ℕ, ◌+◌, ◌-◌, ◌*◌, ◌/◌, ◌%◌, Bool, true, false, nat_eq, nat_lt, List, [], ◌∷◌, ◌++◌, slice_index_or, slice_set, bit_and, bit_or, Fits, w8, w32, w64, Bor, MutBor}
+use Rattle.std.proofs.Common.{ℕ}
 use Rattle.std.proofs.lemmas.List.Edits.{sets}
-use Rattle.image.specs.Layout.{rows, block_place, image_length, program_cells, version_of, block_count, instruction_count, block_of, instruction_of, block_bytes, instruction_bytes, header_of, image_of}
-use Rattle.image.specs.Questions.{most_blocks, most_instructions, counts_no}
-use Rattle.image.specs.Doors.{write_no, unless_refused}
+use Rattle.image.specs.Layout.{rows, block_place, version_of, block_count, instruction_of, instruction_bytes}
 use Rattle.image.proofs.writer.encode_instructions.Goals as goal
-use mathlib.Core.Path.{◌≡◌, refl, ap, ap₂, ◌∙◌}
-use Prim.Native.Nat.{ℕ, ◌-◌, ◌≤◌}
-use lib.ListN.{length}
+use mathlib.Core.Path.{refl, ap, ap₂, ◌∙◌}
+use Prim.Native.Nat.{ℕ}
 use lib.Seq.{sets}
 use native.Mathlib.Omega.{arith}
 use Rattle.int64.specs.Little.{bytes_of}
 use Rattle.image.specs.declared.Instruction.{Instruction}
-use Rattle.image.specs.Layout.{rows, block_place, instruction_place, instruction_cell, version_of, block_count, instruction_count, instruction_from, instruction_of, instruction_bytes}
+use Rattle.image.specs.Layout.{rows, block_place, version_of, block_count, instruction_from, instruction_of, instruction_bytes}
 use Rattle.image.proofs.Rows.{row-placed}
 
 pub loop-i-init : goal.loop-i-init

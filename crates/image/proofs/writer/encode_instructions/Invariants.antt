@@ -1,13 +1,9 @@
 -- What the loop of `encode_instructions` keeps.
-use mathlib.Core.Path.{◌≡◌, refl, ap, ap₂, ◌∙◌}
+use mathlib.Core.Path.{◌≡◌}
 use Prim.Native.Nat.{ℕ, ◌-◌, ◌≤◌}
 use lib.ListN.{length}
 use lib.Seq.{sets}
-use native.Mathlib.Omega.{arith}
-use Rattle.int64.specs.Little.{bytes_of}
-use Rattle.image.specs.declared.Instruction.{Instruction}
-use Rattle.image.specs.Layout.{rows, block_place, instruction_place, instruction_cell, version_of, block_count, instruction_count, instruction_from, instruction_of, instruction_bytes}
-use Rattle.image.proofs.Rows.{row-placed}
+use Rattle.image.specs.Layout.{rows, block_place, instruction_place, instruction_cell, version_of, block_count, instruction_count, instruction_of, instruction_bytes}
 use Rattle.image.proofs.writer.encode_instructions.Given as goal
 
 abbrev pub invariant-loop-i : goal.invariant-loop-i

@@ -1,8 +1,4 @@
 -- `write` meets its contract.
-use Rattle.std.proofs.Common.{rules, ◌≡◌, ◌<◌, ◌≤◌, length, ℕ, ◌+◌, ◌-◌, ◌*◌, ◌/◌, ◌%◌, Bool, true, false, nat_eq, nat_lt, List, [], ◌∷◌, ◌++◌, slice_index_or, slice_set, bit_and, bit_or, Fits, w8, w32, w64, Bor, MutBor}
-use Rattle.std.proofs.lemmas.List.Edits.{sets}
-use Rattle.image.specs.Layout.{rows, block_place, image_length, program_cells, version_of, block_count, instruction_count, block_of, instruction_of, block_bytes, instruction_bytes, header_of, image_of}
-use Rattle.image.specs.Questions.{most_blocks, most_instructions, counts_no}
 use Rattle.image.specs.Doors.{write_no, unless_refused}
 use Rattle.image.proofs.writer.write.Goals as goal
 use mathlib.Core.Path.{refl, sym, ◌∙◌}
@@ -11,7 +7,6 @@ use Rattle.image.proofs.Asked.{or_else_no, or_else_yes}
 use Rattle.image.proofs.Counts.{counted}
 use Rattle.image.specs.Questions.{program_no}
 use Rattle.image.proofs.Counts.{program-counted}
-use borrow.Author.Rules.{rules}
 
 pub returns-then-no-ne0 : goal.returns-then-no-ne0
 unfolding write_no unless_refused
