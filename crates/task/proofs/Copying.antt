@@ -1,13 +1,11 @@
 -- Each way through a function of a join, with plain variables for what the code has there.
 use mathlib.Core.Path.{◌≡◌, refl, sym, ap, ◌∙◌}
 use mathlib.Core.Bool.{true, false}
-use mathlib.Core.List.{List, [], ◌∷◌}
+use mathlib.Core.List.{List}
 use mathlib.Core.Option.{Option, none, some}
 use Prim.Native.Nat.{ℕ, zero, suc, ◌-◌, ◌/◌, ◌%◌, ◌<◌, ◌≤◌}
 use native.Mathlib.Omega.{arith}
 use lib.ListN.{get_or, set}
-use types.Run.{OneOf, miss}
-use denote.Enum.Declared.{tag_of}
 use Rattle.facts.proofs.Tests.{clash}
 use Rattle.image.specs.declared.Block.{Block}
 use Rattle.image.specs.Program.{Program}
@@ -20,15 +18,14 @@ use Rattle.task.specs.declared.Joint.{Joint}
 use Rattle.task.specs.Frames.{zero_register, zero_fork, fault_of}
 use Rattle.task.specs.Step.{copied, outward_task, first_fault, joined_by, join}
 use Rattle.task.specs.Execute.{status_by, joint_by, joint_of, joint_registers, joint_stack}
-use Rattle.task.specs.contracts.Status.{the_type}
 
--- a status that the other arm of a match has is no fault
-pub no_fault : (s : Status) → OneOf (0 ∷ 1 ∷ 2 ∷ 3 ∷ []) (tag_of the_type s) → fault_of s ≡ none
+-- a status other than `Faulted` has no fault
+pub no_fault : (s : Status) → ((n : ℕ) → s ≡ Faulted n → ⊥) → fault_of s ≡ none
 no_fault Vacant k = refl
 no_fault Running k = refl
 no_fault Waiting k = refl
 no_fault Halted k = refl
-no_fault (Faulted n) k = absurd (miss (0 ∷ 1 ∷ 2 ∷ 3 ∷ []) 4 tt k)
+no_fault (Faulted n) k = absurd (k n refl)
 
 module _ (child : List Register) where
   pub copies_first : (n packed : ℕ) (l : List Register) → 0 < n
@@ -59,7 +56,7 @@ module _ (program : Program) (p c : Task) {s : Status} (h : s ≡ status_by (fir
       go none e = let z : ◌≡◌ {A = ℕ} 0 1 = cc in absurd (omega arith)
       go (some m) e = ap (λ (f : Status). record { task = outward_task f 0 0 p c; faulted = true; pairs = 0; packed = 0 }) (sym e)
 
-  pub joins-running : OneOf (0 ∷ 1 ∷ 2 ∷ 3 ∷ []) (tag_of the_type s) → {b : Block} {pc : ℕ} {t : Task} → b ≡ program.block continuation
+  pub joins-running : ((n : ℕ) → s ≡ Faulted n → ⊥) → {b : Block} {pc : ℕ} {t : Task} → b ≡ program.block continuation
       → pc ≡ (program.block b.label).first → t ≡ outward_task Running pc p.height p c
       → record { task = t; faulted = false; pairs = b.pairs; packed = b.packed } ≡ joint_of program p c
   unfolding joint_of
