@@ -1,0 +1,14 @@
+-- `is_clear` meets its contract.
+use Rattle.std.proofs.Common.{get_or, eqb, sym, ◌∙◌, arith}
+use borrow.Author.Tests.{eq-eqb, ne_eqb}
+use Rattle.task.proofs.EveryLaws.{every-goes-on, every-stops, every-ends}
+use Rattle.shape.proofs.tiling.is_clear.Goals as goal
+
+pub returns-then-codes-i-ne0 : goal.returns-then-codes-i-ne0
+returns-then-codes-i-ne0 c = sym (c.loop-i.invariant.2 ∙ every-stops (λ i. eqb (get_or c.args.codes.now i 0) 0) c.args.to c.loop-i.i c.loop-i-test.true (ne_eqb _ _ c.if-codes-i-ne0.true))
+
+pub loop-i-preserved : goal.loop-i-preserved
+loop-i-preserved c = (omega arith, omega arith, c.loop-i.invariant.2 ∙ every-goes-on (λ i. eqb (get_or c.args.codes.now i 0) 0) c.args.to c.loop-i.i c.loop-i-test.true (eq-eqb _ _ c.if-codes-i-ne0.false))
+
+pub returns : goal.returns
+returns c = sym (c.loop-i.invariant.2 ∙ every-ends (λ i. eqb (get_or c.args.codes.now i 0) 0) c.args.to c.loop-i.i c.loop-i-test.false)
