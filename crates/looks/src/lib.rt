@@ -48,7 +48,7 @@ pub fn walk(tasks: &[Task], from: Look) -> Look
     l
 }
 
-// The same over an array that is passed by value and lent here: a caller that lent it itself would need a proof by hand too.
+// The same over an array that is passed by value and lent here.
 pub fn walk_array(tasks: [Task; 64], from: Look) -> Look
     ensures { result ≡ walked tasks from }
 {
