@@ -6,7 +6,10 @@ use Rattle.task.specs.Formed.{every, fork_fits}
 use Rattle.shape.proofs.tasks.forks_fit.Given as goal
 
 abbrev pub invariant-loop-i : goal.invariant-loop-i
-invariant-loop-i l = (l.i ≤ 6) × (every (λ i. fork_fits (program_of l.cells) (ltb i l.depth) (get_or l.forks i zero_fork)) 6 0 ≡ every (λ i. fork_fits (program_of l.cells) (ltb i l.depth) (get_or l.forks i zero_fork)) (6 - l.i) l.i)
+invariant-loop-i l =
+    (l.i ≤ 6)
+    × (every (λ i. fork_fits (program_of l.cells) (ltb i l.depth) (get_or l.forks i zero_fork)) 6 0
+    ≡ every (λ i. fork_fits (program_of l.cells) (ltb i l.depth) (get_or l.forks i zero_fork)) (6 - l.i) l.i)
 
 abbrev pub decreases-loop-i : goal.decreases-loop-i
 decreases-loop-i l = 6 - l.i

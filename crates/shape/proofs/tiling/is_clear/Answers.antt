@@ -5,10 +5,22 @@ use Rattle.task.proofs.EveryLaws.{every-goes-on, every-stops, every-ends}
 use Rattle.shape.proofs.tiling.is_clear.Goals as goal
 
 pub returns-then-codes-i-ne0 : goal.returns-then-codes-i-ne0
-returns-then-codes-i-ne0 c = sym (c.loop-i.invariant.2 ∙ every-stops (λ i. eqb (get_or c.args.codes.now i 0) 0) c.args.to c.loop-i.i c.loop-i-test.true (ne_eqb _ _ c.if-codes-i-ne0.true))
+returns-then-codes-i-ne0 c =
+    let a = c.args in
+    let l = c.loop-i in
+    sym (l.invariant.2 ∙ every-stops (λ i. eqb (get_or a.codes.now i 0) 0) a.to l.i c.loop-i-test.true (ne_eqb _ _ c.if-codes-i-ne0.true))
 
 pub loop-i-preserved : goal.loop-i-preserved
-loop-i-preserved c = (omega arith, omega arith, c.loop-i.invariant.2 ∙ every-goes-on (λ i. eqb (get_or c.args.codes.now i 0) 0) c.args.to c.loop-i.i c.loop-i-test.true (eq-eqb _ _ c.if-codes-i-ne0.false))
+loop-i-preserved c =
+    let a = c.args in
+    let l = c.loop-i in (
+      omega arith,
+      omega arith,
+      l.invariant.2 ∙ every-goes-on (λ i. eqb (get_or a.codes.now i 0) 0) a.to l.i c.loop-i-test.true (eq-eqb _ _ c.if-codes-i-ne0.false),
+    )
 
 pub returns : goal.returns
-returns c = sym (c.loop-i.invariant.2 ∙ every-ends (λ i. eqb (get_or c.args.codes.now i 0) 0) c.args.to c.loop-i.i c.loop-i-test.false)
+returns c =
+    let a = c.args in
+    let l = c.loop-i in
+    sym (l.invariant.2 ∙ every-ends (λ i. eqb (get_or a.codes.now i 0) 0) a.to l.i c.loop-i-test.false)
