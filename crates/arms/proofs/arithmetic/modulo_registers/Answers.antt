@@ -1,0 +1,12 @@
+-- `modulo_registers` meets its contract.
+use Rattle.task.specs.Choices.{chosen}
+use Rattle.arms.proofs.arithmetic.modulo_registers.Goals as goal
+use Rattle.arms.proofs.RegisterLaws.{value-at}
+
+pub returns : goal.returns
+returns c =
+    let one = c.store_divided.ensures in
+    λ p w n d. (
+      one.sized,
+      λ t o q. rw (value-at c.args.nums.now c.args.kinds.now c.args.v c.requires.0 c.requires.3) (one.sets (chosen n).remainder c.remainder_bits-u.ensures),
+    )

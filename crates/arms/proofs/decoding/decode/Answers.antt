@@ -1,0 +1,9 @@
+-- `decode` meets its contract.
+use Rattle.arms.proofs.decoding.decode.Goals as goal
+use native.Mathlib.Omega.{arith}
+use Rattle.image.proofs.Accepted.{accepted}
+
+pub instruction_count-n-requires : goal.instruction_count-n-requires
+instruction_count-n-requires c =
+    let k = accepted c.args.cells.now c.requires.0 in
+    omega (arith, (k.instruction 0 (omega (arith, k.some_instruction))).is_stored)

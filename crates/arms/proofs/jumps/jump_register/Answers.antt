@@ -1,0 +1,47 @@
+-- `jump_register` meets its contract.
+use Rattle.std.proofs.Common.{◌-◌, ◌/◌}
+use Rattle.image.specs.Layout.{program_of}
+use Rattle.task.specs.Choices.{chosen}
+use Rattle.task.specs.Effect.{jump}
+use Rattle.task.specs.Formed.{value_fits}
+use Rattle.arms.specs.Arms.{active}
+use Rattle.arms.proofs.jumps.jump_register.Goals as goal
+use mathlib.Core.Path.{sym, ap, ◌∙◌}
+use Prim.Native.Nat.{◌-◌, ◌/◌}
+use native.Mathlib.Omega.{arith}
+use lib.ListN.{get_or}
+use Rattle.image.specs.Layout.{program_of}
+use Rattle.task.specs.Effect.{jump}
+use Rattle.task.specs.Execute.{answered}
+use Rattle.arms.specs.Arms.{active}
+use Rattle.arms.proofs.RegisterLaws.{value-at}
+use Rattle.arms.proofs.LeadLaws.{stays, jump_label, jump-other, label_inside}
+
+pub returns-then-kinds-v-ne1 : goal.returns-then-kinds-v-ne1
+returns-then-kinds-v-ne1 c =
+    let nums = c.args.nums.now in
+    let kinds = c.args.kinds.now in
+    let cells = c.args.cells.now in
+    λ s depth w o.
+    let t = active c.args.places (c.args.pc / 4) (c.args.beat - c.args.left) depth in
+    stays cells 34 c.args.pc c.args.beat c.args.left (omega arith)
+    (ap (λ u. answered (program_of cells) w (chosen c.args.interval) s u t o jump) (value-at nums kinds c.args.v c.requires.2 c.requires.3)
+    ∙ jump-other cells w c.args.interval s t o (get_or kinds c.args.v 0) (get_or nums c.args.v 0) c.if-kinds-v-ne1.true) c.requires.4 c.requires.1
+
+pub enter-requires : goal.enter-requires
+enter-requires c =
+    let nums = c.args.nums.now in
+    let kinds = c.args.kinds.now in
+    let cells = c.args.cells.now in
+    let fits = sym (ap (value_fits (program_of cells)) (value-at nums kinds c.args.v c.requires.2 c.requires.3)) ∙ c.requires.5 in
+    (c.requires.0, label_inside cells (get_or kinds c.args.v 0) (get_or nums c.args.v 0) c.if-kinds-v-ne1.false fits, c.requires.1)
+
+pub returns : goal.returns
+returns c =
+    let nums = c.args.nums.now in
+    let kinds = c.args.kinds.now in
+    let cells = c.args.cells.now in
+    λ s depth w o.
+    let t = active c.args.places (c.args.pc / 4) (c.args.beat - c.args.left) depth in
+    rw (ap (λ u. answered (program_of cells) w (chosen c.args.interval) s u t o jump) (value-at nums kinds c.args.v c.requires.2 c.requires.3)
+    ∙ jump_label cells w c.args.interval s t o (get_or kinds c.args.v 0) (get_or nums c.args.v 0) c.if-kinds-v-ne1.false) (c.enter.ensures (c.args.pc / 4) depth)

@@ -1,0 +1,40 @@
+-- `allocate_label` meets its contract.
+use Rattle.image.specs.Layout.{program_of}
+use Rattle.arms.specs.Registers.{registers_of}
+use Rattle.arms.proofs.moves.allocate_label.Goals as goal
+use mathlib.Core.Path.{refl, sym, ◌∙◌}
+use native.Mathlib.Omega.{arith}
+use Rattle.image.specs.Layout.{program_of}
+use Rattle.image.proofs.Accepted.{accepted}
+use Rattle.arms.specs.Registers.{registers_of}
+use Rattle.arms.proofs.RegisterLaws.{still_sized}
+use Rattle.arms.proofs.ValueLaws.{pair_record}
+use Rattle.arms.proofs.SetLaws.{unset, sets, no_target, gives_record}
+
+pub annotation_of-requires : goal.annotation_of-requires
+annotation_of-requires c = ((accepted c.args.cells.now c.requires.0).block _ c.requires.1).is_stored
+
+pub returns-then-annotation_of-ne2 : goal.returns-then-annotation_of-ne2
+returns-then-annotation_of-ne2 c =
+    λ w k s. (
+      c.requires.3,
+      λ t o q. unset 35 (omega arith) (no_target (program_of c.args.cells.now) w k (s (registers_of c.args.nums.now c.args.kinds.now)) t o c.args.v (λ z. c.if-annotation_of-ne2.true (c.annotation_of.ensures ∙ z))),
+    )
+
+pub overflow_mul-v : goal.overflow_mul-v
+overflow_mul-v c = omega (arith, c.requires.1, (accepted c.args.cells.now c.requires.0).few_blocks)
+
+pub overflow_add-v : goal.overflow_add-v
+overflow_add-v c = omega (arith, c.requires.1, c.requires.2, (accepted c.args.cells.now c.requires.0).few_blocks)
+
+pub returns : goal.returns
+returns c =
+    let nums = c.args.nums.now in
+    let kinds = c.args.kinds.now in
+    let put = c.put.ensures in
+    λ w k s. (
+      still_sized nums kinds c.args.r _ _ c.requires.3 put.nums_after put.kinds_after,
+      λ t o q. sets nums kinds c.args.r _ 2 _ (pair_record c.args.v c.args.depth (omega (arith, c.requires.2)) refl)
+          (gives_record (program_of c.args.cells.now) w k (s (registers_of c.args.nums.now c.args.kinds.now)) t o c.args.v c.args.depth
+          (sym c.annotation_of.ensures ∙ c.if-annotation_of-ne2.false) q) put.nums_after put.kinds_after,
+    )

@@ -1,0 +1,28 @@
+-- `fetch_number` meets its contract.
+use Rattle.std.proofs.Common.{rules}
+use Rattle.arms.specs.Registers.{registers_of}
+use Rattle.arms.proofs.moves.fetch_number.Goals as goal
+use mathlib.Core.Path.{refl}
+use native.Mathlib.Omega.{arith}
+use Rattle.arms.specs.Registers.{registers_of}
+use Rattle.arms.proofs.RegisterLaws.{still_sized}
+use Rattle.arms.proofs.SetLaws.{unset, sets, gives-word, no_word}
+use borrow.Author.Rules.{rules}
+
+pub returns-then-words-v : goal.returns-then-words-v
+returns-then-words-v c =
+    λ p k d s. (c.requires.0, λ t o q. unset 33 (omega arith) (no_word c.args.words.now c.args.v p k (s (registers_of c.args.nums.now c.args.kinds.now)) t o c.if-words-v.true))
+
+pub returns : goal.returns
+returns c =
+    let nums = c.args.nums.now in
+    let kinds = c.args.kinds.now in
+    let put = c.put.ensures in
+    let b = c.bits-u in
+    λ p k d s. (
+      still_sized nums kinds c.args.r _ _ c.requires.0 put.nums_after put.kinds_after,
+      λ t o q.
+          sets nums kinds c.args.r b.result 0 _ refl
+          (gives-word c.args.words.now c.args.v p k (s (registers_of nums kinds)) t o b.result c.if-words-v.false
+          (search rules) (search rules) b.ensures) put.nums_after put.kinds_after,
+    )

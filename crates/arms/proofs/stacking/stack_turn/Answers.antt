@@ -1,0 +1,11 @@
+-- `stack_turn` meets its contract.
+use Rattle.arms.proofs.stacking.stack_turn.Goals as goal
+use mathlib.Core.Path.{sym}
+use native.Mathlib.Omega.{arith}
+use Rattle.arms.proofs.RegisterLaws.{value-at}
+use Rattle.arms.proofs.StackLaws.{turned_push}
+
+pub returns-in-48 : goal.returns-in-48
+returns-in-48 c =
+    let e = c.in-48.is in
+    turned_push 1 (omega arith) e (sym (value-at c.args.nums.now c.args.kinds.now _ c.requires.sized (c.requires.register_operand e))) c.push_on.ensures

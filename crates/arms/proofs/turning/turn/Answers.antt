@@ -1,0 +1,182 @@
+-- `turn` meets its contract.
+use Rattle.std.proofs.Common.{rules, ◌+◌, ◌/◌}
+use Rattle.arms.specs.Registers.{registers_of}
+use Rattle.arms.proofs.turning.turn.Goals as goal
+use mathlib.Core.Path.{refl}
+use Prim.Native.Nat.{◌+◌, ◌/◌}
+use native.Mathlib.Omega.{arith}
+use lib.ListN.{get_or}
+use borrow.Author.Tests.{lt-ltb}
+use Rattle.arms.specs.Registers.{registers_of, in_register}
+use Rattle.arms.proofs.SetLaws.{NoneOf}
+use Rattle.arms.proofs.LeadLaws.{enters_plain, stays}
+use Rattle.arms.proofs.TurnLaws.{jumping, fetched, named, register_small, label_below, next_below, register_operand, label_operand, plain-jump, turned_leads, turned_set}
+use borrow.Author.Rules.{rules}
+
+pub branch_register-requires : goal.branch_register-requires
+branch_register-requires c =
+    let d = fetched c.requires in
+    let n = named d 10 1 (omega arith) (omega arith) c.in-42.is in (
+      c.requires.accepted_program,
+      c.requires.values_fit _,
+      omega (arith, c.requires.counter_least),
+      c.requires.sized,
+      d.s_small,
+      c.requires.on_place,
+      next_below d 10 (omega arith) n.its_opcode,
+      register_small d 10 n,
+    )
+
+pub jump_register-requires : goal.jump_register-requires
+jump_register-requires c =
+    let d = fetched c.requires in
+    let n = named d 13 1 (omega arith) (omega arith) c.in-45.is in
+    (c.requires.accepted_program, omega (arith, c.requires.counter_least), c.requires.sized, register_small d 13 n, c.requires.on_place, c.requires.values_fit _)
+
+pub branch_to-requires : goal.branch_to-requires
+branch_to-requires c =
+    let d = fetched c.requires in
+    let n = named d 10 2 (omega arith) (omega arith) c.in-74.is in (
+      c.requires.accepted_program,
+      lt-ltb _ _ (label_below d 10 n),
+      omega (arith, c.requires.counter_least),
+      c.requires.sized,
+      d.s_small,
+      c.requires.on_place,
+      next_below d 10 (omega arith) n.its_opcode,
+    )
+
+pub enter-requires : goal.enter-requires
+enter-requires c =
+    let d = fetched c.requires in
+    let n = named d 13 2 (omega arith) (omega arith) c.in-77.is in
+    (c.requires.accepted_program, label_below d 13 n, omega (arith, c.requires.counter_least))
+
+pub branch_to-requires-in-106 : goal.branch_to-requires-in-106
+branch_to-requires-in-106 c =
+    let d = fetched c.requires in
+    let n = named d 10 3 (omega arith) (omega arith) c.in-106.is in
+    (c.requires.accepted_program, refl, omega (arith, c.requires.counter_least), c.requires.sized, d.s_small, c.requires.on_place, next_below d 10 (omega arith) n.its_opcode)
+
+pub branch_plain-requires : goal.branch_plain-requires
+branch_plain-requires c =
+    let d = fetched c.requires in
+    (c.requires.sized, d.s_small, omega (arith, d.few, c.requires.on_place, c.requires.inside_program))
+
+pub set_register-what-requires : goal.set_register-what-requires
+set_register-what-requires c =
+    let d = fetched c.requires in
+    record {
+      accepted_program = c.requires.accepted_program;
+      sized = c.requires.sized;
+      stored = omega (arith, c.requires.decodes.stored, c.requires.on_place, c.requires.inside_program);
+      r_small = d.r_small;
+      s_small = d.s_small;
+      register_operand = register_operand d;
+      label_operand = label_operand d;
+      values_fit = c.requires.values_fit;
+      depth_most = c.requires.depth_most;
+    }
+
+pub returns-in-42 : goal.returns-in-42
+returns-in-42 c =
+    let d = fetched c.requires in
+    let n = named d 10 1 (omega arith) (omega arith) c.in-42.is in
+    record {
+      sized = c.requires.sized;
+      turned = turned_leads c.args.cells.now c.args.words.now c.args.interval c.args.places c.args.depth c.args.pc c.args.beat c.args.left
+          (registers_of c.args.nums.now c.args.kinds.now) c.requires.on_place c.requires.counter_least 10 1 _ _ n d.decoded.same_s _
+          (λ o. c.branch_register.ensures c.args.depth c.args.words.now o);
+    }
+
+pub returns-in-45 : goal.returns-in-45
+returns-in-45 c =
+    let d = fetched c.requires in
+    let n = named d 13 1 (omega arith) (omega arith) c.in-45.is in
+    record {
+      sized = c.requires.sized;
+      turned = turned_leads c.args.cells.now c.args.words.now c.args.interval c.args.places c.args.depth c.args.pc c.args.beat c.args.left
+          (registers_of c.args.nums.now c.args.kinds.now) c.requires.on_place c.requires.counter_least 13 1 _ _ n d.decoded.same_s _
+          (λ o. c.jump_register.ensures (in_register (get_or c.args.code.now (c.args.pc + 2) 0) (registers_of c.args.nums.now c.args.kinds.now)) c.args.depth
+          c.args.words.now o);
+    }
+
+pub returns-in-74 : goal.returns-in-74
+returns-in-74 c =
+    let d = fetched c.requires in
+    let n = named d 10 2 (omega arith) (omega arith) c.in-74.is in
+    record {
+      sized = c.requires.sized;
+      turned = turned_leads c.args.cells.now c.args.words.now c.args.interval c.args.places c.args.depth c.args.pc c.args.beat c.args.left
+          (registers_of c.args.nums.now c.args.kinds.now) c.requires.on_place c.requires.counter_least 10 2 _ _ n d.decoded.same_s _
+          (λ o. c.branch_to.ensures c.args.depth c.args.words.now o);
+    }
+
+pub returns-in-77 : goal.returns-in-77
+returns-in-77 c =
+    let d = fetched c.requires in
+    let n = named d 13 2 (omega arith) (omega arith) c.in-77.is in
+    record {
+      sized = c.requires.sized;
+      turned = turned_leads c.args.cells.now c.args.words.now c.args.interval c.args.places c.args.depth c.args.pc c.args.beat c.args.left
+          (registers_of c.args.nums.now c.args.kinds.now) c.requires.on_place c.requires.counter_least 13 2 _ _ n d.decoded.same_s _
+          (λ o. c.enter.ensures (c.args.pc / 4) c.args.depth);
+    }
+
+pub returns-in-106 : goal.returns-in-106
+returns-in-106 c =
+    let d = fetched c.requires in
+    let n = named d 10 3 (omega arith) (omega arith) c.in-106.is in
+    record {
+      sized = c.requires.sized;
+      turned = turned_leads c.args.cells.now c.args.words.now c.args.interval c.args.places c.args.depth c.args.pc c.args.beat c.args.left
+          (registers_of c.args.nums.now c.args.kinds.now) c.requires.on_place c.requires.counter_least 10 3 _ _ n d.decoded.same_s _
+          (λ o. c.branch_to-in-106.ensures c.args.depth c.args.words.now o);
+    }
+
+pub returns-in-109 : goal.returns-in-109
+returns-in-109 c =
+    let d = fetched c.requires in
+    let n = named d 13 3 (omega arith) (omega arith) c.in-109.is in
+    record {
+      sized = c.requires.sized;
+      turned = turned_leads c.args.cells.now c.args.words.now c.args.interval c.args.places c.args.depth c.args.pc c.args.beat c.args.left
+          (registers_of c.args.nums.now c.args.kinds.now) c.requires.on_place c.requires.counter_least 13 3 _ _ n d.decoded.same_s _
+          (λ o. stays c.args.cells.now 34 c.args.pc c.args.beat c.args.left (omega arith) refl c.requires.on_place (omega (arith, c.requires.counter_least)));
+    }
+
+pub returns-in-202 : goal.returns-in-202
+returns-in-202 c =
+    let d = fetched c.requires in
+    let j = plain-jump d 10 (omega arith) c.in-202.is in
+    record {
+      sized = c.requires.sized;
+      turned = turned_leads c.args.cells.now c.args.words.now c.args.interval c.args.places c.args.depth c.args.pc c.args.beat c.args.left
+          (registers_of c.args.nums.now c.args.kinds.now) c.requires.on_place c.requires.counter_least 10 2 _ _ j.jump_named d.decoded.same_s _
+          (λ o. c.branch_plain.ensures c.args.cells.now c.args.interval c.args.places c.args.left j.label j.unready_there c.requires.on_place
+          (next_below d 10 (omega arith) j.jump_named.its_opcode) (omega (arith, c.requires.counter_least)) c.args.depth c.args.words.now o);
+    }
+
+pub returns-in-205 : goal.returns-in-205
+returns-in-205 c =
+    let d = fetched c.requires in
+    let j = plain-jump d 13 (omega arith) c.in-205.is in
+    record {
+      sized = c.requires.sized;
+      turned = turned_leads c.args.cells.now c.args.words.now c.args.interval c.args.places c.args.depth c.args.pc c.args.beat c.args.left
+          (registers_of c.args.nums.now c.args.kinds.now) c.requires.on_place c.requires.counter_least 13 2 _ _ j.jump_named d.decoded.same_s _
+          (λ o. enters_plain c.args.cells.now c.args.interval j.label c.args.places c.args.left c.args.beat _ (c.args.pc / 4) c.args.depth
+          j.unready_there (omega (arith, c.requires.counter_least)));
+    }
+
+pub returns-in_default : goal.returns-in_default
+returns-in_default c =
+    let d = fetched c.requires in
+    let set = c.set_register-what.ensures c.args.interval in
+    let rest : NoneOf (get_or c.args.code.now c.args.pc 0) jumping = search rules in
+    record {
+      sized = set.still_sized;
+      turned = turned_set c.args.cells.now c.args.words.now c.args.interval c.args.places c.args.depth c.args.beat c.args.left
+          c.args.nums.now c.args.kinds.now _ _ c.requires.accepted_program c.requires.on_place c.requires.inside_program c.requires.counter_least d rest
+          c.set_register-what.result set;
+    }
