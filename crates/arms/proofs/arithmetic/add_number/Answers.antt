@@ -1,6 +1,6 @@
 -- `add_number` meets its contract.
-use Rattle.arms.proofs.arithmetic.add_number.Goals as goal
 use Rattle.task.proofs.Computing.{sum}
+use Rattle.arms.proofs.arithmetic.add_number.Goals as goal
 
 pub returns : goal.returns
 returns c =

@@ -1,7 +1,7 @@
 -- `divide_registers` meets its contract.
 use Rattle.task.specs.Choices.{chosen}
-use Rattle.arms.proofs.arithmetic.divide_registers.Goals as goal
 use Rattle.arms.proofs.RegisterLaws.{value-at}
+use Rattle.arms.proofs.arithmetic.divide_registers.Goals as goal
 
 pub returns : goal.returns
 returns c =

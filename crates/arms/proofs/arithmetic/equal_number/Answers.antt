@@ -1,6 +1,6 @@
 -- `equal_number` meets its contract.
-use Rattle.arms.proofs.arithmetic.equal_number.Goals as goal
 use Rattle.task.proofs.Computing.{is_equal}
+use Rattle.arms.proofs.arithmetic.equal_number.Goals as goal
 
 pub returns : goal.returns
 returns c =

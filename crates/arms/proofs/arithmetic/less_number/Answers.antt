@@ -1,6 +1,6 @@
 -- `less_number` meets its contract.
-use Rattle.arms.proofs.arithmetic.less_number.Goals as goal
 use Rattle.task.proofs.Computing.{is_less}
+use Rattle.arms.proofs.arithmetic.less_number.Goals as goal
 
 pub returns : goal.returns
 returns c =

@@ -1,6 +1,6 @@
 -- `multiply_number` meets its contract.
-use Rattle.arms.proofs.arithmetic.multiply_number.Goals as goal
 use Rattle.task.proofs.Computing.{product}
+use Rattle.arms.proofs.arithmetic.multiply_number.Goals as goal
 
 pub returns : goal.returns
 returns c =

@@ -1,7 +1,7 @@
 -- `store_divided` meets its contract.
-use Rattle.arms.proofs.arithmetic.store_divided.Goals as goal
 use Rattle.arms.proofs.RegisterLaws.{still_sized}
 use Rattle.arms.proofs.SetLaws.{left_other, by_zero, sets-divided}
+use Rattle.arms.proofs.arithmetic.store_divided.Goals as goal
 
 pub returns-then-kinds-s-ne0 : goal.returns-then-kinds-s-ne0
 returns-then-kinds-s-ne0 c =

@@ -1,7 +1,7 @@
 -- `store_of_one` meets its contract.
-use Rattle.arms.proofs.arithmetic.store_of_one.Goals as goal
 use Rattle.arms.proofs.RegisterLaws.{still_sized}
 use Rattle.arms.proofs.SetLaws.{left_other, sets_computed}
+use Rattle.arms.proofs.arithmetic.store_of_one.Goals as goal
 
 pub returns-then-kinds-s-ne0 : goal.returns-then-kinds-s-ne0
 returns-then-kinds-s-ne0 c =

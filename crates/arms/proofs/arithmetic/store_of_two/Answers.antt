@@ -1,12 +1,10 @@
 -- `store_of_two` meets its contract.
 use Rattle.std.proofs.Common.{get_or}
 use Rattle.arms.specs.Registers.{registers_of, in_register}
-use Rattle.arms.proofs.arithmetic.store_of_two.Goals as goal
-use lib.ListN.{get_or}
 use Rattle.task.specs.Effect.{stores}
-use Rattle.arms.specs.Registers.{registers_of, in_register}
 use Rattle.arms.proofs.RegisterLaws.{integer-at}
 use Rattle.arms.proofs.SetLaws.{right-other}
+use Rattle.arms.proofs.arithmetic.store_of_two.Goals as goal
 
 pub returns-then-kinds-v-ne0 : goal.returns-then-kinds-v-ne0
 returns-then-kinds-v-ne0 c =

@@ -1,6 +1,6 @@
 -- `subtract_number` meets its contract.
-use Rattle.arms.proofs.arithmetic.subtract_number.Goals as goal
 use Rattle.task.proofs.Computing.{difference}
+use Rattle.arms.proofs.arithmetic.subtract_number.Goals as goal
 
 pub returns : goal.returns
 returns c =

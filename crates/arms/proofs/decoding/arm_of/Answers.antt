@@ -1,7 +1,7 @@
 -- `arm_of` meets its contract.
-use Rattle.arms.proofs.decoding.arm_of.Goals as goal
 use native.Mathlib.Omega.{arith}
 use Rattle.image.proofs.Accepted.{accepted}
+use Rattle.arms.proofs.decoding.arm_of.Goals as goal
 
 pub annotation_of-requires : goal.annotation_of-requires
 annotation_of-requires c =

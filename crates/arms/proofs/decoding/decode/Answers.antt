@@ -1,7 +1,7 @@
 -- `decode` meets its contract.
-use Rattle.arms.proofs.decoding.decode.Goals as goal
 use native.Mathlib.Omega.{arith}
 use Rattle.image.proofs.Accepted.{accepted}
+use Rattle.arms.proofs.decoding.decode.Goals as goal
 
 pub instruction_count-n-requires : goal.instruction_count-n-requires
 instruction_count-n-requires c =

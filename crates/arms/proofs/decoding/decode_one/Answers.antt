@@ -1,13 +1,11 @@
 -- `decode_one` meets its contract.
 use Rattle.std.proofs.Common.{◌≡◌, ◌<◌, ◌≤◌}
 use Rattle.image.specs.Layout.{block_count}
-use Rattle.arms.proofs.decoding.decode_one.Goals as goal
-use mathlib.Core.Path.{◌≡◌, sym, subst}
-use Prim.Native.Nat.{◌<◌, ◌≤◌}
+use mathlib.Core.Path.{sym, subst}
 use Rattle.image.specs.declared.Instruction.{Instruction}
-use Rattle.image.specs.Layout.{block_count}
 use Rattle.image.proofs.Accepted.{accepted}
-use Rattle.arms.proofs.CodeLaws.{opcode-known}
+use Rattle.arms.proofs.CodeLaws.{decodes_one, opcode-known}
+use Rattle.arms.proofs.decoding.decode_one.Goals as goal
 
 pub instruction_of-x-requires : goal.instruction_of-x-requires
 instruction_of-x-requires c = ((accepted c.args.cells.now c.requires.0).instruction c.args.i c.requires.1).is_stored
@@ -20,3 +18,9 @@ arm_of-arm-requires c =
     subst (λ (y : Instruction). (y.opcode ≤ 17) × (y.kind ≤ 3) × (y.kind ≡ 2 → y.operand < block_count cells)) (sym c.instruction_of-x.ensures)
     (opcode-known i, i.kind_known, i.label_below) in
     (c.requires.0, z.0, z.1, z.2)
+
+pub returns : goal.returns
+returns c =
+    let x = c.instruction_of-x in
+    let r = c.arm_of-arm in
+    decodes_one c.args.cells.now c.args.code.now c.args.i r.result.number r.result.operand x.result x.ensures r.ensures c.requires.2

@@ -2,11 +2,9 @@
 use Rattle.std.proofs.Common.{◌-◌, ◌/◌}
 use Rattle.task.specs.declared.Value.TheVariants.{Label}
 use Rattle.arms.specs.Arms.{active}
-use Rattle.arms.proofs.jumps.branch_plain.Goals as goal
-use Prim.Native.Nat.{◌-◌, ◌/◌}
 use native.Mathlib.Omega.{arith}
-use Rattle.arms.specs.Arms.{active}
 use Rattle.arms.proofs.LeadLaws.{leads_on, stays, enters_plain, branch_other, branch_taken, falls_through}
+use Rattle.arms.proofs.jumps.branch_plain.Goals as goal
 
 pub returns-then-kinds-s-ne0 : goal.returns-then-kinds-s-ne0
 returns-then-kinds-s-ne0 c =

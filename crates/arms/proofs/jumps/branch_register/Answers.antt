@@ -1,10 +1,9 @@
 -- `branch_register` meets its contract.
 use Rattle.image.specs.Layout.{program_of}
 use Rattle.task.specs.Formed.{value_fits}
-use Rattle.arms.proofs.jumps.branch_register.Goals as goal
 use mathlib.Core.Path.{sym, ap, ◌∙◌}
-use Rattle.image.specs.Layout.{program_of}
 use Rattle.arms.proofs.RegisterLaws.{value-at}
+use Rattle.arms.proofs.jumps.branch_register.Goals as goal
 
 pub branch_to-requires : goal.branch_to-requires
 branch_to-requires c =

@@ -2,14 +2,11 @@
 use Rattle.std.proofs.Common.{◌-◌, ◌/◌}
 use Rattle.arms.specs.Registers.{value_of}
 use Rattle.arms.specs.Arms.{active}
-use Rattle.arms.proofs.jumps.branch_to.Goals as goal
 use mathlib.Core.Path.{◌∙◌}
-use Prim.Native.Nat.{◌-◌, ◌/◌}
 use native.Mathlib.Omega.{arith}
 use Rattle.image.proofs.Accepted.{accepted}
-use Rattle.arms.specs.Registers.{value_of}
-use Rattle.arms.specs.Arms.{active}
 use Rattle.arms.proofs.LeadLaws.{leads_on, stays, branch_other, branch_taken, falls_through, jump_label, jump-other}
+use Rattle.arms.proofs.jumps.branch_to.Goals as goal
 
 pub returns-then-kinds-s-ne0 : goal.returns-then-kinds-s-ne0
 returns-then-kinds-s-ne0 c =

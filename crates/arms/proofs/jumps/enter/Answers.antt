@@ -1,10 +1,10 @@
 -- `enter` meets its contract.
-use Rattle.arms.proofs.jumps.enter.Goals as goal
 use mathlib.Core.Path.{sym, ap, ◌∙◌}
 use native.Mathlib.Omega.{arith}
 use Rattle.image.specs.Layout.{block_of}
 use Rattle.image.proofs.Accepted.{accepted}
 use Rattle.arms.proofs.LeadLaws.{enters_handler, enters_block}
+use Rattle.arms.proofs.jumps.enter.Goals as goal
 
 pub label_of-handler-requires : goal.label_of-handler-requires
 label_of-handler-requires c = ((accepted c.args.cells.now c.requires.0).block _ c.requires.1).is_stored

@@ -5,17 +5,13 @@ use Rattle.task.specs.Choices.{chosen}
 use Rattle.task.specs.Effect.{jump}
 use Rattle.task.specs.Formed.{value_fits}
 use Rattle.arms.specs.Arms.{active}
-use Rattle.arms.proofs.jumps.jump_register.Goals as goal
 use mathlib.Core.Path.{sym, ap, ◌∙◌}
-use Prim.Native.Nat.{◌-◌, ◌/◌}
 use native.Mathlib.Omega.{arith}
 use lib.ListN.{get_or}
-use Rattle.image.specs.Layout.{program_of}
-use Rattle.task.specs.Effect.{jump}
 use Rattle.task.specs.Execute.{answered}
-use Rattle.arms.specs.Arms.{active}
 use Rattle.arms.proofs.RegisterLaws.{value-at}
 use Rattle.arms.proofs.LeadLaws.{stays, jump_label, jump-other, label_inside}
+use Rattle.arms.proofs.jumps.jump_register.Goals as goal
 
 pub returns-then-kinds-v-ne1 : goal.returns-then-kinds-v-ne1
 returns-then-kinds-v-ne1 c =

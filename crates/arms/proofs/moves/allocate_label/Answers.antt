@@ -1,15 +1,13 @@
 -- `allocate_label` meets its contract.
 use Rattle.image.specs.Layout.{program_of}
 use Rattle.arms.specs.Registers.{registers_of}
-use Rattle.arms.proofs.moves.allocate_label.Goals as goal
 use mathlib.Core.Path.{refl, sym, ◌∙◌}
 use native.Mathlib.Omega.{arith}
-use Rattle.image.specs.Layout.{program_of}
 use Rattle.image.proofs.Accepted.{accepted}
-use Rattle.arms.specs.Registers.{registers_of}
 use Rattle.arms.proofs.RegisterLaws.{still_sized}
 use Rattle.arms.proofs.ValueLaws.{pair_record}
 use Rattle.arms.proofs.SetLaws.{unset, sets, no_target, gives_record}
+use Rattle.arms.proofs.moves.allocate_label.Goals as goal
 
 pub annotation_of-requires : goal.annotation_of-requires
 annotation_of-requires c = ((accepted c.args.cells.now c.requires.0).block _ c.requires.1).is_stored

@@ -3,16 +3,14 @@ use Rattle.image.specs.Layout.{program_of}
 use Rattle.task.specs.Effect.{jralloc}
 use Rattle.task.specs.Formed.{value_fits}
 use Rattle.arms.specs.Registers.{registers_of}
-use Rattle.arms.proofs.moves.allocate_register.Goals as goal
 use mathlib.Core.Path.{ap, sym, ◌∙◌}
 use native.Mathlib.Omega.{arith}
 use lib.ListN.{get_or}
-use Rattle.image.specs.Layout.{program_of}
-use Rattle.task.specs.Effect.{jralloc, effect_of}
-use Rattle.arms.specs.Registers.{registers_of}
+use Rattle.task.specs.Effect.{effect_of}
 use Rattle.arms.proofs.RegisterLaws.{value-at, label_at}
 use Rattle.arms.proofs.SetLaws.{unset, no_label}
 use Rattle.arms.proofs.LeadLaws.{label_inside}
+use Rattle.arms.proofs.moves.allocate_register.Goals as goal
 
 pub returns-then-kinds-v-ne1 : goal.returns-then-kinds-v-ne1
 returns-then-kinds-v-ne1 c =

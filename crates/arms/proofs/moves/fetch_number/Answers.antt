@@ -1,13 +1,11 @@
 -- `fetch_number` meets its contract.
 use Rattle.std.proofs.Common.{rules}
 use Rattle.arms.specs.Registers.{registers_of}
-use Rattle.arms.proofs.moves.fetch_number.Goals as goal
 use mathlib.Core.Path.{refl}
 use native.Mathlib.Omega.{arith}
-use Rattle.arms.specs.Registers.{registers_of}
 use Rattle.arms.proofs.RegisterLaws.{still_sized}
 use Rattle.arms.proofs.SetLaws.{unset, sets, gives-word, no_word}
-use borrow.Author.Rules.{rules}
+use Rattle.arms.proofs.moves.fetch_number.Goals as goal
 
 pub returns-then-words-v : goal.returns-then-words-v
 returns-then-words-v c =

@@ -1,7 +1,7 @@
 -- `fetch_register` meets its contract.
-use Rattle.arms.proofs.moves.fetch_register.Goals as goal
 use Rattle.arms.proofs.RegisterLaws.{integer-at}
 use Rattle.arms.proofs.SetLaws.{left_other}
+use Rattle.arms.proofs.moves.fetch_register.Goals as goal
 
 pub returns-then-kinds-v-ne0 : goal.returns-then-kinds-v-ne0
 returns-then-kinds-v-ne0 c =

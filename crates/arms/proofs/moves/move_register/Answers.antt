@@ -1,9 +1,9 @@
 -- `move_register` meets its contract.
-use Rattle.arms.proofs.moves.move_register.Goals as goal
 use mathlib.Core.Path.{refl, sym}
 use lib.ListN.{get_or}
 use Rattle.arms.proofs.RegisterLaws.{value-at, still_sized}
 use Rattle.arms.proofs.SetLaws.{sets}
+use Rattle.arms.proofs.moves.move_register.Goals as goal
 
 pub returns : goal.returns
 returns c =

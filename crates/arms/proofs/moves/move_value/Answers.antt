@@ -1,8 +1,8 @@
 -- `move_value` meets its contract.
-use Rattle.arms.proofs.moves.move_value.Goals as goal
 use mathlib.Core.Path.{refl}
 use Rattle.arms.proofs.RegisterLaws.{still_sized}
 use Rattle.arms.proofs.SetLaws.{sets}
+use Rattle.arms.proofs.moves.move_value.Goals as goal
 
 pub returns : goal.returns
 returns c =

@@ -1,12 +1,11 @@
 -- `set_immediate` meets its contract.
 use Rattle.arms.specs.Arms.{context_of}
-use Rattle.arms.proofs.setting.set_immediate.Goals as goal
 use native.Mathlib.Omega.{arith}
 use Rattle.image.specs.Layout.{program_of}
 use Rattle.task.specs.Choices.{chosen}
 use Rattle.arms.specs.Registers.{in_register}
-use Rattle.arms.specs.Arms.{context_of}
 use Rattle.arms.proofs.SetLaws.{by_number}
+use Rattle.arms.proofs.setting.set_immediate.Goals as goal
 
 pub returns-in-65 : goal.returns-in-65
 returns-in-65 c =

@@ -1,14 +1,12 @@
 -- `set_register` meets its contract.
 use Rattle.std.proofs.Common.{rules}
 use Rattle.arms.specs.Arms.{context_of}
-use Rattle.arms.proofs.setting.set_register.Goals as goal
 use native.Mathlib.Omega.{arith}
 use Rattle.image.specs.Layout.{program_of}
 use Rattle.task.specs.Choices.{chosen}
 use Rattle.arms.specs.Registers.{in_register}
-use Rattle.arms.specs.Arms.{context_of}
 use Rattle.arms.proofs.SetLaws.{NoneOf, of_register, by_number, no_register}
-use borrow.Author.Rules.{rules}
+use Rattle.arms.proofs.setting.set_register.Goals as goal
 
 pub returns-in-33 : goal.returns-in-33
 returns-in-33 c =

@@ -1,9 +1,9 @@
 -- `stack_turn` meets its contract.
-use Rattle.arms.proofs.stacking.stack_turn.Goals as goal
 use mathlib.Core.Path.{sym}
 use native.Mathlib.Omega.{arith}
 use Rattle.arms.proofs.RegisterLaws.{value-at}
 use Rattle.arms.proofs.StackLaws.{turned_push}
+use Rattle.arms.proofs.stacking.stack_turn.Goals as goal
 
 pub returns-in-48 : goal.returns-in-48
 returns-in-48 c =

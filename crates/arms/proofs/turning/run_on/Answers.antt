@@ -1,14 +1,12 @@
 -- `run_on` meets its contract.
 use Rattle.std.proofs.Common.{◌+◌, ◌-◌}
 use Rattle.arms.specs.Registers.{registers_of}
-use Rattle.arms.proofs.turning.run_on.Goals as goal
-use Prim.Native.Nat.{◌+◌, ◌-◌}
 use native.Mathlib.Omega.{arith}
-use Rattle.arms.specs.Registers.{registers_of}
 use Rattle.arms.specs.Stacks.{stack_of}
 use Rattle.arms.proofs.TurnLaws.{fetched}
 use Rattle.arms.proofs.StackLaws.{below_on, stacks, can_stack}
 use Rattle.arms.proofs.RunLaws.{runs_on_lem, height-now, turn_at}
+use Rattle.arms.proofs.turning.run_on.Goals as goal
 
 pub turn-g-requires : goal.turn-g-requires
 turn-g-requires c =

@@ -1,17 +1,15 @@
 -- `turn` meets its contract.
 use Rattle.std.proofs.Common.{rules, ◌+◌, ◌/◌}
 use Rattle.arms.specs.Registers.{registers_of}
-use Rattle.arms.proofs.turning.turn.Goals as goal
 use mathlib.Core.Path.{refl}
-use Prim.Native.Nat.{◌+◌, ◌/◌}
 use native.Mathlib.Omega.{arith}
 use lib.ListN.{get_or}
 use borrow.Author.Tests.{lt-ltb}
-use Rattle.arms.specs.Registers.{registers_of, in_register}
+use Rattle.arms.specs.Registers.{in_register}
 use Rattle.arms.proofs.SetLaws.{NoneOf}
 use Rattle.arms.proofs.LeadLaws.{enters_plain, stays}
 use Rattle.arms.proofs.TurnLaws.{jumping, fetched, named, register_small, label_below, next_below, register_operand, label_operand, plain-jump, turned_leads, turned_set}
-use borrow.Author.Rules.{rules}
+use Rattle.arms.proofs.turning.turn.Goals as goal
 
 pub branch_register-requires : goal.branch_register-requires
 branch_register-requires c =
