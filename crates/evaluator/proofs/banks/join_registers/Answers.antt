@@ -1,13 +1,6 @@
 -- `join_registers` meets its contract.
-use Rattle.std.proofs.Common.{rules, ◌≡◌, ◌+◌, ◌≤◌, length, ℕ, ◌-◌, ◌*◌, ◌<◌, ◌/◌, ◌%◌, Bool, true, false, nat_eq, nat_lt, List, [], ◌∷◌, ◌++◌, slice_index_or, slice_set, bit_and, bit_or, Fits, w8, w32, w64, Bor, MutBor}
-use Rattle.std.proofs.lemmas.List.Edits.{sets}
-use Rattle.task.specs.Stretches.{reads}
-use Rattle.task.specs.Step.{copied}
-use Rattle.arms.specs.Registers.{Sized, registers_of}
-use Rattle.evaluator.specs.Banks.{bank_from, Exchanged}
-use Rattle.evaluator.proofs.banks.join_registers.Goals as goal
-use borrow.Author.Rules.{rules}
 use Rattle.evaluator.proofs.BankLaws.{merges_loaded}
+use Rattle.evaluator.proofs.banks.join_registers.Goals as goal
 
 pub returns : goal.returns
 returns c =
@@ -20,6 +13,6 @@ returns c =
     let y = loaded.load-2.ensures in
     record {
       sized = m.sized;
-      kinds_after = merges_loaded a.args.nums.now a.args.kinds.now a.args.bank.now a.args.marks.now a.args.at a.args.count
-          a.args.bytes a.requires.0 x.nums_after x.kinds_after y.nums_after y.kinds_after m.kinds_after;
+      kinds_after = merges_loaded c.args.nums.now c.args.kinds.now c.args.bank.now c.args.marks.now c.args.at c.args.count
+          c.args.bytes c.requires.0 x.nums_after x.kinds_after y.nums_after y.kinds_after m.kinds_after;
     }

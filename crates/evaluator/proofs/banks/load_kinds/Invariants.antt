@@ -1,10 +1,8 @@
 -- What the loop of `load_kinds` keeps.
 use mathlib.Core.Path.{◌≡◌}
 use Prim.Native.Nat.{◌-◌, ◌≤◌}
-use native.Mathlib.Omega.{arith}
 use lib.Seq.{sets}
 use Rattle.task.specs.Stretches.{reads}
-use Rattle.evaluator.proofs.BankLaws.{loads_none, loads_length, loads_one, loads_all}
 use Rattle.evaluator.proofs.banks.load_kinds.Given as goal
 
 abbrev pub invariant-loop-i : goal.invariant-loop-i

@@ -1,12 +1,7 @@
 -- What the loop of `merge` keeps.
-use mathlib.Core.Path.{◌≡◌, refl, sym, ◌∙◌}
-use Prim.Native.Nat.{◌-◌}
-use native.Mathlib.Omega.{arith}
-use borrow.Author.Rules.{rules}
+use mathlib.Core.Path.{◌≡◌}
 use Rattle.task.specs.Step.{copied}
 use Rattle.arms.specs.Registers.{registers_of, Sized}
-use Rattle.arms.proofs.RegisterLaws.{still_sized}
-use Rattle.evaluator.proofs.BankLaws.{merges_one, merges_none}
 use Rattle.evaluator.proofs.banks.merge.Given as goal
 
 abbrev pub invariant-loop-pairs : goal.invariant-loop-pairs

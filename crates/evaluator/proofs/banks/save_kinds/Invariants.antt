@@ -1,10 +1,8 @@
 -- What the loop of `save_kinds` keeps.
-use mathlib.Core.Path.{◌≡◌, refl}
+use mathlib.Core.Path.{◌≡◌}
 use Prim.Native.Nat.{◌-◌, ◌≤◌}
-use native.Mathlib.Omega.{arith}
 use lib.ListN.{take}
 use lib.Seq.{sets}
-use Rattle.evaluator.proofs.BankLaws.{saves_length, saves_one, saves_all}
 use Rattle.evaluator.proofs.banks.save_kinds.Given as goal
 
 abbrev pub invariant-loop-i : goal.invariant-loop-i

@@ -1,10 +1,6 @@
 -- What the loop of `run_all` keeps.
-use mathlib.Core.Path.{sym, ◌∙◌}
-use borrow.Author.Tests.{not-true, not-false}
 use Rattle.arms.specs.Code.{Decodes}
 use Rattle.evaluator.specs.Hands.{rows_of, LeadsTo, weight}
-use Rattle.evaluator.proofs.RoundLaws.{leads_on, leads_none}
-use borrow.Author.Rules.{rules}
 use Rattle.evaluator.proofs.flat.run_all.Given as goal
 
 abbrev pub invariant-loop-nums : goal.invariant-loop-nums
