@@ -14,7 +14,7 @@ use Rattle.task.specs.declared.Frame.{Frame}
 use Rattle.task.specs.declared.Kind.{Kind}
 use Rattle.task.specs.declared.Kind.TheVariants.{Stores, Goes, Pushes, Pops, Waits, Halts, Faults, Forks}
 use Rattle.task.specs.declared.Executed.{Executed}
-use Rattle.task.specs.Frames.{zeros, stack_length, no_forks, running, fault_of, work_limit}
+use Rattle.task.specs.Frames.{zeros, stack_length, no_forks, fault_of, work_limit}
 use Rattle.task.specs.Values.{record_of}
 use Rattle.task.specs.Formed.{value_fits}
 use Rattle.task.specs.Step.{first_fault}
