@@ -1,92 +1,108 @@
 // The run program: a job on standard input, and on standard output its report, or its refusal.
 #![tactic(auto)]
 
-ghost use Rattle.std.specs.Prelude.{◌+◌, ◌≤◌, length};
+ghost use Rattle.std.specs.Prelude.{◌≡◌, ◌+◌, ◌<◌, ◌≤◌, take, drop, length, IfOk, OnOk, IfSome};
+ghost use Rattle.std.specs.Io.KnownBytes.{Appends, Consumes, IsAtEnd};
+ghost use Rattle.job.specs.Run.{text_in};
+
+use std::io;
+use std::io::{Read, Write};
+use std::process::ExitCode;
 
 // The most picks that a job is given.
 const BUDGET: u64 = 1_000_000;
 
-// What came of reading: so many bytes, or a read that failed.
+// Why nothing was printed, or not all.
 #[derive(Clone, Copy)]
-pub struct Input {
-    pub failed: bool,
-    pub bytes: usize,
+pub enum Failure {
+    InputUnread,
+    JobTooLong,
+    TextTooLong,
+    OutputUnwritten,
 }
 
 // One read, into the buffer from `done` on: how many bytes it put there, 0 at the input's end.
-fn read_at(buf: &mut [u8], done: usize) -> Input
+fn read_at<R: Read>(input: &mut R, buf: &mut [u8], done: usize) -> io::Result<usize>
     requires { done ≤ length buf.old }
-    ensures { done + result.bytes ≤ length buf.old }
+    ensures room { IfOk result (λ n. done + n ≤ length buf.old) }
+    ensures kept { take done buf.new ≡ take done buf.old }
+    ensures bytes { IfOk result (λ n. Consumes (R.remaining input.old) (R.remaining input.new) (take n (drop done buf.new))) }
+    ensures end { IfOk result (λ n. n ≡ 0 → done < length buf.old → IsAtEnd (R.remaining input.new)) }
 {
-    let got = libc::read(0, &mut buf[done..]);
-    if got < 0 {
-        return Input {
-            failed: true,
-            bytes: 0,
-        };
-    }
-    let bytes = io::count(got, &buf[done..]);
-    Input {
-        failed: false,
-        bytes,
-    }
+    input.read(&mut buf[done..])
 }
 
-// Reads until the input ends or the buffer is full.
-fn read_all(buf: &mut [u8]) -> Input {
+// Reads until the input ends or the buffer is full: the buffer then begins with the input's first bytes, as many as it has room for.
+fn read_all<R: Read>(input: &mut R, buf: &mut [u8]) -> io::Result<usize>
+    ensures room { IfOk result (λ n. n ≤ length buf.old) }
+    ensures bytes { IfOk result (λ n. IfSome (R.remaining input.old) (λ xs. take n buf.new ≡ take (length buf.old) xs)) }
+{
     let mut done = 0usize;
     while done < buf.len() {
-        let more = read_at(buf, done);
-        if more.failed {
-            return more;
+        let more = read_at(input, buf, done)?;
+        if more == 0 {
+            return Ok(done);
         }
-        if more.bytes == 0 {
-            return Input {
-                failed: false,
-                bytes: done,
-            };
-        }
-        done += more.bytes;
+        done += more;
     }
-    Input {
-        failed: false,
-        bytes: done,
-    }
+    Ok(done)
 }
 
-fn complain(message: &[u8]) {
-    io::write_all(2, message);
+fn complain(rt: &impl Eprint, failure: Failure) {
+    let why = match failure {
+        Failure::InputUnread => "standard input could not be read",
+        Failure::JobTooLong => "the job is longer than its buffer",
+        Failure::TextTooLong => "the text is longer than its buffer",
+        Failure::OutputUnwritten => "standard output could not be written",
+    };
+    let _ = eprintln!(rt; "tpal_run: {why}");
 }
 
-fn print(text: &[u8], n: usize) {
+fn print<W: Write>(out: &mut W, text: &[u8], n: usize) -> Result<(), Failure>
+    ensures room { OnOk result (n ≤ length text.now) }
+    ensures bytes { OnOk result (Appends (W.contents out.old) (W.contents out.new) (take n text.now)) }
+{
     if text.len() < n {
-        complain(b"tpal_run: the text is longer than its buffer\n");
-        return;
+        return Err(Failure::TextTooLong);
     }
-    if !io::write_all(1, &text[..n]) {
-        complain(b"tpal_run: standard output could not be written\n");
+    match out.write_all(&text[..n]) {
+        Ok(()) => Ok(()),
+        Err(_) => Err(Failure::OutputUnwritten),
     }
 }
 
 // The first n bytes are the job.
-fn run(input: &[u8], n: usize) {
+fn run<W: Write>(input: &[u8], n: usize, out: &mut W) -> Result<(), Failure>
+    ensures { OnOk result (Appends (W.contents out.old) (W.contents out.new) (text_in (take n input.now) 1000000)) }
+{
     if input.len() < n {
-        complain(b"tpal_run: the job is longer than its buffer\n");
-        return;
+        return Err(Failure::JobTooLong);
     }
     let mut text = [0u8; report::TEXT_BYTES];
     let written = job::tpal_job_text(&input[..n], BUDGET, &mut text);
-    print(&text, written as usize);
+    print(out, &text, written as usize)
+}
+
+// What the input has comes into the buffer, and what is printed is the text of that.
+fn answer<R: Read, W: Write>(input: &mut R, out: &mut W, space: &mut [u8]) -> Result<(), Failure>
+    ensures { OnOk result (IfSome (R.remaining input.old)
+        (λ xs. Appends (W.contents out.old) (W.contents out.new) (text_in (take (length space.old) xs) 1000000))) }
+{
+    match read_all(input, space) {
+        Ok(n) => run(space, n, out),
+        Err(_) => Err(Failure::InputUnread),
+    }
 }
 
 // A job has at most 589,950 bytes, its image length and word count being of 16 bits. The buffer has one more, so that a longer input does
 // not end exactly after its last word.
-fn main() {
+fn main(rt: HostRuntime) -> ExitCode {
     let mut space = [0u8; 589951];
-    let input = read_all(&mut space);
-    if input.failed {
-        complain(b"tpal_run: standard input could not be read\n");
-        return;
+    match answer(&mut rt.stdin(), &mut rt.stdout(), &mut space) {
+        Ok(()) => ExitCode::SUCCESS,
+        Err(failure) => {
+            complain(&rt, failure);
+            ExitCode::FAILURE
+        }
     }
-    run(&space, input.bytes);
 }
