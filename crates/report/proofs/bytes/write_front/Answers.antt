@@ -1,0 +1,25 @@
+-- `write_front` meets its contract.
+use Rattle.std.proofs.Common.{rules, ◌≡◌, ◌+◌, ◌≤◌, length, get_or, ℕ, ◌-◌, ◌*◌, ◌<◌, ◌/◌, ◌%◌, Bool, true, false, nat_eq, nat_lt, List, [], ◌∷◌, ◌++◌, slice_set, bit_and, bit_or, Fits, w8, w32, w64, Bor, MutBor}
+use Rattle.std.proofs.lemmas.List.Edits.{sets}
+use Rattle.image.specs.Layout.{rows}
+use Rattle.task.specs.Frames.{zero_register}
+use Rattle.state.specs.Numbers.{value_numbers, in_bytes}
+use Rattle.report.specs.Report.{end_number, end_fault, report_length, report_bytes, rounds_report_length, rounds_report_bytes}
+use Rattle.report.proofs.bytes.write_front.Goals as goal
+use Rattle.report.proofs.ReportLaws.{report_placed}
+use borrow.Author.Rules.{rules}
+
+pub returns : goal.returns
+returns c =
+    let registers = c in
+    let two = registers in
+    let three = two in
+    let fault = three in
+    let end = fault in
+    let s = end in
+    report_placed s.args.r s.args.out.now _ _ _ end.end_number.result fault.end_fault.result
+    end.end_number.ensures
+    fault.end_fault.ensures
+    three.write_three.ensures
+    two.write_two.ensures
+    registers.write_registers.ensures
