@@ -1,21 +1,20 @@
 -- What a pick or a run that is not refused is like, and that the loop carries it out.
 use mathlib.Core.Path.{◌≡◌, refl, sym, ap, ◌∙◌}
-use mathlib.Core.Bool.{Bool, true, false, cond, not}
+use mathlib.Core.Bool.{Bool, true, false, cond}
 use mathlib.Core.List.{List}
 use Prim.Native.Nat.{ℕ, zero, suc, ◌<◌}
 use native.Mathlib.Omega.{arith}
-use lib.Dec.{eqb, ltb, leb}
+use lib.Dec.{eqb}
 use lib.IntN.{ℤ}
 use lib.ListN.{length}
-use borrow.Author.Tests.{eqb-true, ltb-true, lt-ltb, ne_eqb}
-use Rattle.image.specs.Layout.{program_cells, program_of}
-use Rattle.image.specs.Questions.{ask, or_else, program_no}
+use borrow.Author.Tests.{lt-ltb, ne_eqb}
+use Rattle.image.specs.Layout.{program_of}
+use Rattle.image.specs.Questions.{ask, or_else}
 use Rattle.image.specs.Doors.{unless_refused}
-use Rattle.image.proofs.Asked.{Numbered, ask_yes, or_else_no, or_else_yes, or_else_both}
-use Rattle.task.specs.Frames.{running, work_limit}
+use Rattle.image.proofs.Asked.{Numbered, or_else_no, or_else_yes, or_else_both}
 use Rattle.drive.specs.declared.State.{State}
 use Rattle.drive.specs.declared.Driven.{Driven}
-use Rattle.drive.specs.Slots.{at, Sized}
+use Rattle.drive.specs.Slots.{Sized}
 use Rattle.drive.specs.Ending.{job_ended}
 use Rattle.drive.specs.Shape.{shape}
 use Rattle.drive.specs.Issue.{slot_no, issued}

@@ -17,6 +17,7 @@ pub fn allows_lanes(lanes: u64) -> bool
 }
 
 // Of the words only their number counts.
+#[tactic(auto, using(crate::proofs::PickLaws::call_lent), unfolding(crate::specs::Dispatching::dispatch_no_by, image::specs::Questions::or_else))]
 fn ask_dispatch(cells: &[u64], words: usize, lanes: u64, m: State) -> u8
     ensures { result ≡ dispatch_no_by cells.now words lanes m }
 {

@@ -15,6 +15,7 @@ use task::running::is_running;
 use turns::course::Course;
 
 // Questions 21 to 24; t is the task at slot % 64. A state of the shape has at most 64 places.
+#[tactic(auto, unfolding(drive::specs::Issue::slot_no))]
 fn ask_slot(m: State, t: Task, slot: u64) -> u8
     requires { t ≡ get_or m.tasks (slot % 64) no_task }
     ensures { result ≡ slot_no m slot }
@@ -66,6 +67,7 @@ pub fn meets_shape(cells: &[u64], m: State) -> bool
 }
 
 // The questions about program and words that every call on a state puts. Of the words only their number counts.
+#[tactic(auto, unfolding(image::specs::Questions::or_else))]
 pub fn ask_call(cells: &[u64], words: usize) -> u8
     ensures { result ≡ call_no cells.now words }
 {
@@ -83,6 +85,7 @@ pub fn ask_call(cells: &[u64], words: usize) -> u8
 }
 
 // The questions of pick and run about program, words and state.
+#[tactic(auto, using(crate::proofs::PickLaws::call_lent), unfolding(crate::specs::Picking::state_no_by, image::specs::Questions::or_else))]
 pub fn ask_state(cells: &[u64], words: usize, m: State) -> u8
     ensures { result ≡ state_no_by cells.now words m }
 {

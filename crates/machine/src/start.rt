@@ -12,6 +12,7 @@ use task::{Register, Status, Value};
 pub const MOST_WORDS: usize = 4096;
 
 // The power of two that P is, or 7 where P is not allowed.
+#[tactic(auto, unfolding(drive::specs::Settings::rank))]
 pub fn rank_of(places: u64) -> usize
     ensures { result ≡ rank places }
 {
@@ -75,6 +76,7 @@ pub fn ask_settings(places: u64, interval: u64, registers: usize, words: usize, 
 }
 
 // Start's questions: the program's first.
+#[tactic(auto, unfolding(crate::specs::Starting::start_no_by, image::specs::Questions::or_else))]
 pub fn ask_start(cells: &[u64], places: u64, interval: u64, registers: usize, words: usize) -> u8
     ensures { result ≡ start_no_by cells.now places interval registers words }
 {
@@ -148,6 +150,7 @@ impl Machine {
     }
 
     // A fresh start of a job; a refused one hands back the state it was called on.
+    #[tactic(auto, using(crate::proofs::StartLaws::start_accepted, drive::proofs::Intervals::interval_fits), unfolding(image::specs::Doors::unless_refused))]
     pub fn start(
         self,
         cells: &[u64],
