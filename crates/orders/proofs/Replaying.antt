@@ -1,8 +1,7 @@
 -- An order carried out from a fresh start.
-use mathlib.Core.Path.{◌≡◌, sym, ap, ◌∙◌, subst⁻¹}
+use mathlib.Core.Path.{◌≡◌, ap, ◌∙◌}
 use mathlib.Core.List.{List, []}
 use Prim.Native.Nat.{ℕ}
-use lib.ListN.{length}
 use borrow.Author.Tests.{ne_eqb}
 use Rattle.image.specs.Doors.{unless_refused}
 use Rattle.drive.specs.declared.State.{State}

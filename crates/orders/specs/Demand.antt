@@ -3,7 +3,7 @@
 -- What it rests on, in reading order: agreement's Plain (the evaluation) and Slots (what an instruction does to the slots), image's Program,
 -- task's Frames, Values, Choices, Effect and Step (an instruction, a join), drive's Slots, Ending and Issue, machine's Starting and Picking. The
 -- shape test that a pick makes (drive's Shape) refuses no pick of an order: Shapes.antt.
-use Rattle.std.specs.Prelude.{ℕ, ◌+◌, ◌≤◌, ◌<◌, ◌≡◌, Bool, true, false, List, [], ◌∷◌, eqb, ℤ}
+use Rattle.std.specs.Prelude.{ℕ, ◌+◌, ◌≤◌, ◌<◌, ◌≡◌, true, false, List, [], ◌∷◌, eqb, ℤ}
 use Rattle.agreement.specs.Plain.{Ran, ran, eval}
 use Rattle.agreement.specs.Picks.{if_picked, once}
 use Rattle.image.specs.Program.{Program}
