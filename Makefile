@@ -25,10 +25,10 @@
 # make mutants     wrong definitions with code to match: which check catches each; minutes for each, hours for
 #                  all: make mutants MUTANTS='28 work_limit' AT_ONCE=2
 # make install     tpal.h, libtpal.a, libtpal.so, tpal.pc, tpal_run, tpasm and tpasm-trace below PREFIX, /usr/local:
-#                    make install PREFIX=/opt/tpal DESTDIR=stage
+#                    make install PREFIX=/opt/tpal DESTDIR=/tmp/stage
 # make uninstall   removes them again, with the same PREFIX and DESTDIR
 # make tools       installs gcc and cargo where they are missing, from Debian's packages
-# make clean       removes what was built, but for what has been proved; make distclean that too
+# make clean       removes what was built, but for what has been proved; make distclean that too: crates/*/out
 # make help        this list
 
 JOB = examples/f/f.tpal
@@ -60,13 +60,13 @@ shared = target/lib/libtpal.so.$(version)
 budgeted = target/c/run
 on_lanes = target/c/lanes
 assembler = rust/target/release/tpasm
-sources = crates.txt $(shell find crates -type f -not -path '*/must-fail/*')
+sources = crates.txt $(shell find crates -name out -prune -o -type f -not -path '*/must-fail/*' -print)
 tracer = rust/target/release/tpasm-trace
 rust_sources = rust/Cargo.toml rust/Cargo.lock $(shell find rust/tpasm rust/model -type f)
 all_rust_sources = $(shell find rust -name target -prune -o -type f -print)
 in_rust = --release --offline --manifest-path rust/Cargo.toml
 
-# rt's checks share target/: one at a time.
+# Each of rt's checks takes all processors: one at a time.
 .NOTPARALLEL:
 .DELETE_ON_ERROR:
 .PHONY: all run lib test rust-test c-test bench counts soak soak-jobs soak-steps soak-orders soak-replay soak-dispatch limit \
@@ -150,7 +150,7 @@ $(program): $(sources)
 	@touch -c $@
 
 $(archive): $(program)
-	@sh scripts/prove.sh --archive job
+	@sh scripts/prove.sh --archive
 	@touch -c $@
 
 # ---- Built of that
@@ -160,13 +160,13 @@ $(static): $(archive)
 	cp $< $@
 
 # The archive is position-independent. The library's own calls are bound when it is loaded, so that
-# none of them takes stack for the loader.
+# none of them takes stack for the loader. Its other names are copies: rt ci refuses links in the tree.
 $(shared): $(archive) c/libtpal.map
 	@mkdir -p $(@D)
 	$(CC) -shared -Wl,-soname,$(soname) -Wl,--version-script=c/libtpal.map -Wl,--no-undefined \
 	    -Wl,-z,now -Wl,--whole-archive $< -Wl,--no-whole-archive -o $@
-	ln -sf $(@F) $(@D)/$(soname)
-	ln -sf $(soname) $(@D)/libtpal.so
+	cp -f $@ $(@D)/$(soname)
+	cp -f $@ $(@D)/libtpal.so
 
 $(budgeted): c/run.c c/tpal.h $(static)
 	@mkdir -p $(@D)
@@ -208,4 +208,4 @@ clean:
 	rm -rf target/c target/lib rust/target
 
 distclean: clean
-	rm -rf target
+	rm -rf target crates/*/out

@@ -1,8 +1,9 @@
 #!/bin/sh
-# Holds the header to the engine: each `pub extern "C" fn` of crates/job/src/lib.rt is declared with the
+# Holds the header to the engine: each `pub extern "C" fn` of crates/job_c/src/lib.rt is declared with the
 # same types, a slice as a pointer and a length; header, archive and shared library have these names and
-# no other. Then damaged copies of header and source, which have to be found out. The examples of
-# docs/api.md compile, and docs/numbers.md has the header's names. The last line is the total.
+# no other. Each has the contract of job's function of its name, word for word. Then damaged copies of header
+# and source, which have to be found out. The examples of docs/api.md compile, and docs/numbers.md has the
+# header's names. The last line is the total.
 set -eu
 cd "$(dirname "$0")/.."
 . c/counting.sh
@@ -10,7 +11,8 @@ room=$(mktemp -d)
 trap 'rm -rf "$room"' EXIT
 
 header=c/tpal.h
-source=crates/job/src/lib.rt
+source=crates/job_c/src/lib.rt
+library=crates/job/src/lib.rt
 static=target/lib/libtpal.a
 shared=target/lib/libtpal.so
 
@@ -59,6 +61,21 @@ defined() {
     nm --defined-only -P "$@" | awk '$2 == "T" || $2 == "W" { sub(/@.*/, "", $1); print $1 }' | sort
 }
 
+# contracts SOURCE: each `tpal_` function that it offers, from its name to its body.
+contracts() {
+    awk '
+        sub(/^pub (extern "C" )?fn tpal_/, "tpal_") { reading = 1 }
+        /^\{/ && reading { reading = 0; print "" }
+        reading { print }' "$1"
+}
+
+# same_contracts SOURCE LIBRARY
+same_contracts() {
+    contracts "$1" >"$room/exported"
+    contracts "$2" >"$room/offered"
+    test -s "$room/exported" && diff "$room/exported" "$room/offered"
+}
+
 # agree HEADER SOURCE
 agree() {
     exports "$2" >"$room/exports"
@@ -91,6 +108,7 @@ holds 'the archive has them and no other' diff "$room/expected" "$room/in_static
 defined -D "$shared" >"$room/in_shared"
 holds 'the shared library has them and no other' diff "$room/expected" "$room/in_shared"
 holds 'header and source agree' agree "$header" "$source"
+holds "the exports' contracts are those of job" same_contracts "$source" "$library"
 
 # damaged NAME FILE SED: the two no longer agree.
 damaged() {
@@ -111,7 +129,11 @@ damaged 'a header with a shorter answer' "$header" 's/^uint64_t tpal_job_text/ui
 damaged 'a header that writes what is read' "$header" 's/^uint8_t tpal_image_check(const /uint8_t tpal_image_check(/'
 damaged 'a source without tpal_pick' "$source" 's/^pub extern "C" fn tpal_pick/fn tpal_pick/'
 damaged 'a source with a parameter more' "$source" 's/fn tpal_image_check(image: &\[u8\])/fn tpal_image_check(image: \&[u8], depth: u64)/'
-damaged 'a source with another export' "$source" 's/^fn carry_out(/pub extern "C" fn tpal_carry_out(/'
+damaged 'a source with another export' "$source" '$a pub extern "C" fn tpal_carry_out(job: \&[u8]) -> u8'
+sed 's/^\(    ensures value .* slot state\).old }/\1.new }/' "$source" >"$room/damaged"
+fails 'an export with another contract is found out' same_contracts "$room/damaged" "$library"
+sed 's/^pub fn tpal_pick/fn tpal_pick/' "$library" >"$room/damaged"
+fails 'an export that job has not is found out' same_contracts "$source" "$room/damaged"
 
 # The examples of the documentation.
 awk -v room="$room" '

@@ -136,7 +136,7 @@ dispatch() {
 }
 
 if [ ! -f target/staticlib/libjob.a ]; then
-    echo 'target/staticlib/libjob.a is missing: run make, or rt staticlib job'
+    echo 'target/staticlib/libjob.a is missing: run make'
     echo '0 passed, 1 failed'
     exit 1
 fi

@@ -4,19 +4,20 @@
 #
 #     scripts/mutants.sh [-j COUNT] [-k] [-n] [NAME..]
 #
-# NAME is a mutant's number, name or file; without one all are tried. -j tries so many at a time (RT_JOBS
-# goes on to each rt), -k keeps the copies, -n only sees whether each edit fits: nothing is proved.
+# NAME is a mutant's number, name or file; without one all are tried. -j tries so many at a time, -k keeps
+# the copies, -n only sees whether each edit fits: nothing is proved.
 #
-# A mutant gets a copy of the repository below target/mutants/, with target/, so that crates below its
-# own are not proved again. Its crate has to be proved, and so have the others that it changes; else it
-# is 'not proved': no mutant, but an edit of one side, to be mended. The crates that depend on its own
-# come after it in the order of crates.txt, then the tests, until one says no:
+# A mutant gets a copy of the repository in a scratch folder, outside the tree, since rt ci looks over every
+# file of that. rt begins there with what it kept of the same crates in the repository, which are therefore all
+# proved first, so that those below the mutant's own are not proved again. Its crate has to be proved, and so
+# have the others that it changes; else it is 'not proved': no mutant, but an edit of one side, to be mended.
+# The crates that depend on its own come after it in the order of crates.txt, then the tests, until one says no:
 #
 #     table: CRATE        cases, doors
 #     teeth               teeth
-#     output: tpal_run    the run program, whose output on F rt check holds
+#     output: tpal_run    the run program, whose output on F scripts/crate.sh holds
 #     proof: CRATE        another crate
-#     Rust tests, C tests with the archive that rt staticlib makes
+#     Rust tests, C tests with the archive that is made of it
 #     none                no check catches it
 #
 # A line for each mutant, and the counts. target/mutants/results.md is the table of all results so far;
@@ -25,8 +26,8 @@ set -u
 cd "$(dirname "$0")/.." || exit 1
 PATH=$PATH:${HOME:-/root}/.cargo/bin
 export PATH CARGO_TERM_COLOR=never
-rooms=target/mutants
-[ -z "${dry:-}" ] || rooms=target/mutants/fit
+results=target/mutants
+[ -z "${dry:-}" ] || results=target/mutants/fit
 
 # apply EDIT ROOT: the edit carried out on the files below ROOT. All old texts are looked for in a file
 # as it was; each has to be there once. ⏎ stands for a line's end.
@@ -81,8 +82,8 @@ after() {
     awk -v wanted="$1" '
         { sub(/#.*/, ""); colon = index($0, ":") }
         colon {
-            name = substr($0, 1, colon - 1)
-            gsub(/[ \t]/, "", name)
+            split(substr($0, 1, colon - 1), word, " ")
+            name = word[1]
             words = split(substr($0, colon + 1), word, " ")
             for (k = 1; k <= words; k++)
                 if (word[k] == wanted || word[k] in found) { found[name]; print name; break }
@@ -91,7 +92,7 @@ after() {
 
 # said FILE: the first error in it, else its last line; short, and fit for a table.
 said() {
-    { grep -m 1 ' error: ' "$1" || tail -n 1 "$1"; } | sed 's|^.*/crates/||' | tr -d '\t`|' | LC_ALL=C.UTF-8 sed -E 's/^(.{160}).*/\1/'
+    { grep -m 1 ' error[:[]' "$1" || tail -n 1 "$1"; } | sed 's|^\./||; s|^.*/crates/||' | tr -d '\t`|' | LC_ALL=C.UTF-8 sed -E 's/^(.{160}).*/\1/'
 }
 
 # line KEY EDIT: what its comment `# KEY: ..` says.
@@ -101,16 +102,16 @@ line() {
 
 # ends KIND DETAIL: the result of this mutant, and no more of it.
 ends() {
-    printf '%s\t%s\t%s\t%s\t%s\t%s\n' "$name" "$crate" "$1" "$2" "$(line Expect "$edit")" "$(($(date +%s) - began))" >"$rooms/$name.result"
+    printf '%s\t%s\t%s\t%s\t%s\t%s\n' "$name" "$crate" "$1" "$2" "$(line Expect "$edit")" "$(($(date +%s) - began))" >"$results/$name.result"
     echo "$name: $1${2:+ ($2)}"
     [ -n "${keep:-}" ] || rm -rf "$room"
     exit 0
 }
 
-# proves CRATE..: rt's checks in the copy; the first that is refused is $no.
+# proves CRATE..: the crates in the copy; the first that is refused is $no.
 proves() {
     for no; do
-        (cd "$room" && rt check "$no") >"$logs/$no" 2>&1 || return 1
+        sh "$room/scripts/crate.sh" "$no" >"$logs/$no" 2>&1 || return 1
     done
 }
 
@@ -121,17 +122,14 @@ one() {
     name=${name%.edit}
     crate=$(line Crate "$edit")
     room=$rooms/$name
-    logs=$rooms/$name.log
+    logs=$results/$name.log
     began=$(date +%s)
-    rm -rf "$room" "$logs" "$rooms/$name.result"
+    rm -rf "$room" "$logs" "$results/$name.result"
     mkdir -p "$room" "$logs"
     if [ -n "${dry:-}" ]; then
-        tar -cf - crates | tar -C "$room" -xf -
+        tar --exclude=crates/*/out -cf - crates | tar -C "$room" -xf -
     else
-        tar --exclude=./target --exclude=./rust/target --exclude=./.git -cf - . | tar -C "$room" -xf -
-        mkdir "$room/target"
-        tar -C target --exclude=./mutants --exclude=./must-fail --exclude=./log --exclude=./c --exclude=./lib -cf - . |
-            tar -C "$room/target" -xf -
+        tar --exclude=./target --exclude=./rust/target --exclude=./.git --exclude=./crates/*/out -cf - . | tar -C "$room" -xf -
     fi
     apply "$edit" "$room" >"$logs/edit" 2>&1 || ends 'no edit' "$(said "$logs/edit")"
     [ -z "${dry:-}" ] || ends 'fits' ''
@@ -148,7 +146,8 @@ one() {
         esac
     fi
 
-    (cd "$room" && rt staticlib job) >"$logs/archive" 2>&1 || ends 'no archive' "$(said "$logs/archive")"
+    { sh "$room/scripts/crate.sh" tpal_run && sh "$room/scripts/crate.sh" job_c; } >"$logs/archive" 2>&1 ||
+        ends 'no archive' "$(said "$logs/archive")"
     if ! (cd "$room" && cargo test --release --offline --manifest-path rust/Cargo.toml) >"$logs/rust" 2>&1; then
         first=$(awk '
             $1 == "Running" { binary = $2 == "unittests" ? $3 : $2; sub(/.*\//, "", binary) }
@@ -170,8 +169,8 @@ table() {
     for edit in mutants/*.edit; do
         name=${edit##*/}
         name=${name%.edit}
-        [ -f "$rooms/$name.result" ] || continue
-        awk -F '\t' -v wrong="$(sed -n '1s/^# //p' "$edit" | tr -d '|')" '{ print "| " $1 " | " wrong " | " $2 " | " $3 " | " $4 " |" }' "$rooms/$name.result"
+        [ -f "$results/$name.result" ] || continue
+        awk -F '\t' -v wrong="$(sed -n '1s/^# //p' "$edit" | tr -d '|')" '{ print "| " $1 " | " wrong " | " $2 " | " $3 " | " $4 " |" }' "$results/$name.result"
     done
 }
 
@@ -191,8 +190,7 @@ while getopts j:kn option; do
     esac
 done
 shift $((OPTIND - 1))
-export keep dry
-[ -z "$dry" ] || rooms=target/mutants/fit
+[ -z "$dry" ] || results=target/mutants/fit
 
 if [ -z "$dry" ] && ! command -v rt >/dev/null; then
     echo 'rt, the Rattle toolchain, is not on the path, and only it can prove and build the engine.' >&2
@@ -216,15 +214,21 @@ for name; do
     named="$named $found"
 done
 
-mkdir -p "$rooms"
+mkdir -p "$results"
+if [ -z "$dry" ]; then sh scripts/prove.sh || exit 1; fi
+rooms=$(mktemp -d) || exit 1
+[ -n "$keep" ] || trap 'rm -rf "$rooms"' EXIT
+trap 'exit 1' HUP INT TERM
+export keep dry rooms
 # shellcheck disable=SC2086
 printf '%s\n' $named | xargs -P "$count" -n 1 sh scripts/mutants.sh --one
+[ -z "$keep" ] || echo "the copies are in $rooms"
 # shellcheck disable=SC2086
 for edit in $named; do
     name=${edit##*/}
-    cat "$rooms/${name%.edit}.result" 2>/dev/null || printf '\t\tno result\n'
-done >"$rooms/now"
-[ -n "$dry" ] || table >"$rooms/results.md"
+    cat "$results/${name%.edit}.result" 2>/dev/null || printf '\t\tno result\n'
+done >"$results/now"
+[ -n "$dry" ] || table >"$results/results.md"
 awk -F '\t' '
     { kind = $3; sub(/:.*/, "", kind); number[kind]++; if (kind !~ /^(proof|table|teeth|output|Rust tests|C tests|fits)$/) left++ }
     END {
@@ -236,4 +240,4 @@ awk -F '\t' '
         }
         print NR " mutants: " text
         exit left > 0
-    }' "$rooms/now"
+    }' "$results/now"

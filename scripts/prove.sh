@@ -1,12 +1,12 @@
 #!/bin/sh
-# Proves a crate and all that it needs, in the order of crates.txt, or makes the archive of one:
+# Proves a crate and all that it needs, in the order of crates.txt, or makes the archive for C:
 #
 #     scripts/prove.sh NAME
-#     scripts/prove.sh --archive NAME
+#     scripts/prove.sh --archive
 #
-# A line for each crate says which of how many it is and then how long it took. What the prover says
-# goes to target/log/prove-CRATE.log. A crate that has not changed is not proved again. For an
-# archive `rt staticlib` proves the crate itself once more, unless it is that of the last archive.
+# Without a name all crates are proved. A line for each says which of how many it is and then how long it took. What
+# the prover says goes to target/log/prove-CRATE.log. A crate that has not changed is not proved again. The archive is
+# that of job_c, over the crates that are proved by then.
 set -u
 cd "$(dirname "$0")/.." || exit 1
 
@@ -15,36 +15,37 @@ if ! command -v rt >/dev/null; then
     exit 1
 fi
 
-# logged NAME WORDS..: runs rt with these words. On a no, the last of what it said.
+# logged CRATE: proves and builds it. On a no, the last of what rt said.
 logged() {
     log=target/log/prove-$1.log
-    shift
     began=$(date +%s)
     mkdir -p target/log
-    rt "$@" >"$log" 2>&1
+    sh scripts/crate.sh "$1" >"$log" 2>&1
     status=$?
     took=$(($(date +%s) - began))
-    [ "$status" -ne 0 ] || return 0
-    echo "failed after $took s"
-    tail -n 20 "$log" >&2
-    echo "rt $* ended with status $status; all that it said is in $log" >&2
-    exit 1
+    if [ "$status" -ne 0 ]; then
+        echo "failed after $took s"
+        tail -n 20 "$log" >&2
+        echo "the check of $1 ended with status $status; all that it said is in $log" >&2
+        exit 1
+    fi
+    if grep -q '^logic=proved' "$log"; then echo "$took s"; else echo unchanged; fi
 }
 
-# The crate and what it needs: crates.txt has the lowest first.
+# The crate and what it needs, or all: crates.txt has the lowest first.
 needed() {
     awk -v wanted="$1" '
         { sub(/#.*/, ""); colon = index($0, ":") }
         colon {
-            name = substr($0, 1, colon - 1)
-            gsub(/[ \t]/, "", name)
-            names[++count] = name
+            split(substr($0, 1, colon - 1), word, " ")
+            names[++count] = word[1]
             needs[count] = substr($0, colon + 1)
         }
         END {
             need[wanted]
             for (i = count; i > 0; i--)
-                if (names[i] in need) {
+                if (wanted == "" || names[i] in need) {
+                    need[names[i]]
                     words = split(needs[i], word, " ")
                     for (k = 1; k <= words; k++) need[word[k]]
                 }
@@ -52,30 +53,18 @@ needed() {
         }' crates.txt
 }
 
-if [ "$1" = --archive ]; then
-    archive=target/staticlib/lib$2.a
-    made_of=target/staticlib/$2.stamp
-    printf 'archive of %s .. ' "$2"
-    if [ -f "$archive" ] && [ -f "$made_of" ] && cmp -s "$made_of" "target/stamp/$2"; then
-        echo unchanged
-    else
-        logged "$2-archive" staticlib "$2"
-        cp "target/stamp/$2" "$made_of" 2>/dev/null || rm -f "$made_of"
-        echo "$took s"
-    fi
+if [ "${1:-}" = --archive ]; then
+    printf 'archive of job_c .. '
+    logged job_c
     exit 0
 fi
 
-# A program that was removed has to be made again, though nothing has changed.
-if [ -f "crates/$1/src/main.rt" ] && [ ! -f "target/bin/$1" ]; then rm -f "target/stamp/$1"; fi
-
-crates=$(needed "$1")
+crates=$(needed "${1:-}")
 # shellcheck disable=SC2086
 set -- $crates
 at=0
 for crate; do
     at=$((at + 1))
     printf 'proving %2d of %d: %s .. ' "$at" $# "$crate"
-    logged "$crate" check "$crate"
-    if grep -q "^rt: $crate proved (unchanged" "$log"; then echo unchanged; else echo "$took s"; fi
+    logged "$crate"
 done

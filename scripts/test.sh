@@ -122,42 +122,52 @@ cp -R c Makefile "$stand/"
 mkdir -p "$stand/bin" "$stand/rust/tpasm" "$stand/rust/model"
 : >"$stand/rust/Cargo.toml"
 : >"$stand/rust/Cargo.lock"
-for file in low/src/lib high/src/lib aside/src/lib job/src/lib tpal_run/src/main; do
+for file in low/src/lib high/src/lib aside/src/lib job/src/lib job_c/src/lib tpal_run/src/main; do
     mkdir -p "$stand/crates/${file%/*}"
     echo "$file" >"$stand/crates/$file.rt"
 done
+echo 'a job' >"$stand/crates/tpal_run/stdin"
+echo 'a job' >"$stand/crates/tpal_run/stdout"
 cat >"$stand/crates.txt" <<'END'
 # The lowest first.
 low:
 high: low
 aside: high low
 job: high low
-tpal_run: job high low io
+job_c staticlib: job high low
+tpal_run: job high low
 END
 cp target/staticlib/libjob.a "$stand/bin/archive"
 cat >"$stand/bin/rt" <<'END'
 #!/bin/sh
-# Stands in for rt: a crate is proved when its file differs from the last time.
-mkdir -p target/stamp target/bin target/staticlib
-if [ "$1" = staticlib ]; then
-    echo "archive $2" >>calls
-    cp bin/archive "target/staticlib/lib$2.a"
+# Stands in for rt in a crate's folder: a crate is proved when its file differs from the last time, a static
+# library each time. The program prints its input.
+if [ "$1" = version ]; then
+    echo stand-in
     exit
 fi
-file=$(echo crates/$2/src/*.rt)
-if grep -q wrong "$file"; then
-    echo "$file: error: this is wrong"
-    exit 1
-fi
-if cmp -s "$file" "target/stamp/$2"; then
-    echo "rt: $2 proved (unchanged since it was last proved)"
-else
-    echo "prove $2" >>calls
-    echo 'a long note'
-    cp "$file" "target/stamp/$2"
-    echo "rt: $2 proved (0 s)"
-    [ "$2" != tpal_run ] || echo program >target/bin/tpal_run
-fi
+name=${PWD##*/}
+file=$(echo src/*.rt)
+mkdir -p out
+{
+    if grep -q wrong "$file"; then
+        echo "$file: error: this is wrong"
+        exit 1
+    fi
+    if [ "$name" = job_c ] || ! cmp -s "$file" out/last; then
+        echo "prove $name" >>../../calls
+        echo 'a long note'
+        echo 'logic=proved functions=1'
+        cp "$file" out/last
+    fi
+} >&2
+case $name in
+job_c) cp ../../bin/archive out/libjob_c.a ;;
+tpal_run)
+    echo program >out/tpal_run
+    cat
+    ;;
+esac
 END
 chmod +x "$stand/bin/rt"
 rm -rf "$stand/target"
@@ -170,17 +180,18 @@ built() {
     sed 's/[0-9]* s$/n s/' "$room/timed" >"$room/out"
 }
 
-# lines TEXT, called TEXT: what make printed, and what rt was called for.
+# lines TEXT, called TEXT: what make printed, and what rt proved.
 lines() { printf "$1" | diff - "$room/out"; }
 called() { printf "$1" | diff - "$stand/calls"; }
 
 holds 'make, from nothing' built lib
 holds 'a line for each crate' lines "$(printf '%s' \
     'proving  1 of 4: low .. n s\nproving  2 of 4: high .. n s\nproving  3 of 4: job .. n s\n' \
-    'proving  4 of 4: tpal_run .. n s\narchive of job .. n s\n')"
+    'proving  4 of 4: tpal_run .. n s\narchive of job_c .. n s\n')"
 holds 'each is proved once' called \
-    'prove low\nprove high\nprove job\nprove tpal_run\narchive job\n'
+    'prove low\nprove high\nprove job\nprove tpal_run\nprove job_c\n'
 holds 'the notes are in a log' grep -q 'a long note' "$stand/target/log/prove-high.log"
+holds 'no links' test -z "$(find "$stand/target" -type l)"
 holds 'make again' built lib
 holds 'says nothing' lines ''
 holds 'proves nothing' called ''
@@ -189,21 +200,31 @@ touch "$stand/crates/low/src/lib.rt"
 holds 'make with a newer file that is the same' built lib
 holds 'its lines' lines "$(printf '%s' 'proving  1 of 4: low .. unchanged\n' \
     'proving  2 of 4: high .. unchanged\nproving  3 of 4: job .. unchanged\n' \
-    'proving  4 of 4: tpal_run .. unchanged\narchive of job .. unchanged\n')"
+    'proving  4 of 4: tpal_run .. unchanged\narchive of job_c .. unchanged\n')"
 holds 'proves nothing' called ''
 echo more >>"$stand/crates/high/src/lib.rt"
 holds 'make with a change' built lib
-holds 'proves that' called 'prove high\n'
-echo more >>"$stand/crates/job/src/lib.rt"
-holds 'make with a change of the archive' built lib
-holds 'proves it and makes the archive' called 'prove job\narchive job\n'
+holds 'proves that, and makes the archive' called 'prove high\nprove job_c\n'
+echo more >>"$stand/crates/aside/src/lib.rt"
+holds 'make with a change beside the archive' built lib
+holds 'proves nothing' called ''
 rm "$stand/target/bin/tpal_run"
 holds 'make without the run program' built lib
-holds 'makes it again' called 'prove tpal_run\n'
+holds 'proves nothing' called ''
+holds 'puts it there again' test -f "$stand/target/bin/tpal_run"
+rm "$stand/target/staticlib/libjob.a"
+holds 'make without the archive' built lib
+holds 'makes it again' called 'prove job_c\n'
+(cd "$stand" && PATH=$stand/bin:$PATH sh scripts/prove.sh) >"$room/out"
+holds 'all crates' test "$(wc -l <"$room/out")" -eq 6
+echo 'another job' >"$stand/crates/tpal_run/stdout"
+fails 'make with a program that prints something else' built lib
+holds 'says so' complains 'printed something else than its file stdout has'
+echo 'a job' >"$stand/crates/tpal_run/stdout"
 echo wrong >>"$stand/crates/high/src/lib.rt"
 fails 'make with what is wrong' built lib
 holds 'goes no further' called ''
-holds 'shows what was said' complains 'high/src/lib.rt: error: this is wrong'
+holds 'shows what was said' complains 'src/lib.rt: error: this is wrong'
 holds 'names the log' complains 'target/log/prove-high.log'
 
 mkdir "$room/few"

@@ -1,4 +1,4 @@
-//! Links the archive that `rt staticlib job` makes.
+//! Links the archive of `crates/job_c`, which `make` puts into `target/staticlib`.
 
 use std::path::Path;
 use std::{env, process};
@@ -10,7 +10,7 @@ fn main() {
     println!("cargo:rerun-if-changed={}", archive.display());
     if !archive.exists() {
         eprintln!(
-            "{} is missing: run `make`, or `rt staticlib job`, at the repository's root",
+            "{} is missing: run `make` at the repository's root",
             archive.display()
         );
         process::exit(1);
