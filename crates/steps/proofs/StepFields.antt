@@ -4,7 +4,7 @@ use mathlib.Core.Path.{◌≡◌, refl}
 use mathlib.Core.Bool.{Bool, true, false, cond}
 use mathlib.Core.List.{List, [], ◌∷◌}
 use mathlib.Core.Option.{Option, none, some}
-use Prim.Native.Nat.{ℕ, zero, suc, ◌-◌, ◌/◌, ◌%◌, ◌^◌, ◌<◌}
+use Prim.Native.Nat.{ℕ, zero, suc, ◌-◌, ◌^◌, ◌<◌}
 use native.Mathlib.Omega.{arith}
 use lib.Dec.{eqb, ltb}
 use lib.IntN.{ℤ, pos, nat_abs, ◌+ℤ◌, ◌-ℤ◌, ◌*ℤ◌}
@@ -31,7 +31,7 @@ use Rattle.task.specs.Values.{truth}
 use Rattle.task.specs.Choices.{Choices, chosen}
 use Rattle.task.specs.Effect.{Effect, stores, continues, pushes, pops, enters, forks, waits, halts, faults, asked, integer, label, effect_of}
 use Rattle.task.specs.Effect.{Op, move, plus, minus, times, divide, modulo, less, equal, word, if_jump, jralloc, fork, jump, halt, meet, push, pop, unknown, opcodes}
-use Rattle.task.specs.Step.{register, operand, active_of, counted, side, with_task, emptied, faulted, has_place, has_value, onward, pushed, popped, applied, step, copied, first_fault, joined_by, join}
+use Rattle.task.specs.Step.{register, operand, active_of, counted, side, with_task, emptied, faulted, has_place, has_value, onward, pushed, popped, applied, step, first_fault, joined_by, join}
 use Rattle.task.proofs.Facts.{set_keeps, constant_at}
 use Rattle.task.proofs.Effects.{stack-keeps, asked-keeps, integer-keeps, label-keeps, record_keeps, entered-keeps}
 use Rattle.task.proofs.JoinKeeps.{copied-keeps}
