@@ -1,17 +1,15 @@
 -- An accepted job, replayed: what was read of its bytes is what start is given.
-use mathlib.Core.Path.{◌≡◌, refl, sym, ap, ◌∙◌, subst}
-use mathlib.Core.Bool.{true, false}
+use mathlib.Core.Path.{◌≡◌, refl, ap, ◌∙◌}
+use mathlib.Core.Bool.{true}
 use mathlib.Core.List.{List}
 use Prim.Native.Nat.{ℕ, ◌+◌, ◌≤◌}
 use native.Mathlib.Omega.{arith}
-use lib.Dec.{eqb, leb}
 use lib.IntN.{ℤ}
 use lib.ListN.{length}
 use borrow.Author.Tests.{leb-true, eq-eqb}
 use Rattle.image.specs.Layout.{cells_in}
-use Rattle.image.specs.Questions.{ask, or_else}
 use Rattle.image.specs.Doors.{unless_refused, image_no}
-use Rattle.image.proofs.Asked.{ask_yes, or_else_both}
+use Rattle.image.proofs.Asked.{or_else_both}
 use Rattle.drive.specs.declared.State.{State}
 use Rattle.machine.specs.Starting.{start_no, start_no_by, empty}
 use Rattle.machine.proofs.StartLaws.{start_accepted}
