@@ -4,5 +4,4 @@ use Rattle.int64.proofs.Little.{number-two}
 
 pub returns : goal.returns
 returns c =
-    let s = c in
-    number-two s.args.bytes.now s.args.at c.wide-low.result c.wide-high.result c.wide-low.ensures c.wide-high.ensures
+    number-two c.args.bytes.now c.args.at c.wide-low.result c.wide-high.result c.wide-low.ensures c.wide-high.ensures

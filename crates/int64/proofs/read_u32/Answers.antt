@@ -4,5 +4,4 @@ use Rattle.int64.proofs.Little.{number_add}
 
 pub returns : goal.returns
 returns c =
-    let s = c in
-    number_add 2 2 s.args.bytes.now s.args.at c.read_u16.result c.read_u16-2.result c.read_u16.ensures c.read_u16-2.ensures
+    number_add 2 2 c.args.bytes.now c.args.at c.read_u16.result c.read_u16-2.result c.read_u16.ensures c.read_u16-2.ensures

@@ -4,5 +4,4 @@ use Rattle.int64.proofs.Little.{number_add}
 
 pub returns : goal.returns
 returns c =
-    let s = c in
-    number_add 4 4 s.args.bytes.now s.args.at c.read_u32.result c.read_u32-2.result c.read_u32.ensures c.read_u32-2.ensures
+    number_add 4 4 c.args.bytes.now c.args.at c.read_u32.result c.read_u32-2.result c.read_u32.ensures c.read_u32-2.ensures

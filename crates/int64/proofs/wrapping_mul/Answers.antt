@@ -4,6 +4,5 @@ use Rattle.int64.proofs.Calls.{product_wraps}
 
 pub returns : goal.returns
 returns c =
-    let s = c in
-    product_wraps s.args.a s.args.b c.number.result s.ranges.a s.ranges.b c.number.type_inv c.low_product.result
+    product_wraps c.args.a c.args.b c.number.result c.ranges.a c.ranges.b c.number.type_inv c.low_product.result
     c.bits.ensures c.bits-2.ensures c.number.ensures c.low_product.ensures

@@ -4,7 +4,4 @@ use Rattle.int64.proofs.Little.{stored_add}
 
 pub returns : goal.returns
 returns c =
-    let r = c in
-    let w = r in
-    let s = w in
-    stored_add 2 2 s.args.x s.args.at s.args.bytes.now w.write_u16.new.bytes r.write_u16-2.new.bytes w.write_u16.ensures r.write_u16-2.ensures
+    stored_add 2 2 c.args.x c.args.at c.args.bytes.now c.write_u16.new.bytes c.write_u16-2.new.bytes c.write_u16.ensures c.write_u16-2.ensures

@@ -4,7 +4,4 @@ use Rattle.int64.proofs.Little.{stored_add}
 
 pub returns : goal.returns
 returns c =
-    let r = c in
-    let w = r in
-    let s = w in
-    stored_add 4 4 s.args.x s.args.at s.args.bytes.now w.write_u32.new.bytes r.write_u32-2.new.bytes w.write_u32.ensures r.write_u32-2.ensures
+    stored_add 4 4 c.args.x c.args.at c.args.bytes.now c.write_u32.new.bytes c.write_u32-2.new.bytes c.write_u32.ensures c.write_u32-2.ensures

@@ -8,18 +8,15 @@ use mathlib.Core.Path.{refl, ap, ◌∙◌}
 use mathlib.Core.List.{List, ◌++◌}
 use Prim.Native.Nat.{ℕ, ◌+◌}
 use lib.Seq.{sets}
-use Rattle.int64.specs.Little.{bytes_of}
-use Rattle.image.specs.Layout.{most_pairs}
 use Rattle.image.proofs.Rows.{placed}
 
 pub returns : goal.returns
 unfolding bytes_of
 returns c =
-    let start = c in
-    let l = start.args.image.now in
-    let at = start.args.at in
-    let k = start.args.k in
-    let pairs = most_pairs start.args.version in
+    let l = c.args.image.now in
+    let at = c.args.at in
+    let k = c.args.k in
+    let pairs = most_pairs c.args.version in
     let middle = c.four_bytes-middle.result in
     let two = placed l _ _ at (at + 2) (bytes_of 2 k.first) (bytes_of 4 middle)
     c.write_u16.ensures

@@ -5,5 +5,4 @@ use Rattle.image.proofs.Limiting.{limits_filled}
 
 pub returns : goal.returns
 returns c =
-    let start = c in
-    limits_filled start.args.limits.now _ _ start.requires refl c.fill_limits.ensures
+    limits_filled c.args.limits.now _ _ c.requires refl c.fill_limits.ensures

@@ -6,9 +6,6 @@ use Rattle.image.specs.Marks.{Marked}
 use Rattle.image.proofs.questions.ask_blocks.Goals as goal
 use mathlib.Core.Path.{sym, ◌∙◌, subst}
 use Prim.Native.Nat.{ℕ}
-use Rattle.image.specs.Questions.{block_no}
-use Rattle.image.specs.Layout.{block_count}
-use Rattle.image.specs.Marks.{Marked}
 use Rattle.image.proofs.Asked.{its_goes_on, decides, no_more}
 use Rattle.image.proofs.Accepted.{block_is}
 use Rattle.image.proofs.Marking.{marked_more}

@@ -2,7 +2,6 @@
 use Rattle.image.specs.Questions.{counts_no}
 use Rattle.image.proofs.questions.ask_counts.Goals as goal
 use borrow.Author.Tests.{le-leb, lt-leb}
-use Rattle.image.specs.Questions.{counts_no}
 
 pub returns-then-blocks-lt1 : goal.returns-then-blocks-lt1
 unfolding counts_no

@@ -3,8 +3,6 @@ use Rattle.image.specs.Layout.{block_count, instruction_count}
 use Rattle.image.specs.Questions.{counts_no, records_no}
 use Rattle.image.proofs.questions.ask_program.Goals as goal
 use mathlib.Core.Path.{sym, ◌∙◌}
-use Rattle.image.specs.Layout.{block_count, instruction_count}
-use Rattle.image.specs.Questions.{counts_no, records_no}
 use Rattle.image.proofs.Asked.{or_else_no, or_else_yes}
 use Rattle.image.proofs.Counts.{version-decides, version-passes, empty-buffer, short-buffer}
 

@@ -4,8 +4,6 @@ use Rattle.image.specs.Questions.{block_no, first_no, instruction_no, records_no
 use Rattle.image.proofs.questions.ask_records.Goals as goal
 use mathlib.Core.Path.{sym, ◌∙◌}
 use native.Mathlib.Omega.{arith}
-use Rattle.image.specs.Layout.{version_of, block_count, instruction_count}
-use Rattle.image.specs.Questions.{records_no, first_no, block_no, instruction_no}
 use Rattle.image.proofs.Asked.{or_else_no, or_else_yes}
 use Rattle.image.proofs.Versions.{opcodes_most}
 use Rattle.image.proofs.Marking.{marked_none, ended}
@@ -27,8 +25,7 @@ returns-then-no-ne0 c =
 
 pub bounds-cells-2 : goal.bounds-cells-2
 bounds-cells-2 c =
-    let start = c in
-    three-cells start.args.cells.now start.requires
+    three-cells c.args.cells.now c.requires
 
 pub bounds-marks-end : goal.bounds-marks-end
 bounds-marks-end c =
@@ -38,8 +35,7 @@ bounds-marks-end c =
 
 pub bounds-cells-1 : goal.bounds-cells-1
 bounds-cells-1 c =
-    let start = c in
-    omega (arith, three-cells start.args.cells.now start.requires)
+    omega (arith, three-cells c.args.cells.now c.requires)
 
 pub largest_operands-largest-requires : goal.largest_operands-largest-requires
 largest_operands-largest-requires c =
@@ -49,38 +45,29 @@ largest_operands-largest-requires c =
 
 pub bounds-cells-0 : goal.bounds-cells-0
 bounds-cells-0 c =
-    let start = c in
-    omega (arith, three-cells start.args.cells.now start.requires)
+    omega (arith, three-cells c.args.cells.now c.requires)
 
 pub ask_instructions-requires : goal.ask_instructions-requires
 ask_instructions-requires c =
-    let last = c in
-    let large = last in
-    let limits = large in
-    let passed = limits in
-    let asked = passed in
-    let start = asked in
-    let cells = start.args.cells.now in
-    let ok = start.requires in
+    let cells = c.args.cells.now in
+    let ok = c.requires in
     let k = counted (block_count cells) (instruction_count cells) ok in
-    let opcodes = last.last_opcode-opcodes.ensures in (
+    let opcodes = c.last_opcode-opcodes.ensures in (
       opcodes,
       record {
         few_opcodes = omega (arith, opcodes, opcodes_most (version_of cells));
         some_block = k.some_block;
-        limits_are = limits.all_limits.ensures;
-        largest_are = large.largest_operands-largest.ensures;
+        limits_are = c.all_limits.ensures;
+        largest_are = c.largest_operands-largest.ensures;
       },
       three-cells cells ok,
       k.instructions_fit,
-      ended cells _ (asked.ask_blocks-no.ensures.marked passed.if-no-ne0.false) k.instructions_fit,
+      ended cells _ (c.ask_blocks-no.ensures.marked c.if-no-ne0.false) k.instructions_fit,
     )
 
 pub returns : goal.returns
 unfolding records_no
 returns c =
-    let passed = c in
-    let asked = passed in
-    let cells = asked.args.cells.now in
+    let cells = c.args.cells.now in
     c.ask_instructions.ensures ∙ sym (or_else_yes (first_no (block_no cells) (block_count cells) 0)
-    (first_no (instruction_no cells) (instruction_count cells) 0) (sym asked.ask_blocks-no.ensures.value ∙ passed.if-no-ne0.false))
+    (first_no (instruction_no cells) (instruction_count cells) 0) (sym c.ask_blocks-no.ensures.value ∙ c.if-no-ne0.false))

@@ -3,7 +3,6 @@ use Rattle.image.specs.Questions.{version_no}
 use Rattle.image.proofs.questions.ask_version.Goals as goal
 use native.Mathlib.Omega.{arith}
 use borrow.Author.Tests.{le-leb, lt-leb}
-use Rattle.image.specs.Questions.{version_no}
 
 pub returns-then-version-lt1 : goal.returns-then-version-lt1
 unfolding version_no

@@ -2,7 +2,6 @@
 use Rattle.image.specs.Layout.{rows}
 use Rattle.image.proofs.questions.fill_limits.Goals as goal
 use mathlib.Core.Path.{refl, ◌∙◌}
-use Rattle.image.specs.Layout.{rows}
 use Rattle.image.proofs.Limiting.{row-filled}
 use native.Mathlib.Omega.{arith}
 
@@ -12,10 +11,9 @@ loop-row-init c = (omega arith, refl, refl)
 
 pub loop-row-preserved : goal.loop-row-preserved
 loop-row-preserved c =
-    let start = c in
     let l = c.loop-row in
     let put = c.put_limits in (
       omega arith,
       put.auto.limits ∙ l.invariant.1,
-      row-filled start.args.table.now start.args.limits.now l.limits _ l.row start.requires.0 l.invariant.2 put.ensures,
+      row-filled c.args.table.now c.args.limits.now l.limits _ l.row c.requires.0 l.invariant.2 put.ensures,
     )

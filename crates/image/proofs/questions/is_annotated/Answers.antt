@@ -2,7 +2,6 @@
 use Rattle.image.specs.Questions.{annotated}
 use Rattle.image.proofs.questions.is_annotated.Goals as goal
 use borrow.Author.Tests.{lt-ltb, le-ltb, eq-eqb, ne_eqb}
-use Rattle.image.specs.Questions.{annotated}
 
 pub returns-then-k-ne0 : goal.returns-then-k-ne0
 unfolding annotated

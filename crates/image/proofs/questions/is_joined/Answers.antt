@@ -2,7 +2,6 @@
 use Rattle.image.specs.Questions.{joined}
 use Rattle.image.proofs.questions.is_joined.Goals as goal
 use borrow.Author.Tests.{le-leb, lt-leb}
-use Rattle.image.specs.Questions.{joined}
 
 pub returns-then-k-gt1 : goal.returns-then-k-gt1
 unfolding joined

@@ -2,7 +2,6 @@
 use Rattle.image.specs.Questions.{unjoined}
 use Rattle.image.proofs.questions.is_unjoined.Goals as goal
 use borrow.Author.Tests.{eq-eqb, ne_eqb}
-use Rattle.image.specs.Questions.{unjoined}
 
 pub returns-then-k-ne0 : goal.returns-then-k-ne0
 unfolding unjoined

@@ -3,7 +3,6 @@ use Rattle.image.specs.Doors.{header_no}
 use Rattle.image.proofs.reader.ask_header.Goals as goal
 use mathlib.Core.Path.{sym, ◌∙◌}
 use borrow.Author.Tests.{le-leb, lt-leb, eq-eqb, ne_eqb, not-true, not-false}
-use Rattle.image.specs.Doors.{header_no}
 use Rattle.image.proofs.Asked.{or_else_no, or_else_yes}
 use Rattle.image.proofs.Counts.{counted}
 
@@ -18,13 +17,11 @@ returns-then-not-is_marked c = rw (le-leb _ _ c.if-image-lt8.false, ← c.is_mar
 pub returns-then-unknown-ne0 : goal.returns-then-unknown-ne0
 unfolding header_no
 returns-then-unknown-ne0 c =
-    let read = c in
-    let marked = read in
     rw (
-      le-leb _ _ marked.if-image-lt8.false,
-      ← marked.is_marked.ensures,
-      not-false marked.is_marked.result read.if-not-is_marked.false-raw,
-      ← read.read_u16-version.ensures.equal,
+      le-leb _ _ c.if-image-lt8.false,
+      ← c.is_marked.ensures,
+      not-false c.is_marked.result c.if-not-is_marked.false-raw,
+      ← c.read_u16-version.ensures.equal,
       ← c.ask_version-unknown.ensures,
     )
     (sym (or_else_no _ _ c.if-unknown-ne0.true))
@@ -32,20 +29,16 @@ returns-then-unknown-ne0 c =
 pub returns-then-no-ne0 : goal.returns-then-no-ne0
 unfolding header_no
 returns-then-no-ne0 c =
-    let counts = c in
-    let asked = counts in
-    let read = asked in
-    let marked = read in
     rw (
-      le-leb _ _ marked.if-image-lt8.false,
-      ← marked.is_marked.ensures,
-      not-false marked.is_marked.result read.if-not-is_marked.false-raw,
-      ← read.read_u16-version.ensures.equal,
-      ← asked.ask_version-unknown.ensures,
-      or_else_yes asked.ask_version-unknown.result _ asked.if-unknown-ne0.false,
-      ← counts.wide-blocks.ensures,
-      ← counts.read_u16-instructions.ensures.equal,
-      ← counts.ask_counts-no.ensures,
+      le-leb _ _ c.if-image-lt8.false,
+      ← c.is_marked.ensures,
+      not-false c.is_marked.result c.if-not-is_marked.false-raw,
+      ← c.read_u16-version.ensures.equal,
+      ← c.ask_version-unknown.ensures,
+      or_else_yes c.ask_version-unknown.result _ c.if-unknown-ne0.false,
+      ← c.wide-blocks.ensures,
+      ← c.read_u16-instructions.ensures.equal,
+      ← c.ask_counts-no.ensures,
     )
     (sym (or_else_no _ _ c.if-no-ne0.true))
 
@@ -57,21 +50,17 @@ image_length-requires c =
 pub returns-then-image-image_length : goal.returns-then-image-image_length
 unfolding header_no
 returns-then-image-image_length c =
-    let counts = c in
-    let asked = counts in
-    let read = asked in
-    let marked = read in
     rw (
-      le-leb _ _ marked.if-image-lt8.false,
-      ← marked.is_marked.ensures,
-      not-false marked.is_marked.result read.if-not-is_marked.false-raw,
-      ← read.read_u16-version.ensures.equal,
-      ← asked.ask_version-unknown.ensures,
-      or_else_yes asked.ask_version-unknown.result _ asked.if-unknown-ne0.false,
-      ← counts.wide-blocks.ensures,
-      ← counts.read_u16-instructions.ensures.equal,
-      ← counts.ask_counts-no.ensures,
-      or_else_yes counts.ask_counts-no.result _ c.if-no-ne0.false,
+      le-leb _ _ c.if-image-lt8.false,
+      ← c.is_marked.ensures,
+      not-false c.is_marked.result c.if-not-is_marked.false-raw,
+      ← c.read_u16-version.ensures.equal,
+      ← c.ask_version-unknown.ensures,
+      or_else_yes c.ask_version-unknown.result _ c.if-unknown-ne0.false,
+      ← c.wide-blocks.ensures,
+      ← c.read_u16-instructions.ensures.equal,
+      ← c.ask_counts-no.ensures,
+      or_else_yes c.ask_counts-no.result _ c.if-no-ne0.false,
       ← c.image_length.ensures,
       ne_eqb _ _ c.if-image-image_length.true,
     )
@@ -79,21 +68,17 @@ returns-then-image-image_length c =
 pub returns : goal.returns
 unfolding header_no
 returns c =
-    let counts = c in
-    let asked = counts in
-    let read = asked in
-    let marked = read in
     rw (
-      le-leb _ _ marked.if-image-lt8.false,
-      ← marked.is_marked.ensures,
-      not-false marked.is_marked.result read.if-not-is_marked.false-raw,
-      ← read.read_u16-version.ensures.equal,
-      ← asked.ask_version-unknown.ensures,
-      or_else_yes asked.ask_version-unknown.result _ asked.if-unknown-ne0.false,
-      ← counts.wide-blocks.ensures,
-      ← counts.read_u16-instructions.ensures.equal,
-      ← counts.ask_counts-no.ensures,
-      or_else_yes counts.ask_counts-no.result _ c.if-no-ne0.false,
+      le-leb _ _ c.if-image-lt8.false,
+      ← c.is_marked.ensures,
+      not-false c.is_marked.result c.if-not-is_marked.false-raw,
+      ← c.read_u16-version.ensures.equal,
+      ← c.ask_version-unknown.ensures,
+      or_else_yes c.ask_version-unknown.result _ c.if-unknown-ne0.false,
+      ← c.wide-blocks.ensures,
+      ← c.read_u16-instructions.ensures.equal,
+      ← c.ask_counts-no.ensures,
+      or_else_yes c.ask_counts-no.result _ c.if-no-ne0.false,
       ← c.image_length.ensures,
       eq-eqb _ _ c.if-image-image_length.false,
     )

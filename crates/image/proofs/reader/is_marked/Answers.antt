@@ -2,7 +2,6 @@
 use Rattle.image.specs.Doors.{mark_in}
 use Rattle.image.proofs.reader.is_marked.Goals as goal
 use borrow.Author.Tests.{eq-eqb, ne_eqb}
-use Rattle.image.specs.Doors.{mark_in}
 
 pub returns-then-image-mark : goal.returns-then-image-mark
 unfolding mark_in

@@ -7,9 +7,7 @@ use mathlib.Core.Path.{◌≡◌, sym, ap, ◌∙◌}
 use Prim.Native.Nat.{ℕ}
 use lib.ListN.{length, length-replicate}
 use native.Mathlib.Omega.{arith}
-use Rattle.image.specs.Layout.{program_cells, cells_in}
 use Rattle.image.specs.Questions.{records_no}
-use Rattle.image.specs.Doors.{header_no, image_no}
 use Rattle.image.proofs.Asked.{or_else_no, or_else_yes}
 use Rattle.image.proofs.Header.{header}
 use Rattle.image.proofs.Offset.{offset_unread}
@@ -18,35 +16,30 @@ use Rattle.image.proofs.Walked.{scanned-none, scanned-records}
 pub returns-then-no-ne0 : goal.returns-then-no-ne0
 unfolding image_no
 returns-then-no-ne0 c =
-    let start = c in
-    let image = start.args.image.now in
+    let image = c.args.image.now in
     let asked = c.ask_header-no.ensures in
     let refused : header_no image ≡ 0 → ⊥ = λ e. c.if-no-ne0.true (asked ∙ e) in
     record {
       no_value = asked ∙ sym (or_else_no (header_no image) (records_no (cells_in image)) refused);
       at_value = sym (offset_unread image refused);
-      cells_after = scanned-none image start.args.lays start.args.cells.now start.requires refused;
+      cells_after = scanned-none image c.args.lays c.args.cells.now c.requires refused;
     }
 
 pub lay_head-requires : goal.lay_head-requires
-lay_head-requires c =
-    let start = c in (
-      (header start.args.image.now (sym c.ask_header-no.ensures ∙ c.if-no-ne0.false)).long,
-      λ t.
-          (omega (arith, ap length (start.requires t), length-replicate {A = ℕ} program_cells 0)),
-    )
+lay_head-requires c = (
+  (header c.args.image.now (sym c.ask_header-no.ensures ∙ c.if-no-ne0.false)).long,
+  λ t.
+      (omega (arith, ap length (c.requires t), length-replicate {A = ℕ} program_cells 0)),
+)
 
 pub returns : goal.returns
 unfolding image_no
 returns c =
-    let counted = c in
-    let asked = counted in
-    let start = asked in
-    let image = start.args.image.now in
+    let image = c.args.image.now in
     let w = c.walk_records.ensures in
-    let accepted = sym asked.ask_header-no.ensures ∙ counted.if-no-ne0.false in
+    let accepted = sym c.ask_header-no.ensures ∙ c.if-no-ne0.false in
     record {
       no_value = w.no_value ∙ sym (or_else_yes (header_no image) (records_no (cells_in image)) accepted);
       at_value = w.at_value;
-      cells_after = scanned-records image start.args.lays start.args.cells.now start.requires _ _ accepted counted.lay_head.ensures w.cells_after;
+      cells_after = scanned-records image c.args.lays c.args.cells.now c.requires _ _ accepted c.lay_head.ensures w.cells_after;
     }

@@ -6,7 +6,6 @@ use mathlib.Core.Path.{ap₂, ◌∙◌}
 use Prim.Native.Nat.{ℕ}
 use native.Mathlib.Omega.{arith}
 use Rattle.image.specs.declared.Block.{Block}
-use Rattle.image.specs.Layout.{blocks_in, instructions_in}
 use Rattle.image.specs.Records.{block_record_no}
 use Rattle.image.proofs.Header.{header, block_asked}
 
@@ -15,11 +14,10 @@ read_u16-instructions-requires c = omega (arith, (header c.args.image.now c.requ
 
 pub returns : goal.returns
 returns c =
-    let start = c in
-    let image = start.args.image.now in
-    let b = start.args.b in
-    let before = start.args.before in
+    let image = c.args.image.now in
+    let b = c.args.b in
+    let before = c.args.before in
     c.ask_block_record.ensures
-    ∙ ap₂ (λ (m n : ℕ). block_record_no start.args.version m n b before start.args.k) c.wide-blocks.ensures c.read_u16-instructions.ensures.equal
-    ∙ ap₂ (λ (v : ℕ) (k : Block). block_record_no v (blocks_in image) (instructions_in image) b before k) start.requires.1 start.requires.3
-    ∙ block_asked image (header image start.requires.0) b before start.requires.2 start.requires.4
+    ∙ ap₂ (λ (m n : ℕ). block_record_no c.args.version m n b before c.args.k) c.wide-blocks.ensures c.read_u16-instructions.ensures.equal
+    ∙ ap₂ (λ (v : ℕ) (k : Block). block_record_no v (blocks_in image) (instructions_in image) b before k) c.requires.1 c.requires.3
+    ∙ block_asked image (header image c.requires.0) b before c.requires.2 c.requires.4

@@ -1,48 +1,42 @@
 -- `walk_blocks` meets its contract.
 use Rattle.std.proofs.Common.{◌≡◌, ℕ}
-use Rattle.image.specs.Layout.{block_place, version_in, block_in}
+use Rattle.image.specs.Layout.{block_place, version_in, block_in, most_pairs, block_size}
 use Rattle.image.proofs.walk.walk_blocks.Goals as goal
 use Prim.Native.Nat.{ℕ}
 use mathlib.Core.Path.{◌≡◌, sym, ap, ap₂, ◌∙◌}
 use native.Mathlib.Omega.{arith}
 use Rattle.image.specs.declared.Block.{Block}
-use Rattle.image.specs.Layout.{most_pairs, block_size, block_place, version_in, block_in}
 use Rattle.image.proofs.Counts.{counted}
 use Rattle.image.proofs.Header.{header}
 use Rattle.image.proofs.Walks.{blocks-begin, next_block, block_refused, blocks_end, block_within, first_below}
 
 pub read_u16-version-requires : goal.read_u16-version-requires
 read_u16-version-requires c =
-    let start = c in
-    omega (arith, (header start.args.image.now start.requires.0).long)
+    omega (arith, (header c.args.image.now c.requires.0).long)
 
 pub bounds-image-5 : goal.bounds-image-5
 bounds-image-5 c =
-    let start = c in
-    omega (arith, (header start.args.image.now start.requires.0).long)
+    omega (arith, (header c.args.image.now c.requires.0).long)
 
 pub loop-b-init : goal.loop-b-init
 loop-b-init c =
-    let start = c in
-    blocks-begin start.args.image.now start.requires.0 start.args.lays start.args.cells.now start.args.marks.now start.requires.1
+    blocks-begin c.args.image.now c.requires.0 c.args.lays c.args.cells.now c.args.marks.now c.requires.1
 
 pub block_in-k-requires : goal.block_in-k-requires
 block_in-k-requires c =
-    let start = c in
-    let image = start.args.image.now in
-    let ok = start.requires.0 in
+    let image = c.args.image.now in
+    let ok = c.requires.0 in
     let l = c.loop-b in
     let version = c.read_u16-version.ensures.equal in
     omega (arith, ap most_pairs version, (block_within image ok l.b (omega (arith, c.wide-blocks.ensures))).0, l.invariant.offset)
 
 pub returns-then-no-ne0 : goal.returns-then-no-ne0
 returns-then-no-ne0 c =
-    let start = c in
-    let image = start.args.image.now in
-    let ok = start.requires.0 in
+    let image = c.args.image.now in
+    let ok = c.requires.0 in
     let l = c.loop-b in
     let asked = c.ask_block_in-no.ensures in
-    let s = block_refused image ok start.args.lays start.args.cells.now l.marks l.cells l.at l.to l.before l.b l.invariant
+    let s = block_refused image ok c.args.lays c.args.cells.now l.marks l.cells l.at l.to l.before l.b l.invariant
     (omega (arith, c.wide-blocks.ensures)) (λ e. c.if-no-ne0.true (asked ∙ e)) in
     record {
       no_value = asked ∙ sym s.0;
@@ -53,9 +47,8 @@ returns-then-no-ne0 c =
 
 pub bounds-marks-before : goal.bounds-marks-before
 bounds-marks-before c =
-    let start = c in
-    let image = start.args.image.now in
-    let ok = start.requires.0 in
+    let image = c.args.image.now in
+    let ok = c.requires.0 in
     let l = c.loop-b in
     let version = c.read_u16-version.ensures.equal in
     let here = c.block_in-k.ensures ∙ ap₂ (λ (v n : ℕ). block_in v image n) version l.invariant.offset in
@@ -66,26 +59,23 @@ bounds-marks-before c =
 
 pub loop-b-preserved : goal.loop-b-preserved
 loop-b-preserved c =
-    let start = c in
-    let image = start.args.image.now in
-    let ok = start.requires.0 in
+    let image = c.args.image.now in
+    let ok = c.requires.0 in
     let l = c.loop-b in
     let version = c.read_u16-version.ensures.equal in
     let size = c.block_size-size.ensures ∙ ap block_size version in
-    let asked = c in
-    next_block image ok start.args.lays start.args.cells.now l.marks l.cells l.at l.to l.before l.b l.invariant _
-    asked.block_in-k.result _ (omega (arith, c.wide-blocks.ensures))
-    (sym asked.ask_block_in-no.ensures ∙ c.if-no-ne0.false)
-    (asked.block_in-k.ensures ∙ ap₂ (λ (v n : ℕ). block_in v image n) version l.invariant.offset) c.lay_block.ensures
+    next_block image ok c.args.lays c.args.cells.now l.marks l.cells l.at l.to l.before l.b l.invariant _
+    c.block_in-k.result _ (omega (arith, c.wide-blocks.ensures))
+    (sym c.ask_block_in-no.ensures ∙ c.if-no-ne0.false)
+    (c.block_in-k.ensures ∙ ap₂ (λ (v n : ℕ). block_in v image n) version l.invariant.offset) c.lay_block.ensures
     (omega (arith, size))
 
 pub returns : goal.returns
 returns c =
-    let start = c in
-    let image = start.args.image.now in
-    let ok = start.requires.0 in
+    let image = c.args.image.now in
+    let ok = c.requires.0 in
     let l = c.loop-b in
-    let s = blocks_end image ok start.args.lays start.args.cells.now l.marks l.cells l.at l.to l.before l.b l.invariant
+    let s = blocks_end image ok c.args.lays c.args.cells.now l.marks l.cells l.at l.to l.before l.b l.invariant
     (omega (arith, c.wide-blocks.ensures)) in
     record {
       no_value = sym s.0;

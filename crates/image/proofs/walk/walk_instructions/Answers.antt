@@ -8,22 +8,19 @@ use Rattle.image.proofs.Walks.{instructions-begin, next_instruction, instruction
 
 pub read_u16-instructions-requires : goal.read_u16-instructions-requires
 read_u16-instructions-requires c =
-    let start = c in
-    omega (arith, (header start.args.image.now start.requires.0).long)
+    omega (arith, (header c.args.image.now c.requires.0).long)
 
 pub loop-i-init : goal.loop-i-init
 loop-i-init c =
-    let start = c in
-    instructions-begin start.args.image.now start.requires.0 start.args.lays start.args.cells.now start.args.start start.requires.4
+    instructions-begin c.args.image.now c.requires.0 c.args.lays c.args.cells.now c.args.start c.requires.4
 
 pub returns-then-no-ne0 : goal.returns-then-no-ne0
 returns-then-no-ne0 c =
-    let start = c in
-    let image = start.args.image.now in
-    let ok = start.requires.0 in
+    let image = c.args.image.now in
+    let ok = c.requires.0 in
     let l = c.loop-i in
     let asked = c.ask_instruction_in-no.ensures in
-    let s = instruction-refused image ok start.args.lays start.args.cells.now l.cells l.at l.to l.i l.invariant
+    let s = instruction-refused image ok c.args.lays c.args.cells.now l.cells l.at l.to l.i l.invariant
     (omega (arith, c.read_u16-instructions.ensures.equal)) (λ e. c.if-no-ne0.true (asked ∙ e)) in
     record {
       no_value = asked ∙ sym s.0;
@@ -33,9 +30,8 @@ returns-then-no-ne0 c =
 
 pub lay_instruction-requires : goal.lay_instruction-requires
 lay_instruction-requires c =
-    let start = c in
-    let image = start.args.image.now in
-    let ok = start.requires.0 in
+    let image = c.args.image.now in
+    let ok = c.requires.0 in
     let l = c.loop-i in
     let below = c.read_u16-instructions.ensures.equal in
     let few = (counted _ _ (header image ok).counts).instructions_fit in (
@@ -43,8 +39,8 @@ lay_instruction-requires c =
       λ t.
           (omega (
             arith,
-            start.requires.5 t,
-            instruction-length image ok start.args.lays start.args.cells.now l.cells l.at l.to l.i
+            c.requires.5 t,
+            instruction-length image ok c.args.lays c.args.cells.now l.cells l.at l.to l.i
                 l.invariant,
             l.invariant.target,
             below,
@@ -54,22 +50,20 @@ lay_instruction-requires c =
 
 pub loop-i-preserved : goal.loop-i-preserved
 loop-i-preserved c =
-    let start = c in
-    let image = start.args.image.now in
-    let ok = start.requires.0 in
+    let image = c.args.image.now in
+    let ok = c.requires.0 in
     let l = c.loop-i in
-    next_instruction image ok start.args.lays start.args.cells.now l.cells l.at l.to l.i l.invariant _
+    next_instruction image ok c.args.lays c.args.cells.now l.cells l.at l.to l.i l.invariant _
     (omega (arith, c.read_u16-instructions.ensures.equal))
     (sym c.ask_instruction_in-no.ensures ∙ c.if-no-ne0.false)
     c.lay_instruction.ensures
 
 pub returns : goal.returns
 returns c =
-    let start = c in
-    let image = start.args.image.now in
-    let ok = start.requires.0 in
+    let image = c.args.image.now in
+    let ok = c.requires.0 in
     let l = c.loop-i in
-    let s = instructions_end image ok start.args.lays start.args.cells.now l.cells l.at l.to l.i l.invariant
+    let s = instructions_end image ok c.args.lays c.args.cells.now l.cells l.at l.to l.i l.invariant
     (omega (arith, c.read_u16-instructions.ensures.equal)) in
     record {
       no_value = sym s.0;

@@ -1,14 +1,13 @@
 -- `encode_blocks` meets its contract.
 use Rattle.std.proofs.Common.{◌≡◌, ℕ, ◌+◌, ◌*◌}
 use Rattle.std.proofs.lemmas.List.Edits.{sets}
-use Rattle.image.specs.Layout.{rows, block_place, version_of, block_of, block_bytes}
+use Rattle.image.specs.Layout.{rows, block_place, version_of, block_of, block_bytes, block_size, block_from}
 use Rattle.image.proofs.writer.encode_blocks.Goals as goal
 use mathlib.Core.Path.{◌≡◌, refl, ap, ap₂, ◌∙◌}
 use Prim.Native.Nat.{ℕ, ◌+◌, ◌*◌}
 use lib.Seq.{sets}
 use native.Mathlib.Omega.{arith}
 use Rattle.image.specs.declared.Block.{Block}
-use Rattle.image.specs.Layout.{rows, block_size, block_place, version_of, block_from, block_of, block_bytes}
 use Rattle.image.proofs.Written.{block_bytes_length}
 use Rattle.image.proofs.Rows.{row-placed}
 

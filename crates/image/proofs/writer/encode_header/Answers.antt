@@ -1,19 +1,17 @@
 -- `encode_header` meets its contract.
 use Rattle.std.proofs.Common.{◌++◌}
-use Rattle.image.specs.Layout.{version_of, block_count, instruction_count}
+use Rattle.image.specs.Layout.{version_of, block_count, instruction_count, mark}
 use Rattle.image.proofs.writer.encode_header.Goals as goal
 use mathlib.Core.Path.{refl}
 use mathlib.Core.List.{◌++◌}
 use Rattle.image.proofs.Rows.{placed}
 use Rattle.int64.specs.Little.{bytes_of}
-use Rattle.image.specs.Layout.{mark, version_of, block_count, instruction_count}
 
 pub returns : goal.returns
 unfolding bytes_of
 returns c =
-    let start = c in
-    let l = start.args.image.now in
-    let cells = start.args.cells.now in
+    let l = c.args.image.now in
+    let cells = c.args.cells.now in
     let version = bytes_of 2 (version_of cells) in
     let blocks = bytes_of 1 (block_count cells) in
     let p = placed l _ _ 0 3 mark version refl c.write_u16.ensures refl in

@@ -1,7 +1,7 @@
 -- `encode_instructions` meets its contract.
 use Rattle.std.proofs.Common.{ℕ}
 use Rattle.std.proofs.lemmas.List.Edits.{sets}
-use Rattle.image.specs.Layout.{rows, block_place, version_of, block_count, instruction_of, instruction_bytes}
+use Rattle.image.specs.Layout.{rows, block_place, version_of, block_count, instruction_of, instruction_bytes, instruction_from}
 use Rattle.image.proofs.writer.encode_instructions.Goals as goal
 use mathlib.Core.Path.{refl, ap, ap₂, ◌∙◌}
 use Prim.Native.Nat.{ℕ}
@@ -9,7 +9,6 @@ use lib.Seq.{sets}
 use native.Mathlib.Omega.{arith}
 use Rattle.int64.specs.Little.{bytes_of}
 use Rattle.image.specs.declared.Instruction.{Instruction}
-use Rattle.image.specs.Layout.{rows, block_place, version_of, block_count, instruction_from, instruction_of, instruction_bytes}
 use Rattle.image.proofs.Rows.{row-placed}
 
 pub loop-i-init : goal.loop-i-init

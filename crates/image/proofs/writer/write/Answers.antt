@@ -4,9 +4,8 @@ use Rattle.image.proofs.writer.write.Goals as goal
 use mathlib.Core.Path.{refl, sym, ◌∙◌}
 use borrow.Author.Tests.{eq-eqb, ne_eqb}
 use Rattle.image.proofs.Asked.{or_else_no, or_else_yes}
-use Rattle.image.proofs.Counts.{counted}
+use Rattle.image.proofs.Counts.{counted, program-counted}
 use Rattle.image.specs.Questions.{program_no}
-use Rattle.image.proofs.Counts.{program-counted}
 
 pub returns-then-no-ne0 : goal.returns-then-no-ne0
 unfolding write_no unless_refused
@@ -26,42 +25,33 @@ returns-then-cells-ne-PROGRAM_CELLS c =
 
 pub image_length-size-requires : goal.image_length-size-requires
 image_length-size-requires c =
-    let whole = c in
-    let asked = whole in
-    let cells = asked.args.cells.now in
-    let k = counted _ _ (program-counted cells (sym asked.ask_program-no.ensures ∙ whole.if-no-ne0.false)) in
+    let cells = c.args.cells.now in
+    let k = counted _ _ (program-counted cells (sym c.ask_program-no.ensures ∙ c.if-no-ne0.false)) in
     (k.blocks_fit, k.instructions_fit)
 
 pub returns-then-image-size : goal.returns-then-image-size
 unfolding write_no unless_refused
 returns-then-image-size c =
-    let whole = c in
-    let asked = whole in
-    let cells = asked.args.cells.now in
+    let cells = c.args.cells.now in
     record {
-      value = sym (or_else_yes (program_no cells) _ (sym asked.ask_program-no.ensures ∙ whole.if-no-ne0.false)
-          ∙ rw (eq-eqb _ _ whole.if-cells-ne-PROGRAM_CELLS.false, ← c.image_length-size.ensures, ne_eqb _ _ c.if-image-size.true));
+      value = sym (or_else_yes (program_no cells) _ (sym c.ask_program-no.ensures ∙ c.if-no-ne0.false)
+          ∙ rw (eq-eqb _ _ c.if-cells-ne-PROGRAM_CELLS.false, ← c.image_length-size.ensures, ne_eqb _ _ c.if-image-size.true));
       image_after = refl;
     }
 
 pub encode-requires : goal.encode-requires
-encode-requires c =
-    let whole = c in
-    let asked = whole in (
-      whole.if-cells-ne-PROGRAM_CELLS.false,
-      program-counted asked.args.cells.now (sym asked.ask_program-no.ensures ∙ whole.if-no-ne0.false),
-      c.if-image-size.false ∙ c.image_length-size.ensures,
-    )
+encode-requires c = (
+  c.if-cells-ne-PROGRAM_CELLS.false,
+  program-counted c.args.cells.now (sym c.ask_program-no.ensures ∙ c.if-no-ne0.false),
+  c.if-image-size.false ∙ c.image_length-size.ensures,
+)
 
 pub returns : goal.returns
 unfolding write_no unless_refused
 returns c =
-    let fits = c in
-    let whole = fits in
-    let asked = whole in
-    let cells = asked.args.cells.now in
+    let cells = c.args.cells.now in
     record {
-      value = sym (or_else_yes (program_no cells) _ (sym asked.ask_program-no.ensures ∙ whole.if-no-ne0.false)
-          ∙ rw (eq-eqb _ _ whole.if-cells-ne-PROGRAM_CELLS.false, ← fits.image_length-size.ensures, eq-eqb _ _ fits.if-image-size.false));
+      value = sym (or_else_yes (program_no cells) _ (sym c.ask_program-no.ensures ∙ c.if-no-ne0.false)
+          ∙ rw (eq-eqb _ _ c.if-cells-ne-PROGRAM_CELLS.false, ← c.image_length-size.ensures, eq-eqb _ _ c.if-image-size.false));
       image_after = c.encode.ensures;
     }
