@@ -11,15 +11,9 @@ use borrow.Author.Rules.{rules}
 
 pub returns : goal.returns
 returns c =
-    let registers = c in
-    let two = registers in
-    let three = two in
-    let fault = three in
-    let end = fault in
-    let s = end in
-    report_placed s.args.r s.args.out.now _ _ _ end.end_number.result fault.end_fault.result
-    end.end_number.ensures
-    fault.end_fault.ensures
-    three.write_three.ensures
-    two.write_two.ensures
-    registers.write_registers.ensures
+    report_placed c.args.r c.args.out.now _ _ _ c.end_number.result c.end_fault.result
+    c.end_number.ensures
+    c.end_fault.ensures
+    c.write_three.ensures
+    c.write_two.ensures
+    c.write_registers.ensures

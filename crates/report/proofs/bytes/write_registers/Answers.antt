@@ -21,8 +21,5 @@ loop-i-init c = (omega arith, refl, refl)
 
 pub loop-i-preserved : goal.loop-i-preserved
 loop-i-preserved c =
-    let c6 = c in
-    let w = c in
-    let l = c6 in
-    let a = l.args in
-    (omega arith, w.write_register.auto.out ∙ l.loop-i.invariant.1, row-placed (λ (i : ℕ). in_bytes (value_numbers (get_or a.registers i zero_register).value)) 24 (λ i. value-width (get_or a.registers i zero_register).value) a.out.now l.loop-i.out _ a.at l.loop-i.i l.loop-i.invariant.2 w.write_register.ensures)
+    let a = c.args in
+    (omega arith, c.write_register.auto.out ∙ c.loop-i.invariant.1, row-placed (λ (i : ℕ). in_bytes (value_numbers (get_or a.registers i zero_register).value)) 24 (λ i. value-width (get_or a.registers i zero_register).value) a.out.now c.loop-i.out _ a.at c.loop-i.i c.loop-i.invariant.2 c.write_register.ensures)

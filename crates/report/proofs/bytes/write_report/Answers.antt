@@ -10,4 +10,4 @@ use Rattle.report.proofs.ReportLaws.{report_whole}
 use borrow.Author.Rules.{rules}
 
 pub returns : goal.returns
-returns c = let w = c in let s = w in report_whole s.args.r s.args.out.now _ s.requires w.write_front.ensures
+returns c = report_whole c.args.r c.args.out.now _ c.requires c.write_front.ensures

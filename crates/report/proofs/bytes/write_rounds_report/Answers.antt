@@ -11,7 +11,4 @@ use borrow.Author.Rules.{rules}
 
 pub returns : goal.returns
 returns c =
-    let n = c in
-    let w = n in
-    let s = w in
-    rounds-whole s.args.r s.args.rounds s.args.out.now _ _ s.requires w.write_front.ensures n.write_u64.ensures
+    rounds-whole c.args.r c.args.rounds c.args.out.now _ _ c.requires c.write_front.ensures c.write_u64.ensures

@@ -11,5 +11,4 @@ use borrow.Author.Rules.{rules}
 pub returns : goal.returns
 returns c =
     let w = c.write_decimal.ensures in
-    let s = c in
-    record { stored = w.stored; ends = w.ends; short = omega (arith, w.ends, index_short s.args.i s.requires.1) }
+    record { stored = w.stored; ends = w.ends; short = omega (arith, w.ends, index_short c.args.i c.requires.1) }

@@ -9,8 +9,5 @@ use borrow.Author.Rules.{rules}
 
 pub returns : goal.returns
 returns c =
-    let last = c in
-    let space = last in
-    let first = space in
-    written_then (written_then (written_then first.write_word-first.ensures first.write_decimal-space.ensures) space.write_word-second.ensures)
-    last.write_decimal.ensures
+    written_then (written_then (written_then c.write_word-first.ensures c.write_decimal-space.ensures) c.write_word-second.ensures)
+    c.write_decimal.ensures

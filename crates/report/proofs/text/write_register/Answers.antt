@@ -4,15 +4,11 @@ use Rattle.std.proofs.lemmas.List.Edits.{sets}
 use Rattle.report.specs.Words.{Written, decimal}
 use Rattle.report.specs.Text.{end_line, span_line, value_text, register_line, register_lines, text_of, refused_text, text_room}
 use Rattle.report.proofs.text.write_register.Goals as goal
-use Rattle.report.specs.Text.{register_line}
 use Rattle.report.proofs.Writing.{written_then}
 use borrow.Author.Rules.{rules}
 
 pub returns : goal.returns
 unfolding register_line
 returns c =
-    let end = c in
-    let value = end in
-    let index = value in
-    written_then (written_then (written_then index.write_word-index.ensures index.write_index-value.ensures) value.write_value-end.ensures)
-    end.write_word.ensures
+    written_then (written_then (written_then c.write_word-index.ensures c.write_index-value.ensures) c.write_value-end.ensures)
+    c.write_word.ensures

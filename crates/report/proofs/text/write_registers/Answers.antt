@@ -9,8 +9,6 @@ use Prim.Native.Nat.{◌*◌, ◌-◌, ◌≤◌}
 use native.Mathlib.Omega.{arith}
 use borrow.Author.Rules.{rules}
 use lib.ListN.{length}
-use Rattle.report.specs.Words.{Written}
-use Rattle.report.specs.Text.{register_lines}
 use Rattle.report.proofs.Writing.{written_as}
 use Rattle.report.proofs.Lines.{no_lines, line-more}
 
@@ -19,7 +17,5 @@ loop-i-init c = (omega arith, refl, no_lines _ _ _)
 
 pub loop-i-preserved : goal.loop-i-preserved
 loop-i-preserved c =
-    let w = c in
-    let l = c in
-    let a = l.args in
-    (omega arith, w.write_register-next.auto.out ∙ l.loop-i.invariant.1, line-more a.registers l.loop-i.i l.loop-i.invariant.2 w.write_register-next.ensures)
+    let a = c.args in
+    (omega arith, c.write_register-next.auto.out ∙ c.loop-i.invariant.1, line-more a.registers c.loop-i.i c.loop-i.invariant.2 c.write_register-next.ensures)

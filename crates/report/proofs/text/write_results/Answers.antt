@@ -9,5 +9,4 @@ use borrow.Author.Rules.{rules}
 
 pub returns : goal.returns
 returns c =
-    let registers = c in
-    written_then registers.write_line-next.ensures registers.write_registers.ensures
+    written_then c.write_line-next.ensures c.write_registers.ensures

@@ -6,34 +6,23 @@ use Rattle.report.specs.Text.{end_line, span_line, value_text, register_line, re
 use Rattle.report.proofs.text.write_text.Goals as goal
 use mathlib.Core.Path.{ap}
 use Rattle.drive.specs.Ending.{is_end}
-use Rattle.report.specs.Text.{text_of}
 use Rattle.report.proofs.Writing.{written_then}
 use Rattle.report.proofs.Lines.{spent_text, ended_text, from_front}
 use borrow.Author.Rules.{rules}
 
 pub returns-in-NotEnded : goal.returns-in-NotEnded
 returns-in-NotEnded c =
-    let work = c in
-    let end = work in
-    let r = end.args.r in
-    from_front (text_of r) (written_then end.write_end-work.ensures work.write_line-next.ensures) (spent_text r (ap is_end c.in-NotEnded.is))
+    let r = c.args.r in
+    from_front (text_of r) (written_then c.write_end-work.ensures c.write_line-next.ensures) (spent_text r (ap is_end c.in-NotEnded.is))
 
 pub returns-in-Halt : goal.returns-in-Halt
 returns-in-Halt c =
-    let results = c in
-    let told = results in
-    let work = told in
-    let end = work in
-    let r = end.args.r in
-    from_front (text_of r) (written_then (written_then end.write_end-work.ensures work.write_line-next.ensures) results.write_results.ensures)
-    (ended_text r (ap is_end told.in-Halt.is))
+    let r = c.args.r in
+    from_front (text_of r) (written_then (written_then c.write_end-work.ensures c.write_line-next.ensures) c.write_results.ensures)
+    (ended_text r (ap is_end c.in-Halt.is))
 
 pub returns-in-Fault : goal.returns-in-Fault
 returns-in-Fault c =
-    let results = c in
-    let told = results in
-    let work = told in
-    let end = work in
-    let r = end.args.r in
-    from_front (text_of r) (written_then (written_then end.write_end-work.ensures work.write_line-next.ensures) results.write_results-in-Fault.ensures)
-    (ended_text r (ap is_end told.in-Fault.is))
+    let r = c.args.r in
+    from_front (text_of r) (written_then (written_then c.write_end-work.ensures c.write_line-next.ensures) c.write_results-in-Fault.ensures)
+    (ended_text r (ap is_end c.in-Fault.is))

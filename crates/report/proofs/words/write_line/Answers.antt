@@ -11,11 +11,8 @@ use borrow.Author.Rules.{rules}
 
 pub returns : goal.returns
 returns c =
-    let end = c in
-    let number = end in
-    let word = number in
-    let a = word.args in
+    let a = c.args in
     written_as (length a.word.now + 21) _
-    (written_then (written_then word.write_word-number.ensures number.write_decimal-end.ensures) end.write_word.ensures)
+    (written_then (written_then c.write_word-number.ensures c.write_decimal-end.ensures) c.write_word.ensures)
     refl
     (omega arith)

@@ -19,11 +19,10 @@ test bytes at i = eqb (get_or bytes (at + i) 0) 0
 
 pub loop-i-preserved : goal.loop-i-preserved
 loop-i-preserved c =
-    let c2 = c in
-    let a = c2.args in
-    let l = c2.loop-i in
+    let a = c.args in
+    let l = c.loop-i in
     let byte = test a.bytes.now a.at in
-    let below = c2.loop-i-test.true in
+    let below = c.loop-i-test.true in
     elim c.if-bytes-at-ne0.branch [
       | then-bytes-at-ne0 w ↦ rw w.clear-is (tested_no byte a.n l.i l.clear l.invariant below (ne_eqb _ _ w.if-bytes-at-ne0.true))
       | else-bytes-at-ne0 w ↦ rw w.clear-is (tested_yes byte a.n l.i l.clear l.invariant below (eq-eqb _ _ w.if-bytes-at-ne0.false))

@@ -7,7 +7,6 @@ use mathlib.Core.Path.{◌≡◌, refl, ap, ◌∙◌}
 use Prim.Native.Nat.{ℕ, ◌-◌, ◌≤◌}
 use lib.ListN.{length, length-set}
 use lib.Seq.{sets}
-use Rattle.state.specs.Numbers.{integers_in}
 use Rattle.state.proofs.Laying.{sets-whole}
 use Rattle.state.proofs.Integers.{number-stored, length-integers, read_none, read_more}
 use borrow.Author.Rules.{rules}
@@ -18,12 +17,8 @@ loop-i-init c = (omega arith, refl, read_none c.args.bytes.now c.args.at c.args.
 
 pub loop-i-preserved : goal.loop-i-preserved
 loop-i-preserved c =
-    let c3 = c in
-    let c3 = c3 in
-    let c5 = c3 in
-    (omega arith, simp length-set c3.loop-i.invariant.1, read_more c5.args.bytes.now c5.args.at c5.args.out.now c3.loop-i.out c3.loop-i.i _ c3.loop-i.invariant.2 (number-stored c.number.result c.read_u64.result _ c.number.type_inv c.number.ensures c.read_u64.ensures.equal))
+    (omega arith, simp length-set c.loop-i.invariant.1, read_more c.args.bytes.now c.args.at c.args.out.now c.loop-i.out c.loop-i.i _ c.loop-i.invariant.2 (number-stored c.number.result c.read_u64.result _ c.number.type_inv c.number.ensures c.read_u64.ensures.equal))
 
 pub returns : goal.returns
 returns c =
-    let c3 = c in
-    c.loop-i.invariant.2 ∙ ap (λ (n : ℕ). sets c3.args.out.now 0 (integers_in c3.args.bytes.now c3.args.at n)) (omega arith) ∙ sets-whole c3.args.out.now _ (length-integers c3.args.bytes.now c3.args.at _)
+    c.loop-i.invariant.2 ∙ ap (λ (n : ℕ). sets c.args.out.now 0 (integers_in c.args.bytes.now c.args.at n)) (omega arith) ∙ sets-whole c.args.out.now _ (length-integers c.args.bytes.now c.args.at _)

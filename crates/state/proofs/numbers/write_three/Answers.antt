@@ -12,7 +12,4 @@ use borrow.Author.Rules.{rules}
 
 pub returns : goal.returns
 returns c =
-    let c6 = c in
-    let c6 = c6 in
-    let c9 = c6 in
-    numbers-placed c9.args.out.now _ _ c9.args.at (c9.args.at + 8) (c9.args.a ∷ []) (c9.args.b ∷ c9.args.c ∷ []) (c6.write_u64.ensures ∙ ap (λ (x : List ℕ). sets c9.args.out.now c9.args.at x) (one_number c9.args.a)) c.write_two.ensures refl
+    numbers-placed c.args.out.now _ _ c.args.at (c.args.at + 8) (c.args.a ∷ []) (c.args.b ∷ c.args.c ∷ []) (c.write_u64.ensures ∙ ap (λ (x : List ℕ). sets c.args.out.now c.args.at x) (one_number c.args.a)) c.write_two.ensures refl

@@ -7,7 +7,6 @@ use Rattle.state.specs.Reading.{table, number_at, in16, in32, is_value, stands_v
 use Rattle.task.specs.Frames.{bank_length, stacks_length}
 use Rattle.state.proofs.reader.is_status.Goals as goal
 use borrow.Author.Tests.{eq-eqb, ne_eqb, lt-ltb, le-ltb}
-use Rattle.state.specs.Reading.{is_status}
 
 pub returns-then-status-eq4 : goal.returns-then-status-eq4
 unfolding is_status

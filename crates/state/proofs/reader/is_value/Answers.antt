@@ -9,7 +9,6 @@ use Rattle.state.proofs.reader.is_value.Goals as goal
 use mathlib.Core.Path.{sym, ◌∙◌}
 use borrow.Author.Rules.{rules}
 use borrow.Author.Tests.{eq-eqb, ne_eqb}
-use Rattle.state.specs.Reading.{is_value}
 
 pub returns-then-kind-eq0 : goal.returns-then-kind-eq0
 unfolding is_value
@@ -30,14 +29,9 @@ returns-then-kind-ne2 c = rw (ne_eqb _ _ c.if-kind-eq0.false, ne_eqb _ _ c.if-ki
 pub returns-then-has_32_bits-2 : goal.returns-then-has_32_bits-2
 unfolding is_value
 returns-then-has_32_bits-2 c =
-    let c3 = c in
-    let c4 = c3 in
-    let c5 = c4 in
-    rw (ne_eqb _ _ c5.if-kind-eq0.false, ne_eqb _ _ c4.if-kind-eq1.false, eq-eqb _ 2 c3.if-kind-ne2.false, sym c.has_32_bits-2.ensures ∙ c.if-has_32_bits-2.true) c.has_32_bits-then-has_32_bits-2.ensures
+    rw (ne_eqb _ _ c.if-kind-eq0.false, ne_eqb _ _ c.if-kind-eq1.false, eq-eqb _ 2 c.if-kind-ne2.false, sym c.has_32_bits-2.ensures ∙ c.if-has_32_bits-2.true) c.has_32_bits-then-has_32_bits-2.ensures
 
 pub returns : goal.returns
 unfolding is_value
 returns c =
-    let c3 = c in
-    let c4 = c3 in
-    rw (ne_eqb _ _ c4.if-kind-eq0.false, ne_eqb _ _ c3.if-kind-eq1.false, eq-eqb _ 2 c.if-kind-ne2.false, sym c.has_32_bits-2.ensures ∙ c.if-has_32_bits-2.false)
+    rw (ne_eqb _ _ c.if-kind-eq0.false, ne_eqb _ _ c.if-kind-eq1.false, eq-eqb _ 2 c.if-kind-ne2.false, sym c.has_32_bits-2.ensures ∙ c.if-has_32_bits-2.false)

@@ -4,16 +4,13 @@ use Rattle.task.specs.Formed.{every}
 use Rattle.state.specs.State.{state_length}
 use Rattle.state.specs.Places.{slot_bytes, slot_place, register_place, entry_place}
 use Rattle.state.specs.Reading.{table, number_at, in16, in32, is_value, stands_value, register_in, stands_values, is_status, status_of, stands_fork, fork_in, stands_task, task_in, stands_slot, stands_state, state_in}
-use Rattle.task.specs.Frames.{bank_length, stacks_length}
+use Rattle.task.specs.Frames.{bank_length, stacks_length, zero_register}
 use Rattle.state.proofs.reader.read_bank.Goals as goal
 use mathlib.Core.Path.{sym, ap, ◌∙◌}
 use mathlib.Core.List.{List}
 use Prim.Native.Nat.{ℕ, ◌-◌}
 use native.Mathlib.Omega.{arith}
 use Rattle.task.specs.declared.Register.{Register}
-use Rattle.task.specs.Frames.{zero_register}
-use Rattle.state.specs.Places.{register_place}
-use Rattle.state.specs.Reading.{stands_value, register_in}
 use Rattle.state.proofs.Rooms.{state_room, register-stands}
 use Rattle.state.proofs.Zeros.{registers_zero_lem}
 use Rattle.state.proofs.Filling.{Begun, begun-none, begun-past, begun_more, begun_all}
@@ -26,26 +23,23 @@ loop-i-init c = begun-none _ zero_register 1024
 
 pub begins_clear-requires : goal.begins_clear-requires
 begins_clear-requires c =
-    let c4 = c in
-    let room = state_room c4.args.bytes.now c4.requires in
+    let room = state_room c.args.bytes.now c.requires in
     λ first. omega (arith, first, c.register_place-at.ensures.0, room.whole, c.loop-i-test.true)
 
 pub loop-i-preserved-then-begins_clear : goal.loop-i-preserved-then-begins_clear
 loop-i-preserved-then-begins_clear c =
-    let c4 = c in
-    let bytes = c4.args.bytes.now in
-    let l = c4.loop-i in
+    let bytes = c.args.bytes.now in
+    let l = c.loop-i in
     let at = c.register_place-at in
     let zeros = registers_zero_lem bytes at.result l.i at.ensures.0 (sym c.begins_clear.ensures ∙ c.if-begins_clear.true) in
     begun-past _ _ 1024 l.bank l.i l.invariant 16 (omega (arith, zeros.0, c.loop-i-test.true)) zeros.1
 
 pub read_register-requires : goal.read_register-requires
 read_register-requires c =
-    let c4 = c in
-    let bytes = c4.args.bytes.now in
-    let room = state_room bytes c4.requires in
+    let bytes = c.args.bytes.now in
+    let room = state_room bytes c.requires in
     let at = c.register_place-at in
-    let stands = register-stands bytes room c4.loop-i.i c.loop-i-test.true in
+    let stands = register-stands bytes room c.loop-i.i c.loop-i-test.true in
     (omega (arith, at.ensures.1, room.whole), ap (stands_value bytes) at.ensures.0 ∙ stands)
 
 pub returns : goal.returns

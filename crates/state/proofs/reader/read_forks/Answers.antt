@@ -12,7 +12,6 @@ use Prim.Native.Nat.{ℕ, ◌+◌, ◌*◌, ◌-◌}
 use native.Mathlib.Omega.{arith}
 use Rattle.task.specs.declared.Fork.{Fork}
 use Rattle.task.proofs.EveryLaws.{every-at}
-use Rattle.state.specs.Reading.{stands_fork, fork_in}
 use Rattle.state.proofs.Filling.{Filled, filled_none, filled_more, filled_all}
 
 abbrev entry : List ℕ → ℕ → ℕ → Fork

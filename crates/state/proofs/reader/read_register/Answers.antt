@@ -3,7 +3,7 @@ use Rattle.std.proofs.Common.{rules, ◌≡◌, true, ◌+◌, ◌*◌, ◌≤�
 use Rattle.task.specs.Formed.{every}
 use Rattle.state.specs.State.{state_length}
 use Rattle.state.specs.Places.{slot_bytes, slot_place, register_place, entry_place}
-use Rattle.state.specs.Reading.{table, number_at, in16, in32, is_value, stands_value, register_in, stands_values, is_status, status_of, stands_fork, fork_in, stands_task, task_in, stands_slot, stands_state, state_in}
+use Rattle.state.specs.Reading.{table, number_at, in16, in32, is_value, stands_value, register_in, stands_values, is_status, status_of, stands_fork, fork_in, stands_task, task_in, stands_slot, stands_state, state_in, value_of}
 use Rattle.task.specs.Frames.{bank_length, stacks_length}
 use Rattle.state.proofs.reader.read_register.Goals as goal
 use mathlib.Core.Path.{◌≡◌, sym, ap, ◌∙◌}
@@ -13,7 +13,6 @@ use native.Mathlib.Omega.{arith}
 use lib.IntN.{ℤ}
 use Rattle.task.specs.declared.Value.TheVariants.{Int, Label, Record}
 use Rattle.task.specs.declared.Register.{Register}
-use Rattle.state.specs.Reading.{is_value, value_of}
 use Rattle.state.proofs.Integers.{number-stored}
 use Rattle.state.proofs.Rooms.{label-room, record_room}
 

@@ -7,7 +7,6 @@ use Rattle.state.specs.Reading.{table, number_at, in16, in32, is_value, stands_v
 use Rattle.task.specs.Frames.{bank_length, stacks_length}
 use Rattle.state.proofs.reader.read_state.Goals as goal
 use native.Mathlib.Omega.{arith}
-use Rattle.state.specs.Reading.{state_in}
 use Rattle.state.proofs.Rooms.{state_room}
 
 pub read_u64-places-requires : goal.read_u64-places-requires
@@ -21,14 +20,11 @@ read_u64-work-requires c = omega (arith, (state_room c.args.bytes.now c.requires
 
 pub overflow_cast-result : goal.overflow_cast-result
 overflow_cast-result c =
-    let c4 = c in
-    let c7 = c4 in
-    omega (arith, (state_room c7.args.bytes.now c7.requires).interval, c4.read_u64-interval.ensures.equal)
+    omega (arith, (state_room c.args.bytes.now c.requires).interval, c.read_u64-interval.ensures.equal)
 
 pub overflow_cast-result-2 : goal.overflow_cast-result-2
 overflow_cast-result-2 c =
-    let c7 = c in
-    omega (arith, (state_room c7.args.bytes.now c7.requires).work, c.read_u64-work.ensures.equal)
+    omega (arith, (state_room c.args.bytes.now c.requires).work, c.read_u64-work.ensures.equal)
 
 pub returns : goal.returns
 unfolding state_in

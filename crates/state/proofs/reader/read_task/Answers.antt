@@ -9,7 +9,6 @@ use Rattle.state.proofs.reader.read_task.Goals as goal
 use mathlib.Core.Path.{ap₂, ◌∙◌}
 use borrow.Author.Rules.{rules}
 use native.Mathlib.Omega.{arith}
-use Rattle.state.specs.Reading.{is_status, status_of, task_in}
 use Rattle.state.proofs.Rooms.{task-room}
 
 pub status_of-status-requires : goal.status_of-status-requires
@@ -17,39 +16,32 @@ status_of-status-requires c = ap₂ is_status c.read_u64.ensures.equal c.read_u6
 
 pub read_forks-forks-requires : goal.read_forks-forks-requires
 read_forks-forks-requires c =
-    let c10 = c in
-    (omega (arith, c10.requires.0), (task-room _ _ c10.requires.1).forks)
+    (omega (arith, c.requires.0), (task-room _ _ c.requires.1).forks)
 
 pub overflow_cast-result : goal.overflow_cast-result
-overflow_cast-result c = let c11 = c in omega (arith, (task-room _ _ c11.requires.1).pc, c.read_u64-pc.ensures.equal)
+overflow_cast-result c = omega (arith, (task-room _ _ c.requires.1).pc, c.read_u64-pc.ensures.equal)
 
 pub overflow_cast-result-2 : goal.overflow_cast-result-2
-overflow_cast-result-2 c = let c11 = c in omega (arith, (task-room _ _ c11.requires.1).counter, c.read_u64-counter.ensures.equal)
+overflow_cast-result-2 c = omega (arith, (task-room _ _ c.requires.1).counter, c.read_u64-counter.ensures.equal)
 
 pub overflow_cast-result-3 : goal.overflow_cast-result-3
-overflow_cast-result-3 c = let c11 = c in omega (arith, (task-room _ _ c11.requires.1).span, c.read_u64-span.ensures.equal)
+overflow_cast-result-3 c = omega (arith, (task-room _ _ c.requires.1).span, c.read_u64-span.ensures.equal)
 
 pub overflow_cast-result-4 : goal.overflow_cast-result-4
-overflow_cast-result-4 c = let c11 = c in omega (arith, (task-room _ _ c11.requires.1).depth, c.read_u64-depth.ensures.equal)
+overflow_cast-result-4 c = omega (arith, (task-room _ _ c.requires.1).depth, c.read_u64-depth.ensures.equal)
 
 pub overflow_cast-result-5 : goal.overflow_cast-result-5
-overflow_cast-result-5 c = let c11 = c in omega (arith, (task-room _ _ c11.requires.1).height, c.read_u64-height.ensures.equal)
+overflow_cast-result-5 c = omega (arith, (task-room _ _ c.requires.1).height, c.read_u64-height.ensures.equal)
 
 pub returns : goal.returns
 unfolding task_in
 returns c =
-    let c4 = c in
-    let c5 = c4 in
-    let c6 = c5 in
-    let c7 = c6 in
-    let c8 = c7 in
-    let c9 = c8 in
-    let status = c7.status_of-status.ensures ∙ ap₂ status_of c9.read_u64.ensures.equal c8.read_u64-2.ensures.equal in
+    let status = c.status_of-status.ensures ∙ ap₂ status_of c.read_u64.ensures.equal c.read_u64-2.ensures.equal in
     rw (
       status,
-      c6.read_u64-places.ensures.equal,
-      c5.read_u64-pc.ensures.equal,
-      c4.read_u64-counter.ensures.equal,
+      c.read_u64-places.ensures.equal,
+      c.read_u64-pc.ensures.equal,
+      c.read_u64-counter.ensures.equal,
       c.read_u64-span.ensures.equal,
       c.read_u64-depth.ensures.equal,
       c.read_u64-height.ensures.equal,

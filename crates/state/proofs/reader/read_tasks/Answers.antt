@@ -13,8 +13,6 @@ use borrow.Author.Rules.{rules}
 use native.Mathlib.Omega.{arith}
 use lib.ListN.{length-replicate}
 use Rattle.task.specs.declared.Task.{Task}
-use Rattle.state.specs.Places.{slot_place}
-use Rattle.state.specs.Reading.{stands_task, task_in}
 use Rattle.state.proofs.Rooms.{state_room}
 use Rattle.state.proofs.Filling.{Filled, filled_none, filled_more, filled_all}
 

@@ -13,7 +13,6 @@ use mathlib.Core.List.{List}
 use borrow.Author.Tests.{not-true, not-false}
 use native.Mathlib.Omega.{arith}
 use Rattle.task.proofs.EveryLaws.{every-goes-on, every-stops, every-ends}
-use Rattle.state.specs.Reading.{stands_fork}
 
 abbrev test : List ℕ → ℕ → ℕ → Bool
 test bytes at i = stands_fork bytes (at + 16 * i)

@@ -9,7 +9,6 @@ use Rattle.state.proofs.reader.stands_slot.Goals as goal
 use mathlib.Core.Path.{sym, ◌∙◌}
 use borrow.Author.Rules.{rules}
 use borrow.Author.Tests.{not-true, not-false}
-use Rattle.state.specs.Reading.{stands_slot}
 
 pub returns-then-not-stands_task : goal.returns-then-not-stands_task
 unfolding stands_slot

@@ -13,8 +13,6 @@ use Prim.Native.Nat.{ℕ, ◌-◌, ◌≤◌}
 use borrow.Author.Tests.{not-true, not-false}
 use native.Mathlib.Omega.{arith}
 use Rattle.task.proofs.EveryLaws.{every-goes-on, every-stops, every-ends}
-use Rattle.state.specs.Places.{slot_place}
-use Rattle.state.specs.Reading.{stands_slot}
 
 abbrev test : List ℕ → ℕ → Bool
 test bytes k = stands_slot bytes (slot_place k)

@@ -9,7 +9,6 @@ use Rattle.state.proofs.reader.stands_state.Goals as goal
 use mathlib.Core.Path.{sym, ◌∙◌}
 use borrow.Author.Tests.{eq-eqb, ne_eqb, not-true, not-false}
 use native.Mathlib.Omega.{arith}
-use Rattle.state.specs.Reading.{stands_state}
 
 pub returns-then-bytes-ne-STATE_BYTES : goal.returns-then-bytes-ne-STATE_BYTES
 unfolding stands_state

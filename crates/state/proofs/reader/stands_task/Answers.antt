@@ -9,7 +9,6 @@ use Rattle.state.proofs.reader.stands_task.Goals as goal
 use mathlib.Core.Path.{sym, ◌∙◌}
 use borrow.Author.Rules.{rules}
 use borrow.Author.Tests.{not-true, not-false}
-use Rattle.state.specs.Reading.{stands_task}
 
 pub returns-then-not-stands_status : goal.returns-then-not-stands_status
 unfolding stands_task
@@ -18,83 +17,62 @@ returns-then-not-stands_status c = rw (sym c.stands_status.ensures ∙ not-true 
 pub returns-then-not-stands_16 : goal.returns-then-not-stands_16
 unfolding stands_task
 returns-then-not-stands_16 c =
-    let c2 = c in
     rw (
-      sym c2.stands_status.ensures ∙ not-false _ c2.if-not-stands_status.false-raw,
+      sym c.stands_status.ensures ∙ not-false _ c.if-not-stands_status.false-raw,
       sym c.stands_16.ensures ∙ not-true _ c.if-not-stands_16.true-raw,
     )
 
 pub returns-then-not-stands_32 : goal.returns-then-not-stands_32
 unfolding stands_task
 returns-then-not-stands_32 c =
-    let c2 = c in
-    let c4 = c2 in
     rw (
-      sym c4.stands_status.ensures ∙ not-false _ c4.if-not-stands_status.false-raw,
-      sym c2.stands_16.ensures ∙ not-false _ c2.if-not-stands_16.false-raw,
+      sym c.stands_status.ensures ∙ not-false _ c.if-not-stands_status.false-raw,
+      sym c.stands_16.ensures ∙ not-false _ c.if-not-stands_16.false-raw,
       sym c.stands_32.ensures ∙ not-true _ c.if-not-stands_32.true-raw,
     )
 
 pub returns-then-not-stands_32-2 : goal.returns-then-not-stands_32-2
 unfolding stands_task
 returns-then-not-stands_32-2 c =
-    let c2 = c in
-    let c4 = c2 in
-    let c6 = c4 in
     rw (
-      sym c6.stands_status.ensures ∙ not-false _ c6.if-not-stands_status.false-raw,
-      sym c4.stands_16.ensures ∙ not-false _ c4.if-not-stands_16.false-raw,
-      sym c2.stands_32.ensures ∙ not-false _ c2.if-not-stands_32.false-raw,
+      sym c.stands_status.ensures ∙ not-false _ c.if-not-stands_status.false-raw,
+      sym c.stands_16.ensures ∙ not-false _ c.if-not-stands_16.false-raw,
+      sym c.stands_32.ensures ∙ not-false _ c.if-not-stands_32.false-raw,
       sym c.stands_32-2.ensures ∙ not-true _ c.if-not-stands_32-2.true-raw,
     )
 
 pub returns-then-not-stands_32-3 : goal.returns-then-not-stands_32-3
 unfolding stands_task
 returns-then-not-stands_32-3 c =
-    let c2 = c in
-    let c4 = c2 in
-    let c6 = c4 in
-    let c8 = c6 in
     rw (
-      sym c8.stands_status.ensures ∙ not-false _ c8.if-not-stands_status.false-raw,
-      sym c6.stands_16.ensures ∙ not-false _ c6.if-not-stands_16.false-raw,
-      sym c4.stands_32.ensures ∙ not-false _ c4.if-not-stands_32.false-raw,
-      sym c2.stands_32-2.ensures ∙ not-false _ c2.if-not-stands_32-2.false-raw,
+      sym c.stands_status.ensures ∙ not-false _ c.if-not-stands_status.false-raw,
+      sym c.stands_16.ensures ∙ not-false _ c.if-not-stands_16.false-raw,
+      sym c.stands_32.ensures ∙ not-false _ c.if-not-stands_32.false-raw,
+      sym c.stands_32-2.ensures ∙ not-false _ c.if-not-stands_32-2.false-raw,
       sym c.stands_32-3.ensures ∙ not-true _ c.if-not-stands_32-3.true-raw,
     )
 
 pub returns-then-not-stands_32-4 : goal.returns-then-not-stands_32-4
 unfolding stands_task
 returns-then-not-stands_32-4 c =
-    let c2 = c in
-    let c4 = c2 in
-    let c6 = c4 in
-    let c8 = c6 in
-    let c10 = c8 in
     rw (
-      sym c10.stands_status.ensures ∙ not-false _ c10.if-not-stands_status.false-raw,
-      sym c8.stands_16.ensures ∙ not-false _ c8.if-not-stands_16.false-raw,
-      sym c6.stands_32.ensures ∙ not-false _ c6.if-not-stands_32.false-raw,
-      sym c4.stands_32-2.ensures ∙ not-false _ c4.if-not-stands_32-2.false-raw,
-      sym c2.stands_32-3.ensures ∙ not-false _ c2.if-not-stands_32-3.false-raw,
+      sym c.stands_status.ensures ∙ not-false _ c.if-not-stands_status.false-raw,
+      sym c.stands_16.ensures ∙ not-false _ c.if-not-stands_16.false-raw,
+      sym c.stands_32.ensures ∙ not-false _ c.if-not-stands_32.false-raw,
+      sym c.stands_32-2.ensures ∙ not-false _ c.if-not-stands_32-2.false-raw,
+      sym c.stands_32-3.ensures ∙ not-false _ c.if-not-stands_32-3.false-raw,
       sym c.stands_32-4.ensures ∙ not-true _ c.if-not-stands_32-4.true-raw,
     )
 
 pub returns : goal.returns
 unfolding stands_task
 returns c =
-    let c1 = c in
-    let c3 = c1 in
-    let c5 = c3 in
-    let c7 = c5 in
-    let c9 = c7 in
-    let c11 = c9 in
     rw (
-      sym c11.stands_status.ensures ∙ not-false _ c11.if-not-stands_status.false-raw,
-      sym c9.stands_16.ensures ∙ not-false _ c9.if-not-stands_16.false-raw,
-      sym c7.stands_32.ensures ∙ not-false _ c7.if-not-stands_32.false-raw,
-      sym c5.stands_32-2.ensures ∙ not-false _ c5.if-not-stands_32-2.false-raw,
-      sym c3.stands_32-3.ensures ∙ not-false _ c3.if-not-stands_32-3.false-raw,
-      sym c1.stands_32-4.ensures ∙ not-false _ c1.if-not-stands_32-4.false-raw,
+      sym c.stands_status.ensures ∙ not-false _ c.if-not-stands_status.false-raw,
+      sym c.stands_16.ensures ∙ not-false _ c.if-not-stands_16.false-raw,
+      sym c.stands_32.ensures ∙ not-false _ c.if-not-stands_32.false-raw,
+      sym c.stands_32-2.ensures ∙ not-false _ c.if-not-stands_32-2.false-raw,
+      sym c.stands_32-3.ensures ∙ not-false _ c.if-not-stands_32-3.false-raw,
+      sym c.stands_32-4.ensures ∙ not-false _ c.if-not-stands_32-4.false-raw,
     )
     c.stands_forks.ensures

@@ -13,7 +13,6 @@ use mathlib.Core.List.{List}
 use borrow.Author.Tests.{not-true, not-false}
 use native.Mathlib.Omega.{arith}
 use Rattle.task.proofs.EveryLaws.{every-goes-on, every-stops, every-ends}
-use Rattle.state.specs.Reading.{stands_value}
 use Rattle.state.proofs.Zeros.{values_zero}
 
 abbrev test : List ℕ → ℕ → ℕ → Bool
@@ -26,16 +25,14 @@ returns-then-is_clear c =
 
 pub returns-then-not-stands_value : goal.returns-then-not-stands_value
 returns-then-not-stands_value c =
-    let c4 = c in
-    let a = c4.args in
+    let a = c.args in
     let l = c.loop-i in
     let no = sym c.stands_value.ensures ∙ not-true _ c.if-not-stands_value.true-raw in
     sym (l.invariant.1 ∙ every-stops (test a.bytes.now a.at) a.n l.i c.loop-i-test.true no)
 
 pub loop-i-preserved : goal.loop-i-preserved
 loop-i-preserved c =
-    let c4 = c in
-    let a = c4.args in
+    let a = c.args in
     let l = c.loop-i in
     let yes = sym c.stands_value.ensures ∙ not-false _ c.if-not-stands_value.false-raw in
     (omega arith, l.invariant.1 ∙ every-goes-on (test a.bytes.now a.at) a.n l.i c.loop-i-test.true yes)

@@ -8,7 +8,6 @@ use Rattle.task.specs.Frames.{bank_length, stacks_length}
 use Rattle.state.proofs.reader.status_of.Goals as goal
 use borrow.Author.Tests.{eq-eqb, ne_eqb}
 use native.Mathlib.Omega.{arith}
-use Rattle.state.specs.Reading.{is_status, status_of}
 use Rattle.state.proofs.Rooms.{fault_room}
 
 pub returns-then-status-eq0 : goal.returns-then-status-eq0

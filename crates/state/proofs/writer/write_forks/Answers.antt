@@ -10,7 +10,6 @@ use mathlib.Core.List.{List}
 use Prim.Native.Nat.{ℕ, ◌-◌}
 use lib.ListN.{get_or}
 use Rattle.task.specs.declared.Fork.{Fork}
-use Rattle.state.specs.State.{fork_numbers}
 use Rattle.state.proofs.Laying.{length-in_bytes, Laid, laid_none, laid_more, laid_all, laid_length}
 use borrow.Author.Rules.{rules}
 use native.Mathlib.Omega.{arith}
@@ -23,7 +22,6 @@ loop-i-init c = laid_none _ 6 _ _
 
 pub loop-i-preserved : goal.loop-i-preserved
 loop-i-preserved c =
-    let c7 = c in
-    let l = c7.loop-i in
-    let forks = c7.args.forks in
-    laid_more _ 6 _ _ 16 (λ i. length-in_bytes (fork_numbers (get_or forks i zero_fork))) l.i l.out _ l.invariant c7.loop-i-test.true c.write_two.ensures
+    let l = c.loop-i in
+    let forks = c.args.forks in
+    laid_more _ 6 _ _ 16 (λ i. length-in_bytes (fork_numbers (get_or forks i zero_fork))) l.i l.out _ l.invariant c.loop-i-test.true c.write_two.ensures

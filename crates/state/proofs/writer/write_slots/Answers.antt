@@ -12,7 +12,6 @@ use Prim.Native.Nat.{ℕ, ◌+◌, ◌-◌, ◌*◌}
 use lib.Seq.{sets}
 use Rattle.drive.specs.declared.State.{State}
 use Rattle.state.specs.Places.{registers_at, stack_at, slot_bytes}
-use Rattle.state.specs.State.{slot_numbers}
 use Rattle.state.proofs.Laying.{Laid, laid_none, laid_more, laid_all, laid_length}
 use Rattle.state.proofs.StateLaws.{value_bytes, value_bytes_lem, slot_placed, slot_width}
 use borrow.Author.Rules.{rules}
@@ -29,45 +28,28 @@ loop-i-init c = laid_none _ 16 _ _
 
 pub loop-i-preserved : goal.loop-i-preserved
 loop-i-preserved c =
-    let c5 = c in
-    let c6 = c5 in
-    let c14 = c6 in
-    let c16 = c14 in
-    let l = c6.loop-i in
-    let wide = value_bytes_lem c16.args.m.bank (16 * c14.loop-k.k) in
-    laid_more _ 16 _ _ 24 wide l.i l.out _ l.invariant c5.loop-i-test.true c.write_register.ensures
+    let l = c.loop-i in
+    let wide = value_bytes_lem c.args.m.bank (16 * c.loop-k.k) in
+    laid_more _ 16 _ _ 24 wide l.i l.out _ l.invariant c.loop-i-test.true c.write_register.ensures
 
 pub loop-j-init : goal.loop-j-init
 loop-j-init c = laid_none _ 32 _ _
 
 pub loop-j-preserved : goal.loop-j-preserved
 loop-j-preserved c =
-    let c5 = c in
-    let c6 = c5 in
-    let c14 = c6 in
-    let c21 = c14 in
-    let c23 = c21 in
-    let s = c6.loop-j in
-    let wide = value_bytes_lem c23.args.m.stacks (32 * c21.loop-k.k) in
-    laid_more _ 32 _ _ 24 wide s.j s.out _ s.invariant c5.loop-j-test.true c.write_register-in-loop-j.ensures
+    let s = c.loop-j in
+    let wide = value_bytes_lem c.args.m.stacks (32 * c.loop-k.k) in
+    laid_more _ 32 _ _ 24 wide s.j s.out _ s.invariant c.loop-j-test.true c.write_register-in-loop-j.ensures
 
 pub loop-k-preserved : goal.loop-k-preserved
 loop-k-preserved c =
-    let c4 = c in
-    let c7 = c4 in
-    let c8 = c7 in
-    let c11 = c8 in
-    let c14 = c11 in
-    let c15 = c14 in
-    let c16 = c15 in
-    let c18 = c16 in
-    let m = c18.args.m in
-    let out = c16.loop-k in
-    let l = c8.loop-i in
+    let m = c.args.m in
+    let out = c.loop-k in
+    let l = c.loop-i in
     let s = c.loop-j in
-    let at = c14.slot_place-at.result in
-    let registers = laid_all _ 16 _ _ l.i l.out l.invariant c7.loop-i-test.false in
+    let at = c.slot_place-at.result in
+    let registers = laid_all _ 16 _ _ l.i l.out l.invariant c.loop-i-test.false in
     let stack = laid_all _ 32 _ _ s.j s.out s.invariant c.loop-j-test.false in
-    let slot = slot_placed m out.k out.out _ _ _ _ at c11.write_task.ensures registers c4.write_u64.ensures stack in
-    let there = slot ∙ ap (λ (n : ℕ). sets out.out n (slots_bytes m out.k)) c14.slot_place-at.ensures.0 in
-    laid_more _ 64 _ 24 slot_bytes (slot_width m) out.k out.out _ out.invariant (omega (arith, c15.loop-k-test.true)) there
+    let slot = slot_placed m out.k out.out _ _ _ _ at c.write_task.ensures registers c.write_u64.ensures stack in
+    let there = slot ∙ ap (λ (n : ℕ). sets out.out n (slots_bytes m out.k)) c.slot_place-at.ensures.0 in
+    laid_more _ 64 _ 24 slot_bytes (slot_width m) out.k out.out _ out.invariant (omega (arith, c.loop-k-test.true)) there

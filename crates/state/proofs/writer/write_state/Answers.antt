@@ -11,6 +11,4 @@ use borrow.Author.Rules.{rules}
 
 pub returns : goal.returns
 returns c =
-    let c6 = c in
-    let c11 = c6 in
-    state_placed c11.args.m c11.args.out.now _ _ c11.requires c6.write_three.ensures c.write_slots.ensures
+    state_placed c.args.m c.args.out.now _ _ c.requires c.write_three.ensures c.write_slots.ensures

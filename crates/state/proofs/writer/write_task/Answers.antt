@@ -12,11 +12,4 @@ use native.Mathlib.Omega.{arith}
 
 pub returns : goal.returns
 returns c =
-    let c6 = c in
-    let c6 = c6 in
-    let c12 = c6 in
-    let c18 = c12 in
-    let c19 = c18 in
-    let c20 = c19 in
-    let c24 = c20 in
-    task-placed c24.args.t c24.args.out.now _ _ _ _ c24.args.at c20.status_number.result c19.fault_number.result c20.status_number.ensures c19.fault_number.ensures c18.write_three.ensures c12.write_two.ensures c6.write_two-2.ensures c.write_forks.ensures
+    task-placed c.args.t c.args.out.now _ _ _ _ c.args.at c.status_number.result c.fault_number.result c.status_number.ensures c.fault_number.ensures c.write_three.ensures c.write_two.ensures c.write_two-2.ensures c.write_forks.ensures
