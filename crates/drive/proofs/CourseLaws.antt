@@ -3,7 +3,7 @@ use mathlib.Core.Path.{◌≡◌, refl}
 use mathlib.Core.List.{List}
 use Prim.Native.Nat.{ℕ, zero, suc}
 use lib.IntN.{ℤ}
-use Rattle.drive.specs.Courses.{Next, over, turn, Chooser, Run, picked_at, follows}
+use Rattle.drive.specs.Courses.{over, turn, Chooser, Run, picked_at, follows}
 
 module _ (cells : List ℕ) (words : List ℤ) {C : Type 0} (next : Chooser C) where
   -- with any budget

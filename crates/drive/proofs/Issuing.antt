@@ -1,13 +1,11 @@
 -- An instruction carried out on small values, and what it left put into the state, is a pick's work.
 use mathlib.Core.Path.{◌≡◌, refl, sym, ap, ap₂, ◌∙◌}
 use mathlib.Core.Bool.{Bool, true, false, cond}
-use mathlib.Core.List.{List, [], ◌∷◌}
+use mathlib.Core.List.{List}
 use Prim.Native.Nat.{ℕ, ◌+◌, ◌*◌, ◌-◌, ◌/◌, ◌^◌, ◌<◌, ◌≤◌}
 use lib.Dec.{ltb}
 use lib.Seq.{sets}
 use borrow.Author.Tests.{lt-ltb, le-ltb}
-use types.Run.{OneOf, miss}
-use denote.Enum.Declared.{tag_of}
 use Rattle.facts.proofs.Tests.{clash, by-below}
 use native.Mathlib.Nat.{pow-suc}
 use lib.Pow.{pow_pos}
@@ -35,7 +33,6 @@ use Rattle.task.specs.Values.{record_of}
 use Rattle.task.specs.Step.{register, operand, active_of, counted, moved_to, ended, with_height, with_task, emptied, step}
 use Rattle.task.specs.Execute.{executed}
 use Rattle.task.specs.Stretches.{reads}
-use Rattle.task.specs.contracts.Kind.{the_type}
 use Rattle.task.proofs.StepKeeps.{running_is}
 use Rattle.task.proofs.Executing.{after, parent_side, child_side, made_by, made, step-executed}
 use Rattle.drive.specs.declared.State.{State}
@@ -196,11 +193,11 @@ module _ {cells : List ℕ} {words : List ℤ} {m : State} {k : ℕ} {x : Instru
     stack = cond (ltb 0 (faults kind)) empty_stack f.stack;
   }
 
-  pub ends-steps : runs_on e.kind ≡ false → stacks_it e.kind ≡ false → OneOf (0 ∷ 1 ∷ 2 ∷ 3 ∷ 4 ∷ 5 ∷ 6 ∷ []) (tag_of the_type e.kind)
+  pub ends-steps : runs_on e.kind ≡ false → stacks_it e.kind ≡ false → (e.kind ≡ Forks → ⊥)
       → step (program_of cells) words (chosen m.interval) f ≡ one (end_frame e.kind e.fault)
   ends-steps stops no_stack no-fork = steps ∙ go e.kind stops no_stack no-fork
     where
-      go : (kind : Kind) → runs_on kind ≡ false → stacks_it kind ≡ false → OneOf (0 ∷ 1 ∷ 2 ∷ 3 ∷ 4 ∷ 5 ∷ 6 ∷ []) (tag_of the_type kind)
+      go : (kind : Kind) → runs_on kind ≡ false → stacks_it kind ≡ false → (kind ≡ Forks → ⊥)
           → made_by kind f x.r e ≡ one (end_frame kind e.fault)
       go Stores h s o = clash refl h
       go Goes h s o = clash refl h
@@ -209,7 +206,7 @@ module _ {cells : List ℕ} {words : List ℤ} {m : State} {k : ℕ} {x : Instru
       go Waits h s o = refl
       go Halts h s o = refl
       go Faults h s o = refl
-      go Forks h s o = absurd (miss (0 ∷ 1 ∷ 2 ∷ 3 ∷ 4 ∷ 5 ∷ 6 ∷ []) 7 tt o)
+      go Forks h s o = absurd (o refl)
 
   -- a push on a full stack, or a pop from an empty one
   pub refused-steps : stacks_it e.kind ≡ true → (stack_no (pops_it e.kind) f.task.height ≡ 0 → ⊥)

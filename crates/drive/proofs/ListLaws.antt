@@ -1,7 +1,7 @@
 -- The slots of an order, as the loop goes through them: from where it stands, the run along the slots that are left is the whole run.
 use mathlib.Core.Path.{◌≡◌, refl, sym, ap, ◌∙◌}
 use mathlib.Core.Logic.{◌⊎◌, inl, inr}
-use mathlib.Core.Bool.{true, false, not, and-false}
+use mathlib.Core.Bool.{true, false, and-false}
 use mathlib.Core.List.{List, [], ◌∷◌}
 use Prim.Native.Nat.{ℕ, zero, suc, ◌+◌, ◌-◌, ◌<◌, ◌≤◌}
 use native.Mathlib.Omega.{arith}
@@ -26,7 +26,7 @@ use Rattle.drive.specs.Driving.{left}
 use Rattle.drive.proofs.CourseLaws.{stays, picks_turn}
 use Rattle.drive.proofs.IssueLaws.{issued_work}
 use Rattle.drive.proofs.SlotQuestions.{far_refused, idle-refused, full-refused}
-use Rattle.drive.proofs.Positions.{Walks, goes, rests, no_picks_left, Comes, comes_none, comes_one, stop_most}
+use Rattle.drive.proofs.Positions.{Walks, rests, no_picks_left, Comes, comes_none, comes_one, stop_most}
 
 -- ---- the chooser
 

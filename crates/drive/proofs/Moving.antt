@@ -2,7 +2,6 @@
 use Prim.Native.Nat.{ℕ, zero, suc, ◌+◌, ◌*◌, ◌-◌, ◌/◌, ◌%◌, ◌≤◌, ◌<◌}
 use mathlib.Core.Path.{◌≡◌, refl, sym, ap, ◌∙◌}
 use mathlib.Core.Logic.{◌⊎◌, inl, inr}
-use mathlib.Core.Bool.{Bool, true, false, cond}
 use mathlib.Core.List.{List, [], ◌∷◌}
 use native.Mathlib.Omega.{arith}
 use native.Mathlib.Nat.{add-zero}
@@ -13,17 +12,11 @@ use Rattle.image.specs.Layout.{program_of}
 use Rattle.agreement.specs.Slots.{due, merged, settle}
 use Rattle.agreement.proofs.SlotLaws.{settle-none, settle-go, settle_stop}
 use Rattle.task.specs.declared.Register.{Register}
-use Rattle.task.specs.declared.Task.{Task}
-use Rattle.task.specs.declared.Joint.{Joint}
-use Rattle.task.specs.Frames.{zero_register, zeros, vacant_task, vacant, running, is_running}
-use Rattle.task.specs.Step.{copied, join}
-use Rattle.task.specs.Execute.{joint_of, joint_registers}
-use Rattle.task.proofs.Copying.{copies_first, copies_none, faulted-pairs, join-joint}
+use Rattle.task.specs.Frames.{zero_register, zeros}
 use Rattle.task.specs.Stretches.{reads}
-use Rattle.task.proofs.StretchLaws.{length-reads, get_d_reads, reads_all}
+use Rattle.task.proofs.StretchLaws.{length-reads, get_d_reads}
 use Rattle.drive.specs.declared.State.{State}
-use Rattle.drive.specs.Slots.{at, put, ticked, slots_of}
-use Rattle.drive.proofs.SlotLaws.{put_other, put_tasks}
+use Rattle.drive.specs.Slots.{at, ticked, slots_of}
 use Rattle.drive.proofs.InPlace.{sets-after, sets-reads, with_arrays}
 use Rattle.drive.proofs.Copying.{copied_none, copied_next, filling}
 

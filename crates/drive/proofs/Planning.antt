@@ -1,14 +1,12 @@
 -- What a turn of the loop has written and planned: with its moves made, the next turn holds. One statement for each kind of turn.
 use mathlib.Core.Path.{◌≡◌, refl, sym, ap, ap₂, ◌∙◌, subst⁻¹}
 use mathlib.Core.Bool.{true, false, cond}
-use mathlib.Core.List.{List, [], ◌∷◌}
+use mathlib.Core.List.{List}
 use Prim.Native.Nat.{ℕ, ◌+◌, ◌-◌, ◌*◌, ◌/◌, ◌%◌, ◌<◌, ◌≤◌}
 use native.Mathlib.Omega.{arith}
 use lib.Dec.{ltb}
 use lib.ListN.{get_or, set}
 use lib.Seq.{get_or-set_same, get_or-set_other}
-use types.Run.{OneOf}
-use denote.Enum.Declared.{tag_of}
 use Rattle.facts.proofs.Tests.{clash, by-test}
 use Rattle.image.specs.Layout.{program_of}
 use Rattle.agreement.specs.Plain.{one}
@@ -24,7 +22,6 @@ use Rattle.task.specs.Choices.{chosen}
 use Rattle.task.specs.Values.{record_of}
 use Rattle.task.specs.Step.{counted, ended, with_height, step}
 use Rattle.task.specs.Execute.{joint_of}
-use Rattle.task.specs.contracts.Kind.{the_type}
 use Rattle.drive.specs.declared.State.{State}
 use Rattle.turns.specs.declared.moves.Moves.{Moves}
 use Rattle.turns.specs.declared.course.Position.{Position}
@@ -158,7 +155,7 @@ module _ (g : Given) (allowed : GivenAllowed g) where
         step (program_of g.cells) g.words (chosen m.interval) (at m k)
         ≡ one (end_frame allowed_there fits-there a.slot_below s.runs_there s.fetched kind n)
 
-    pub ends_by : stacks_it e.kind ≡ false → OneOf (0 ∷ 1 ∷ 2 ∷ 3 ∷ 4 ∷ 5 ∷ 6 ∷ []) (tag_of the_type e.kind) → EndsBy e.kind e.fault
+    pub ends_by : stacks_it e.kind ≡ false → (e.kind ≡ Forks → ⊥) → EndsBy e.kind e.fault
     ends_by = ends-steps allowed_there fits-there a.slot_below s.runs_there s.fetched s.stops_it
 
     pub refused-by : stacks_it e.kind ≡ true → (stack_no (pops_it e.kind) (at m k).task.height ≡ 0 → ⊥)
