@@ -2,7 +2,7 @@
 use Rattle.std.specs.Prelude.{true, false, List, [], ◌∷◌, ℕ, eqb, ℤ, length}
 use Rattle.drive.specs.declared.State.{State}
 use Rattle.drive.specs.Issue.{slot_no}
-use Rattle.drive.specs.Courses.{Next, over, turn, Chooser, Run, begun, follows}
+use Rattle.drive.specs.Courses.{over, turn, Chooser, Run, begun, follows}
 
 -- it keeps the slots that are left
 unfoldable pub listed : Chooser (List ℕ)

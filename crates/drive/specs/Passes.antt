@@ -4,7 +4,7 @@ use Rattle.task.specs.Frames.{running, work_limit}
 use Rattle.drive.specs.declared.State.{State}
 use Rattle.drive.specs.Slots.{at}
 use Rattle.drive.specs.Ending.{job_ended}
-use Rattle.drive.specs.Courses.{Next, over, turn, Chooser, Run, begun, follows}
+use Rattle.drive.specs.Courses.{over, turn, Chooser, Run, begun, follows}
 
 -- the first of the n slots from k on that has a running task; k + n where none has
 unfoldable pub first_running : State → ℕ → ℕ → ℕ

@@ -1,5 +1,5 @@
 -- The state's slots: slot k has the task record k, the 16 registers of the bank from 16·k on, and the 32 values of the stacks from 32·k on.
-use Rattle.std.specs.Prelude.{◌≡◌, List, ℕ, ◌+◌, ◌*◌, length, get_or, set}
+use Rattle.std.specs.Prelude.{◌≡◌, ℕ, ◌+◌, ◌*◌, length, get_or, set}
 use Rattle.std.proofs.lemmas.List.Edits.{sets}
 use Rattle.agreement.specs.Slots.{Slots}
 use Rattle.image.specs.Program.{Program}
