@@ -18,7 +18,7 @@ returns-then-lanes_used-eq0 c =
     let a = c.args in
     let passes = sym c.ask_dispatch-no.ensures ∙ c.if-no-ne0.false in
     let sized : Sized a.self.state =
-        record { of_bank = search (rules, length-by); of_stacks = search (rules, length-by); of_tasks = search (rules, length-by) } in
+    record { of_bank = search (rules, length-by); of_stacks = search (rules, length-by); of_tasks = search (rules, length-by) } in
     dispatch-idle a.cells.now a.words.now a.lanes a.self.state a.budget passes sized (sym c.lanes_used.ensures ∙ c.if-lanes_used-eq0.true)
 
 pub drive-driven-requires : goal.drive-driven-requires

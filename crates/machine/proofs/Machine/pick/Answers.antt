@@ -13,7 +13,7 @@ returns-then-call-ne0 c =
     let a = c.args in
     let call = c.ask_call-call in
     let decides =
-        call.ensures ∙ sym (call_decides a.cells.now a.words.now a.self.state a.slot (λ e. c.if-call-ne0.true (call.ensures ∙ e))) in
+    call.ensures ∙ sym (call_decides a.cells.now a.words.now a.self.state a.slot (λ e. c.if-call-ne0.true (call.ensures ∙ e))) in
     (decides, pick-refused a.cells.now a.words.now a.self.state a.slot _ decides c.if-call-ne0.true)
 
 pub meets_shape-met-requires : goal.meets_shape-met-requires
@@ -46,6 +46,6 @@ returns c =
     let decides = issue_decides a.cells.now a.words.now a.self.state a.slot none met.result _ met.ensures c.ask_issue-no.ensures in
     let accepted : pick_no a.cells.now a.words.now a.self.state a.slot ≡ 0 = sym decides ∙ c.if-no-ne0.false in
     let sized : Sized a.self.state =
-        record { of_bank = search (rules, length-by); of_stacks = search (rules, length-by); of_tasks = search (rules, length-by) } in
+    record { of_bank = search (rules, length-by); of_stacks = search (rules, length-by); of_tasks = search (rules, length-by) } in
     let carried = picked-one a.cells.now a.words.now a.self.state a.slot sized accepted (0 ∷ []) in
     (sym accepted, ap (λ r. r.state) c.drive-driven.ensures ∙ carried)

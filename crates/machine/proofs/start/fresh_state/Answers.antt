@@ -28,5 +28,5 @@ returns c =
     let a = c.args in
     let all : c.loop-i.i ≡ 16 = omega arith in
     let filled =
-        c.loop-i.invariant.1 ∙ ap (λ (n : ℕ). sets (empty a.places a.interval).bank 0 (reads zero_register (integers a.registers.now) 0 n)) all in
+    c.loop-i.invariant.1 ∙ ap (λ (n : ℕ). sets (empty a.places a.interval).bank 0 (reads zero_register (integers a.registers.now) 0 n)) all in
     rw (filled, filled-empty 2048, c.unforked.ensures, c.vacant_task-vacant.ensures)
