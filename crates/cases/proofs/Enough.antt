@@ -1,6 +1,6 @@
 -- The test of a case is enough. Laws carry what it leaves out: start puts the reader's questions again (image's round trip), any fuel from
--- the work on gives the evaluation (orders' `any_fuel`), picks of an order do what the model's do (orders' `played-is`), and every complete
--- order agrees with the evaluation (orders' `demand-3`).
+-- the work on gives the evaluation (orders' `any_fuel`), picks of an order do what the model's do (orders' `played_is`), and every complete
+-- order agrees with the evaluation (orders' `demand_3`).
 use mathlib.Core.Path.{◌≡◌, refl, ap, ap₂, ◌∙◌, subst}
 use mathlib.Core.Bool.{Bool, true}
 use mathlib.Core.List.{List, [], ◌∷◌, Memᴰ}
