@@ -7,7 +7,6 @@ ghost use Rattle.job.specs.Run.{text_in};
 
 use std::io;
 use std::io::{Read, Write};
-use std::process::ExitCode;
 
 // The most picks that a job is given.
 const BUDGET: u64 = 1_000_000;
@@ -96,13 +95,9 @@ fn answer<R: Read, W: Write>(input: &mut R, out: &mut W, space: &mut [u8]) -> Re
 
 // A job has at most 589,950 bytes, its image length and word count being of 16 bits. The buffer has one more, so that a longer input does
 // not end exactly after its last word.
-fn main(rt: HostRuntime) -> ExitCode {
+fn main(rt: HostRuntime) {
     let mut space = [0u8; 589951];
-    match answer(&mut rt.stdin(), &mut rt.stdout(), &mut space) {
-        Ok(()) => ExitCode::SUCCESS,
-        Err(failure) => {
-            complain(&rt, failure);
-            ExitCode::FAILURE
-        }
+    if let Err(failure) = answer(&mut rt.stdin(), &mut rt.stdout(), &mut space) {
+        complain(&rt, failure);
     }
 }
