@@ -100,7 +100,8 @@ pub fn join_parent(
     recs: &[u64],
     sides: &[u64],
 ) -> Hand
-    requires { ((pile : List ℕ) × (tags : List ℕ) × Point cells.now hand (rows_of nums.old kinds.old bank.old marks.old recs.now sides.now pile tags)) × (hand.what ≡ 0 → ⊥) × (0 < hand.depth) × ((kept_of sides.now (hand.depth - 1)).what ≡ 0 → ⊥) }
+    requires { ((pile : List ℕ) × (tags : List ℕ) × Point cells.now hand (rows_of nums.old kinds.old bank.old marks.old recs.now sides.now pile tags))
+        × (hand.what ≡ 0 → ⊥) × (0 < hand.depth) × ((kept_of sides.now (hand.depth - 1)).what ≡ 0 → ⊥) }
     ensures depth_lt_depth { (result.depth < hand.depth) × (result.left ≡ hand.left) }
     ensures leads_to { (words : List ℤ) (interval : ℕ) (pile tags : List ℕ) → Point cells.now hand (rows_of nums.old kinds.old bank.old marks.old recs.now sides.now pile tags)
         → LeadsTo cells.now words interval hand (rows_of nums.old kinds.old bank.old marks.old recs.now sides.now pile tags) result (rows_of nums.new kinds.new bank.new marks.new recs.now sides.now pile tags) }
