@@ -1,7 +1,7 @@
 #!/bin/sh
 # Holds the header to the engine: each `pub extern "C" fn` of crates/job_c/src/lib.rt is declared with the
 # same types, a slice as a pointer and a length; header, archive and shared library have these names and
-# no other. Each has the contract of job's function of its name, word for word. Then damaged copies of header
+# no other. Each has the contract of job's function of its name, word for word, its answer as a number. Then damaged copies of header
 # and source, which have to be found out. The examples of docs/api.md compile, and docs/numbers.md has the
 # header's names. The last line is the total.
 set -eu
@@ -69,10 +69,16 @@ contracts() {
         reading { print }' "$1"
 }
 
+# in_numbers: an answer that is a Result or an Option as the number that C gets; that None is told from a length is job's alone to say.
+in_numbers() {
+    sed -e 's/ -> Result<(), Refusal>$/ -> u8/' -e 's/ -> Option<usize>$/ -> u64/' -e '/^    ensures none {/d' \
+        -e 's/(no_of result)/result/g' -e 's/no_of result/result/g' -e 's/unwrap_or result 0/result/g'
+}
+
 # same_contracts SOURCE LIBRARY
 same_contracts() {
     contracts "$1" >"$room/exported"
-    contracts "$2" >"$room/offered"
+    contracts "$2" | in_numbers >"$room/offered"
     test -s "$room/exported" && diff "$room/exported" "$room/offered"
 }
 

@@ -20,10 +20,9 @@ use Rattle.task.proofs.StepKeeps.{step_one}
 use Rattle.task.proofs.Counts.{within_is, is_within, within_more, step-one-within}
 use Rattle.image.proofs.Accepted.{accepted}
 use Rattle.image.specs.Questions.{program_no}
-use Rattle.arms.specs.declared.Gone.{Gone}
 use Rattle.arms.specs.Registers.{registers_of, Sized}
 use Rattle.arms.specs.Stacks.{Stacked, stack_of}
-use Rattle.arms.specs.Turns.{frame_at, rules, At, Starts, Ends, Turned, Runs}
+use Rattle.arms.specs.Turns.{frame_at, rules, At, Starts, Ends, Runs}
 
 module _ (cells : List ℕ) (words : List ℤ) (interval : ℕ) where
   -- a step to one task that runs on
@@ -96,13 +95,13 @@ module _ (cells : List ℕ) (words : List ℤ) (interval : ℕ) where
             rw (c, w) at e
 
 -- a turn that was none: the instruction there is one that the task does not carry out by itself
-pub stops : (cells : List ℕ) (words : List ℤ) (interval places depth pc beat left : ℕ) (before : List Register) (g : Gone) (after : List Register)
-    → 0 < left → (g.what ≡ 0 → ⊥) → Turned cells words interval places depth pc beat (left - 1) before g after
-    → Ends cells words interval places depth g.what (pc / 4) (beat - left) after
-stops cells words interval places depth pc beat left before g after some off t =
+pub stops : (cells : List ℕ) (words : List ℤ) (interval places depth what pc beat left : ℕ) (before after : List Register)
+    → 0 < left → after ≡ before → Ends cells words interval places depth what pc (beat - (left - 1 + 1)) before
+    → Ends cells words interval places depth what pc (beat - left) after
+stops cells words interval places depth what pc beat left before after some kept e =
     let same : left - 1 + 1 ≡ left = omega (arith, some) in
-    subst (Ends cells words interval places depth g.what (pc / 4) (beat - left)) (sym (t.stays off).0)
-    (subst (λ n. Ends cells words interval places depth g.what (pc / 4) (beat - n) before) same (t.stays off).1)
+    subst (Ends cells words interval places depth what pc (beat - left)) (sym kept)
+    (subst (λ n. Ends cells words interval places depth what pc (beat - n) before) same e)
 
 -- ---- at a turn of the loop
 

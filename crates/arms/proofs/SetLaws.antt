@@ -22,19 +22,21 @@ use Rattle.task.specs.Choices.{Choices}
 use Rattle.task.specs.Effect.{Effect, stores, faults, asked, integer, word, jralloc, unknown, opcodes, effect_of}
 use Rattle.task.specs.Formed.{every}
 use Rattle.task.proofs.EveryLaws.{every-at}
-use Rattle.arms.specs.Registers.{value_of, registers_of, Sized, in_register, operand_by}
-use Rattle.arms.specs.Arms.{active, Context, Sets, computing, dividing, SetsAs, SetsBy}
+use Rattle.arms.specs.declared.Course.{Course}
+use Rattle.arms.specs.declared.Course.TheVariants.{On, Off, Fault}
+use Rattle.arms.specs.declared.Registers.{Registers}
+use Rattle.arms.specs.Registers.{registers_in, value_of, registers_of, Sized, in_register, operand_by}
+use Rattle.arms.specs.Arms.{active, Context, IfOff, Sets, computing, SetsAs, SetsBy}
 use Rattle.arms.proofs.RegisterLaws.{written, value-at, integer-at}
-use Rattle.arms.proofs.ValueLaws.{zero_bits, other_bits}
 
 -- it leaves all as it was
-pub unset : (what : ℕ) → 2 ≤ what → {r : ℕ} {registers : List Register} {e : Effect} → e ≡ faults what → Sets what r registers registers e
-unset what l h = record { did = λ q. absurd (omega (arith, l, q)); failed = λ q. (l, h, refl) }
+pub unset : (what : ℕ) → 2 ≤ what → {r : ℕ} {registers : List Register} {e : Effect} → e ≡ faults what → Sets (Fault what) r registers registers e
+unset what l h = record { did = tt; failed = (l, h, refl); not_off = tt }
 
 -- it stores bits of a kind
 pub sets : (nums kinds : List ℕ) (r u k : ℕ) {nums' kinds' : List ℕ} {e : Effect} (w : Value) → value_of k u ≡ w → e ≡ stores w
-    → nums' ≡ set nums r u → kinds' ≡ set kinds r k → Sets 0 r (registers_of nums kinds) (registers_of nums' kinds') e
-sets nums kinds r u k w h e p q = record { did = λ t. (w, e, rw (p, q) (written nums kinds r u k ∙ rw h)); failed = λ t. absurd (t refl) }
+    → nums' ≡ set nums r u → kinds' ≡ set kinds r k → Sets On r (registers_of nums kinds) (registers_of nums' kinds') e
+sets nums kinds r u k w h e p q = record { did = (w, e, rw (p, q) (written nums kinds r u k ∙ rw h)); failed = tt; not_off = tt }
 
 -- ---- of integers
 
@@ -56,36 +58,26 @@ no_second s (suc zero) u n after = second-faults s
 no_second s (suc (suc k)) u n after = second-faults s
 
 module _ (nums kinds : List ℕ) (i : ℕ) (h : Sized nums kinds) (l : i < 16) (n : get_or kinds i 0 ≡ 0 → ⊥) {r : ℕ} where
-  pub left_other : (after : ℤ → Effect) → Sets 31 r (registers_of nums kinds) (registers_of nums kinds) (integer (in_register i (registers_of nums kinds)) 31 after)
+  pub left_other : (after : ℤ → Effect) → Sets (Fault 31) r (registers_of nums kinds) (registers_of nums kinds) (integer (in_register i (registers_of nums kinds)) 31 after)
   left_other after = unset 31 (omega arith) (ap (λ w. integer w 31 after) (value-at nums kinds i h l) ∙ no-integer (get_or kinds i 0) (get_or nums i 0) n after)
 
   pub right-other : (after : ℤ → ℤ → Effect) (s : Value)
-      → Sets 31 r (registers_of nums kinds) (registers_of nums kinds) (computing after s (in_register i (registers_of nums kinds)))
+      → Sets (Fault 31) r (registers_of nums kinds) (registers_of nums kinds) (computing after s (in_register i (registers_of nums kinds)))
   right-other after s =
       unset 31 (omega arith) (ap (computing after s) (value-at nums kinds i h l) ∙ no_second s (get_or kinds i 0) (get_or nums i 0) n after)
 
--- it stores what an operation gives of the integer in s and b
-pub sets_computed : (nums kinds : List ℕ) (r s u b : ℕ) {nums' kinds' : List ℕ} → Sized nums kinds → s < 16 → get_or kinds s 0 ≡ 0
-    → nums' ≡ set nums r u → kinds' ≡ set kinds r 0 → (op : ℤ → ℤ → Value) → Int (to_z w64 u) ≡ op (to_z w64 (get_or nums s 0)) (to_z w64 b)
-    → Sets 0 r (registers_of nums kinds) (registers_of nums' kinds')
-    (computing (λ m n. stores (op m n)) (in_register s (registers_of nums kinds)) (Int (to_z w64 b)))
-sets_computed nums kinds r s u b h l i x y op z =
-    sets nums kinds r u 0 (op (to_z w64 (get_or nums s 0)) (to_z w64 b)) z (rw (integer-at nums kinds s h l i)) x y
+-- what an operation makes of the integer in s and b
+module _ (nums kinds : List ℕ) (r s b : ℕ) (h : Sized nums kinds) (l : s < 16) (int : get_or kinds s 0 ≡ 0) (after : ℤ → ℤ → Effect) where
+  abbrev computed : Effect
+  computed = computing after (in_register s (registers_of nums kinds)) (Int (to_z w64 b))
 
--- a division of the integer in s by b
-module _ (nums kinds : List ℕ) (r s kind b : ℕ) (h : Sized nums kinds) (l : s < 16) (int : get_or kinds s 0 ≡ 0) (divisor : kind ≡ 0) (op : ℤ → ℤ → ℤ) where
-  abbrev divided : Effect
-  divided = computing (dividing op) (in_register s (registers_of nums kinds)) (value_of kind b)
+  pub sets_computed : (u : ℕ) {nums' kinds' : List ℕ} → nums' ≡ set nums r u → kinds' ≡ set kinds r 0
+      → after (to_z w64 (get_or nums s 0)) (to_z w64 b) ≡ stores (Int (to_z w64 u))
+      → Sets On r (registers_of nums kinds) (registers_of nums' kinds') computed
+  sets_computed u x y z = sets nums kinds r u 0 (Int (to_z w64 u)) refl (rw (integer-at nums kinds s h l int) z) x y
 
-  pub by_zero : b ≡ 0 → Sets 32 r (registers_of nums kinds) (registers_of nums kinds) divided
-  unfolding asked
-  by_zero z = unset 32 (omega arith) (rw (integer-at nums kinds s h l int, divisor, zero_bits b z))
-
-  pub sets-divided : (u : ℕ) {nums' kinds' : List ℕ} → (b ≡ 0 → ⊥) → Int (to_z w64 u) ≡ Int (op (to_z w64 (get_or nums s 0)) (to_z w64 b))
-      → nums' ≡ set nums r u → kinds' ≡ set kinds r 0 → Sets 0 r (registers_of nums kinds) (registers_of nums' kinds') divided
-  unfolding asked
-  sets-divided u z e x y =
-      sets nums kinds r u 0 (Int (op (to_z w64 (get_or nums s 0)) (to_z w64 b))) e (rw (integer-at nums kinds s h l int, divisor, other_bits b z)) x y
+  pub by_zero : after (to_z w64 (get_or nums s 0)) (to_z w64 b) ≡ faults 32 → Sets (Fault 32) r (registers_of nums kinds) (registers_of nums kinds) computed
+  by_zero z = unset 32 (omega arith) (rw (integer-at nums kinds s h l int) z)
 
 -- ---- word v of the call record, where v is an integer's bits
 
@@ -140,15 +132,22 @@ module _ (program : Program) (words : List ℤ) (c : Choices) (s : Value) (t : A
 
 -- ---- an arm by its number: N + 32 K is n + 32 k for no other n and k
 
--- of the register that the arm reads in the code
-pub as_read : {read r : ℕ} → read ≡ r → r < 16 → read < 16
-as_read e l = omega (arith, e, l)
+-- what is not left to others
+off-not : (what : Course) (P : Type 0) → IfOff what ⊥ → IfOff what P
+off-not On P q = tt
+off-not Off P q = absurd q
+off-not (Fault n) P q = tt
 
-module _ (x : Context) (least arm what r s v : ℕ) (nums kinds nums' kinds' : List ℕ) where
+off_so : (what : Course) (P Q : Type 0) → (P → Q) → IfOff what P → IfOff what Q
+off_so On P Q f p = tt
+off_so Off P Q f p = f p
+off_so (Fault n) P Q f p = tt
+
+module _ (x : Context) (least arm : ℕ) (what : Course) (r s v : ℕ) (before after : Registers) where
   abbrev Does : ℕ → ℕ → ℕ → Type 0
-  Does i n k = SetsAs x (get_or opcodes n unknown) what i nums kinds nums' kinds' (in_register s) (operand_by k v)
+  Does i n k = SetsAs x (get_or opcodes n unknown) what i before after (in_register s) (operand_by k v)
 
-  pub by_number : (N K : ℕ) → N < 13 → K ≤ 3 → arm ≡ N + 32 * K → {read : ℕ} → read ≡ r → Does read N K → SetsBy x least arm what r s v nums kinds nums' kinds'
+  pub by_number : (N K : ℕ) → N < 13 → K ≤ 3 → arm ≡ N + 32 * K → {read : ℕ} → read ≡ r → Does read N K → SetsBy x least arm what r s v before after
   by_number N K few known e same h = record {
     still_sized = h.0;
     carried = λ q. (omega (arith, few, known, e), omega (arith, few, known, e));
@@ -156,43 +155,43 @@ module _ (x : Context) (least arm what r s v : ℕ) (nums kinds nums' kinds' : L
         let p : N ≡ n = omega (arith, few, low, e, f) in
         let z : K ≡ k = omega (arith, few, low, e, f) in
         subst (λ j. Does r j k) p (subst (λ j. Does r N j) z (subst (λ i. Does i N K) same h));
-    untouched = λ q. absurd (not-one q);
-    others = λ q. absurd (not-one q);
+    untouched = off-not what _ set_one;
+    others = off-not what _ set_one;
   }
     where
-      not-one : what ≡ 1 → ⊥
-      not-one q = omega (arith, q, ((h.1 (active 0 0 0 x.depth) [] refl).failed (λ z. (omega (arith, q, z)))).0)
+      set_one : IfOff what ⊥
+      set_one = (h.1 (active 0 0 0 x.depth) [] refl).not_off
 
 -- ---- and those that set none
 
-module _ (x : Context) (least arm r s v : ℕ) (nums kinds : List ℕ) (sized : Sized nums kinds) where
+module _ (x : Context) (least arm r s v : ℕ) (before : Registers) (sized : Sized before.nums before.kinds) where
   abbrev Refused : ℕ → ℕ → Active → List Fork → ℕ → Type 0
   Refused n k t o what =
-      effect_of x.program x.words x.choices (in_register s (registers_of nums kinds)) (operand_by k v (registers_of nums kinds)) t o (get_or opcodes n unknown)
+      effect_of x.program x.words x.choices (in_register s (registers_in before)) (operand_by k v (registers_in before)) t o (get_or opcodes n unknown)
       ≡ faults what
 
   -- a fault, whatever the registers hold
   pub refused : (what : ℕ) → 2 ≤ what → arm < 128 → arm % 32 < 13
-      → ((n k : ℕ) → n ≤ 17 → arm ≡ n + 32 * k → (t : Active) (o : List Fork) → Refused n k t o what) → SetsBy x least arm what r s v nums kinds nums kinds
+      → ((n k : ℕ) → n ≤ 17 → arm ≡ n + 32 * k → (t : Active) (o : List Fork) → Refused n k t o what) → SetsBy x least arm (Fault what) r s v before before
   refused what l small few e = record {
     still_sized = sized;
     carried = λ q. (small, few);
     as_table = λ q n k low f. (sized, λ t o d. unset what l (e n k low f t o));
-    untouched = λ q. refl;
-    others = λ q. absurd (omega (arith, l, q));
+    untouched = tt;
+    others = tt;
   }
 
-  pub refused-number : arm ≡ 107 → SetsBy x least arm 35 r s v nums kinds nums kinds
+  pub refused-number : arm ≡ 107 → SetsBy x least arm (Fault 35) r s v before before
   refused-number e = refused 35 (omega arith) (omega (arith, e)) (omega (arith, e)) λ n k low f t o.
       let p : 11 ≡ n = omega (arith, low, e, f) in
       let z : 3 ≡ k = omega (arith, low, e, f) in
       subst (λ i. Refused i k t o 35) p (subst (λ j. Refused 11 j t o 35) z refl)
 
-  pub refused-label : 66 ≤ arm → arm ≤ 73 → SetsBy x least arm 31 r s v nums kinds nums kinds
+  pub refused-label : 66 ≤ arm → arm ≤ 73 → SetsBy x least arm (Fault 31) r s v before before
   refused-label p q = refused 31 (omega arith) (omega (arith, q)) (omega (arith, p, q)) λ n k low f t o.
       let z : 2 ≡ k = omega (arith, low, f, p, q) in
       subst (λ j. Refused n j t o 31) z
-      (label-refused x.program x.words x.choices (in_register s (registers_of nums kinds)) t o n v (omega (arith, z, f, p)) (omega (arith, z, f, q)))
+      (label-refused x.program x.words x.choices (in_register s (registers_in before)) t o n v (omega (arith, z, f, p)) (omega (arith, z, f, q)))
 
 -- none of these numbers, the last first
 abbrev pub NoneOf : ℕ → List ℕ → Type 0
@@ -250,27 +249,27 @@ other-opcode arms k all arm rest outside n least most e =
         let b = both_true (leb 66 arm) (leb arm 73) h in
         outside (leb-true 66 arm b.0) (leb-true arm 73 b.1))
 
-module _ (x : Context) (arm r s v : ℕ) (nums kinds : List ℕ) where
-  pub left_over : NoneOf arm immediate → (66 ≤ arm → arm ≤ 73 → ⊥) → Sized nums kinds → SetsBy x 2 arm 1 r s v nums kinds nums kinds
+module _ (x : Context) (arm r s v : ℕ) (before : Registers) where
+  pub left_over : NoneOf arm immediate → (66 ≤ arm → arm ≤ 73 → ⊥) → Sized before.nums before.kinds → SetsBy x 2 arm Off r s v before before
   left_over rest outside sized = record {
     still_sized = sized;
-    carried = λ q. absurd (q refl);
-    as_table = λ q. absurd (q refl);
-    untouched = λ q. refl;
-    others = λ q n k least most low high e. by-below k 3
+    carried = λ q. absurd q;
+    as_table = λ q. absurd q;
+    untouched = refl;
+    others = λ n k least most low high e. by-below k 3
         (λ l. other-opcode immediate 2 labels_sorted arm rest outside n least most (omega (arith, e, low, l)))
         (λ l. other-opcode immediate 3 numbers-sorted arm rest outside n least most (omega (arith, e, high, l)));
   }
 
   -- nor is it one whose operand is a register
-  pub no_register : NoneOf arm of_register → {what : ℕ} {nums' kinds' : List ℕ} → SetsBy x 2 arm what r s v nums kinds nums' kinds'
-      → SetsBy x 1 arm what r s v nums kinds nums' kinds'
-  no_register rest h = record {
+  pub no_register : NoneOf arm of_register → {what : Course} {after : Registers} → SetsBy x 2 arm what r s v before after
+      → SetsBy x 1 arm what r s v before after
+  no_register rest {what} h = record {
     still_sized = h.still_sized;
     carried = h.carried;
     as_table = h.as_table;
     untouched = h.untouched;
-    others = λ q n k least most low high e. by-below k 2
+    others = off_so what _ _ (λ others n k least most low high e. by-below k 2
         (λ l. other-opcode of_register 1 registers-sorted arm rest (λ p z. omega (arith, p, most, e, l)) n least most (omega (arith, e, low, l)))
-        (λ l. h.others q n k least most l high e);
+        (λ l. others n k least most l high e)) h.others;
   }

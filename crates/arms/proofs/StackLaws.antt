@@ -9,6 +9,7 @@ use lib.IntN.{ℤ}
 use lib.ListN.{length, get_or, set, length-set, replicate}
 use lib.Seq.{get_or-set_same, get_or-set_other}
 use borrow.Author.Tests.{eqb-true, eqb-false, lt-ltb, lt-leb}
+use Rattle.std.specs.Prelude.{Option, Some, None}
 use Rattle.facts.proofs.Tests.{by-test}
 use Rattle.image.specs.declared.Instruction.{Instruction}
 use Rattle.image.specs.Layout.{instruction_count, instruction_of, program_of}
@@ -117,21 +118,20 @@ below_on x y = record {
 
 -- ---- by the arm
 
-module _ {arm r v low height h : ℕ} {nums kinds pile tags : List ℕ} where
-  pub turned_pop : {nums' kinds' : List ℕ} → arm ≡ 17 → PoppedTo r low height nums kinds pile tags h nums' kinds'
+module _ {arm r v low height : ℕ} {nums kinds pile tags : List ℕ} where
+  pub turned_pop : {nums' kinds' : List ℕ} (h : Option ℕ) → arm ≡ 17 → PoppedTo r low height nums kinds pile tags h nums' kinds'
       → StackTurned arm r v low height nums kinds pile tags h nums' kinds' pile tags
-  turned_pop e x = record {
-    pops = λ n q. (x, refl, refl);
-    pushes = λ n q. absurd (q e);
-    untouched = λ z. let y = x.no_value z in (y.1, y.2, refl, refl);
-  }
+  turned_pop None e x = record { pops = tt; pushes = tt; untouched = let y = x.no_value in (y.1, y.2, refl, refl) }
+  turned_pop (Some t) e x = record { pops = λ q. (x, refl, refl); pushes = λ q. absurd (q e); untouched = tt }
 
-  pub turned_push : {u w : ℕ} {pile' tags' : List ℕ} (k : ℕ) → k ≤ 3 → arm ≡ 16 + 32 * k → value_of w u ≡ operand_by k v (registers_of nums kinds)
-      → PushedOn low height u w pile tags h pile' tags' → StackTurned arm r v low height nums kinds pile tags h nums kinds pile' tags'
-  turned_push {u} {w} k l e q x = record {
-    pops = λ n z. absurd (omega (arith, z, e));
-    pushes = λ n z. (k, l, e, u, w, q, x, refl, refl);
-    untouched = λ z. let y = x.no_place z in (refl, refl, y.1, y.2);
+  pub turned_push : {u w : ℕ} {pile' tags' : List ℕ} (h : Option ℕ) (k : ℕ) → k ≤ 3 → arm ≡ 16 + 32 * k
+      → value_of w u ≡ operand_by k v (registers_of nums kinds) → PushedOn low height u w pile tags h pile' tags'
+      → StackTurned arm r v low height nums kinds pile tags h nums kinds pile' tags'
+  turned_push None k l e q x = record { pops = tt; pushes = tt; untouched = let y = x.no_place in (refl, refl, y.1, y.2) }
+  turned_push {u} {w} (Some t) k l e q x = record {
+    pops = λ z. absurd (omega (arith, z, e));
+    pushes = λ z. (k, l, e, u, w, q, x, refl, refl);
+    untouched = tt;
   }
 
 -- ---- a push or a pop is the step
@@ -177,10 +177,10 @@ module _ (cells : List ℕ) (words : List ℤ) (interval places depth pc beat le
     pub sized_after : Sized nums' kinds'
     pub below_after : SameBelow low pile tags pile' tags'
 
-  pop-stacks : {r s v h : ℕ} {nums' kinds' : List ℕ} → Fetched cells pc 17 r s v → (h ≡ 33 → ⊥) → PoppedTo r low height nums kinds pile tags h nums' kinds'
+  pop-stacks : {r s v h : ℕ} {nums' kinds' : List ℕ} → Fetched cells pc 17 r s v → PoppedTo r low height nums kinds pile tags (Some h) nums' kinds'
       → Stacks h nums' kinds' pile tags
-  pop-stacks {r} {s} {v} {h} {nums'} {kinds'} d n x =
-      let z = x.has_value n in
+  pop-stacks {r} {s} {v} {h} {nums'} {kinds'} d x =
+      let z = x.has_value in
       let i = named d 17 0 (omega arith) (omega arith) refl in
       let m : suc (height - 1) ≡ height = omega (arith, z.0) in
       let values = ap (λ i. set (entries_from pile tags low i 32) (height - 1) zero_register) (sym m) ∙ sym (entries_popped pile tags low (height - 1) 32)
@@ -201,10 +201,10 @@ module _ (cells : List ℕ) (words : List ℤ) (interval places depth pc beat le
         below_after = below-same lies;
       }
 
-  push-stacks : {arm r s v h : ℕ} {pile' tags' : List ℕ} (k a b : ℕ) → Fetched cells pc arm r s v → (h ≡ 33 → ⊥) → k ≤ 3 → arm ≡ 16 + 32 * k
-      → value_of b a ≡ operand_by k v (registers_of nums kinds) → PushedOn low height a b pile tags h pile' tags' → Stacks h nums kinds pile' tags'
-  push-stacks {s = s} {v = v} {h = h} {pile' = pile'} {tags' = tags'} k a b d n known arm val x =
-      let z = x.its_has_place n in
+  push-stacks : {arm r s v h : ℕ} {pile' tags' : List ℕ} (k a b : ℕ) → Fetched cells pc arm r s v → k ≤ 3 → arm ≡ 16 + 32 * k
+      → value_of b a ≡ operand_by k v (registers_of nums kinds) → PushedOn low height a b pile tags (Some h) pile' tags' → Stacks h nums kinds pile' tags'
+  push-stacks {s = s} {v = v} {h = h} {pile' = pile'} {tags' = tags'} k a b d known arm val x =
+      let z = x.its_has_place in
       let i = named d 16 k (omega arith) known arm in
       let m : suc height ≡ h = omega (arith, z.1) in
       let values : set u.values height (record { value = operand_by k v (registers_of nums kinds) }) ≡ entries_from pile' tags' low h 32 =
@@ -223,16 +223,16 @@ module _ (cells : List ℕ) (words : List ℤ) (interval places depth pc beat le
         below_after = rw (z.2, z.3) (below_set pile tags low (low + height) a b lies (omega arith));
       }
 
-  pub stacks : {arm r s v h : ℕ} {nums' kinds' pile' tags' : List ℕ} → Fetched cells pc arm r s v → (h ≡ 33 → ⊥)
-      → StackTurned arm r v low height nums kinds pile tags h nums' kinds' pile' tags' → Stacks h nums' kinds' pile' tags'
-  stacks {arm} {r} {s} {v} {h} {nums'} {kinds'} {pile'} {tags'} d n t = by-test (eqb arm 17)
+  pub stacks : {arm r s v h : ℕ} {nums' kinds' pile' tags' : List ℕ} → Fetched cells pc arm r s v
+      → StackTurned arm r v low height nums kinds pile tags (Some h) nums' kinds' pile' tags' → Stacks h nums' kinds' pile' tags'
+  stacks {arm} {r} {s} {v} {h} {nums'} {kinds'} {pile'} {tags'} d t = by-test (eqb arm 17)
       (λ q.
       let e = eqb-true arm 17 q in
-      let x = t.pops n e in
-      rw (x.1, x.2) (pop-stacks (rw e at d) n x.0))
+      let x = t.pops e in
+      rw (x.1, x.2) (pop-stacks (rw e at d) x.0))
       (λ q.
-      let x = t.pushes n (eqb-false arm 17 q) in
-      rw (x.7, x.8) (push-stacks x.0 x.3 x.4 d n x.1 x.2 x.5 x.6))
+      let x = t.pushes (eqb-false arm 17 q) in
+      rw (x.7, x.8) (push-stacks x.0 x.3 x.4 d x.1 x.2 x.5 x.6))
 
 -- what they rest on, at a turn of the loop
 pub can_stack : {cells code nums kinds nums' kinds' pile tags : List ℕ} {depth left beat pc low height : ℕ} → At cells code nums kinds depth left beat pc

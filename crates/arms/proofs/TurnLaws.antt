@@ -21,14 +21,16 @@ use Rattle.task.specs.declared.Fork.{Fork}
 use Rattle.task.specs.declared.Frame.{Frame}
 use Rattle.task.specs.declared.Active.{Active}
 use Rattle.task.specs.Choices.{chosen}
-use Rattle.task.specs.Effect.{stores, unknown, opcodes, effect_of}
+use Rattle.task.specs.Effect.{Effect, stores, unknown, opcodes, effect_of}
 use Rattle.task.specs.Step.{register, operand, active_of, step}
 use Rattle.task.specs.Execute.{handed, answered, executed}
 use Rattle.task.proofs.Executing.{step-executed}
-use Rattle.arms.specs.declared.Gone.{Gone}
-use Rattle.arms.specs.Registers.{registers_of, in_register, operand_by}
+use Rattle.arms.specs.declared.Course.{Course}
+use Rattle.arms.specs.declared.Course.TheVariants.{On, Off, Fault}
+use Rattle.arms.specs.declared.Registers.{Registers}
+use Rattle.arms.specs.Registers.{registers_in, in_register, operand_by}
 use Rattle.arms.specs.Code.{Plain, Decoded, Decodes}
-use Rattle.arms.specs.Arms.{active, context_of, Sets, SetsBy, Leads, Unready}
+use Rattle.arms.specs.Arms.{IfOff, active, context_of, Sets, SetsBy, Leads, Unready}
 use Rattle.arms.specs.Stacks.{Stacked}
 use Rattle.arms.specs.Turns.{frame_at, LeftOpcode, At, Turned}
 use Rattle.arms.proofs.SetLaws.{NoneOf}
@@ -207,85 +209,116 @@ module _ (cells : List ℕ) (words : List ℤ) (interval places depth pc beat le
     unfolding executed
     means forks span u = rw (operand_is (f forks span u) y k h.known h.its_kind, h.its_opcode, h.its_operand, same_s, counter_is)
 
+    next-placed : (pc + 4) / 4 ≡ pc / 4 + 1
+    next-placed = omega (arith, aligned)
+
+    abbrev effect : Active → List Fork → Effect
+    effect t o = effect_of (program_of cells) words (chosen interval) (in_register s before) (operand_by k v before) t o (get_or opcodes n unknown)
+
+    set-step : (after : List Register) (r : ℕ) → r ≡ y.r → (forks : List Fork) (span : ℕ) (u : Stacked)
+        → (w : Value) × (effect a forks ≡ stores w) × (after ≡ set before r (record { value = w }))
+        → step (program_of cells) words (chosen interval) (f forks span u) ≡ one (frame_at places depth forks ((pc + 4) / 4) (beat - left) (span + 1) u after)
+    set-step after r same forks span u (w, is, now) =
+        step-executed (program_of cells) words (chosen interval) (f forks span u) ∙ rw (means forks span u, is, next-placed, now, same)
+
     -- it sets a register
-    pub turned_sets : (what : ℕ) (after : List Register) (r : ℕ) → r ≡ y.r → pc / 4 + 1 < instruction_count cells
-        → ((t : Active) (o : List Fork) → t.depth ≡ depth → Sets what r before after
-        (effect_of (program_of cells) words (chosen interval) (in_register s before) (operand_by k v before) t o (get_or opcodes n unknown)))
+    pub turned_sets : (what : Course) (after : List Register) (r : ℕ) → r ≡ y.r → pc / 4 + 1 < instruction_count cells
+        → ((t : Active) (o : List Fork) → t.depth ≡ depth → Sets what r before after (effect t o))
         → Turned cells words interval places depth pc beat left before (record { what = what; pc = pc + 4; beat = beat }) after
-    turned_sets what after r same inside e = record {
-      steps = λ t forks span u. go forks span u ((e a forks refl).did t);
-      stays = λ t. (
-        ((e a [] refl).failed t).2,
-        record {
-          faults_there = λ l forks span u. means forks span u ∙ ap (handed (program_of cells) (chosen interval) a) ((e a forks refl).failed t).1;
-          left_there = λ z. absurd (omega (arith, z, ((e a [] refl).failed t).0));
-        },
-      );
+    turned_sets On after r same inside e = record {
+      steps = λ forks span u. set-step after r same forks span u (e a forks refl).did;
+      stays = tt;
+      faults = tt;
       aligned = omega (arith, aligned);
-      inside = λ t. rw place inside;
+      inside = rw next-placed inside;
       counted = omega (arith, counts);
       beat_most = omega arith;
     }
-      where
-        place : (pc + 4) / 4 ≡ pc / 4 + 1
-        place = omega arith
-
-        go : (forks : List Fork) (span : ℕ) (u : Stacked)
-            → (w : Value) × (effect_of (program_of cells) words (chosen interval) (in_register s before) (operand_by k v before) a forks
-            (get_or opcodes n unknown) ≡ stores w)
-            × (after ≡ set before r (record { value = w }))
-            → step (program_of cells) words (chosen interval) (f forks span u) ≡ one (frame_at places depth forks ((pc + 4) / 4) (beat - left) (span + 1) u after)
-        go forks span u (w, is, now) =
-            step-executed (program_of cells) words (chosen interval) (f forks span u) ∙ rw (means forks span u, is, place, now, same)
+    turned_sets Off after r same inside e = absurd (e a [] refl).not_off
+    turned_sets (Fault n) after r same inside e =
+        let here = (e a [] refl).failed in
+        record {
+          steps = tt;
+          stays = tt;
+          faults = (
+            here.0,
+            here.2,
+            record {
+              faults_there = λ l forks span u. means forks span u ∙ ap (handed (program_of cells) (chosen interval) a) (e a forks refl).failed.1;
+              left_there = λ z. absurd (omega (arith, z, here.0));
+            },
+          );
+          aligned = omega (arith, aligned);
+          inside = tt;
+          counted = omega (arith, counts);
+          beat_most = omega arith;
+        }
 
     -- it goes elsewhere
-    pub turned_leads : (g : Gone)
-        → ((o : List Fork) → Leads cells beat left g
+    pub turned_leads : (what : Course) (pc' beat' : ℕ)
+        → ((o : List Fork) → Leads cells beat left (record { what = what; pc = pc'; beat = beat' })
         (answered (program_of cells) words (chosen interval) (in_register s before) (operand_by k v before) a o (get_or opcodes n unknown)))
-        → Turned cells words interval places depth pc beat left before g before
-    turned_leads g e = record {
-      steps = λ t forks span u. step-executed (program_of cells) words (chosen interval) (f forks span u) ∙ rw (means forks span u, (e forks).leads t);
-      stays = λ t. (
-        refl,
-        record {
-          faults_there = λ l forks span u. means forks span u ∙ ((e forks).failed t).1;
-          left_there = λ z. absurd (omega (arith, z, ((e []).failed t).0));
-        },
-      );
+        → Turned cells words interval places depth pc beat left before (record { what = what; pc = pc'; beat = beat' }) before
+    turned_leads On pc' beat' e = record {
+      steps = λ forks span u. step-executed (program_of cells) words (chosen interval) (f forks span u) ∙ rw (means forks span u, (e forks).leads);
+      stays = tt;
+      faults = tt;
       aligned = (e []).aligned;
       inside = (e []).inside;
       counted = (e []).counted;
       beat_most = (e []).beat_most;
     }
+    turned_leads Off pc' beat' e = absurd (e []).not_off
+    turned_leads (Fault n) pc' beat' e = record {
+      steps = tt;
+      stays = tt;
+      faults = (
+        (e []).failed.0,
+        refl,
+        record {
+          faults_there = λ l forks span u. means forks span u ∙ (e forks).failed.1;
+          left_there = λ z. absurd (omega (arith, z, (e []).failed.0));
+        },
+      );
+      aligned = (e []).aligned;
+      inside = tt;
+      counted = (e []).counted;
+      beat_most = (e []).beat_most;
+    }
 
-  -- it does not go on by itself
-  turned_off : (what : ℕ) (after : List Register) → what ≡ 1 → after ≡ before → LeftOpcode y.opcode
-      → Turned cells words interval places depth pc beat left before (record { what = what; pc = pc + 4; beat = beat }) after
-  turned_off what after q e l = record {
-    steps = λ t. absurd (omega (arith, t, q));
-    stays = λ t. (e, record { faults_there = λ h. absurd (omega (arith, h, q)); left_there = λ z. l });
+  -- it is left to others
+  turned_off : (after : List Register) → after ≡ before → LeftOpcode y.opcode
+      → Turned cells words interval places depth pc beat left before (record { what = Off; pc = pc + 4; beat = beat }) after
+  turned_off after e l = record {
+    steps = tt;
+    stays = (e, record { faults_there = λ h. absurd (omega (arith, h)); left_there = λ z. l });
+    faults = tt;
     aligned = omega (arith, aligned);
-    inside = λ t. absurd (omega (arith, t, q));
+    inside = tt;
     counted = omega (arith, counts);
     beat_most = omega arith;
   }
 
 -- all the arms that set a register, and what has no arm
-pub turned_set : (cells : List ℕ) (words : List ℤ) (interval places depth : ℕ) {pc : ℕ} (beat left : ℕ) (nums kinds nums' kinds' : List ℕ)
-    {arm r s v : ℕ} → program_no cells ≡ 0 → pc ≡ 4 * (pc / 4) → pc / 4 < instruction_count cells → left < beat → Fetched cells pc arm r s v → NoneOf arm jumping
-    → (what : ℕ) → SetsBy (context_of cells words interval depth) 1 arm what r s v nums kinds nums' kinds'
-    → Turned cells words interval places depth pc beat left (registers_of nums kinds) (record { what = what; pc = pc + 4; beat = beat }) (registers_of nums' kinds')
-turned_set cells words interval places depth {pc} beat left nums kinds nums' kinds' {s = s} {v = v} accept place inside counts d rest what h = by-test (eqb what 1)
-    (λ t.
-    let q = eqb-true what 1 t in
-    turned_off cells words interval places depth pc beat left (registers_of nums kinds) place counts what (registers_of nums' kinds') q (h.untouched q)
-    (left_at d accept inside (h.others q) rest))
-    (λ t.
-    let q = eqb-false what 1 t in
-    let low = h.carried q in
-    let c = (d.decoded.armed.common low.0).0 in
-    let i : Instruction = instruction_of cells (pc / 4) in
-    turned_sets cells words interval places depth pc beat left (registers_of nums kinds) place counts i.opcode i.kind s v (named_so d low.0)
-    d.decoded.same_s what (registers_of nums' kinds') _ d.decoded.same_r
-    (next_below d i.opcode (omega (arith, low.1, c, d.opcode_most)) refl)
-    (h.as_table q i.opcode i.kind d.opcode_most c).1)
+module _ (cells : List ℕ) (words : List ℤ) (interval places depth : ℕ) {pc : ℕ} (beat left : ℕ) (before after : Registers) {arm r s v : ℕ} (accept : program_no cells ≡ 0) (place : pc ≡ 4 * (pc / 4)) (inside : pc / 4 < instruction_count cells) (counts : left < beat)
+    (d : Fetched cells pc arm r s v) (rest : NoneOf arm jumping) where
+  abbrev TurnedBy : Course → Type 0
+  TurnedBy what =
+      Turned cells words interval places depth pc beat left (registers_in before) (record { what = what; pc = pc + 4; beat = beat }) (registers_in after)
+
+  turned-carried : (what : Course) → IfOff what ⊥ → SetsBy (context_of cells words interval depth) 1 arm what r s v before after → TurnedBy what
+  turned-carried what q h =
+      let low = h.carried q in
+      let c = (d.decoded.armed.common low.0).0 in
+      let i : Instruction = instruction_of cells (pc / 4) in
+      turned_sets cells words interval places depth pc beat left (registers_in before) place counts i.opcode i.kind s v (named_so d low.0)
+      d.decoded.same_s what (registers_in after) _ d.decoded.same_r
+      (next_below d i.opcode (omega (arith, low.1, c, d.opcode_most)) refl)
+      (h.as_table q i.opcode i.kind d.opcode_most c).1
+
+  pub turned_set : (what : Course) → SetsBy (context_of cells words interval depth) 1 arm what r s v before after → TurnedBy what
+  turned_set On h = turned-carried On tt h
+  turned_set Off h =
+      turned_off cells words interval places depth pc beat left (registers_in before) place counts (registers_in after) h.untouched
+      (left_at d accept inside h.others rest)
+  turned_set (Fault n) h = turned-carried (Fault n) tt h

@@ -1,6 +1,6 @@
 -- What an arm of the loop does, held against the table of instructions (`effect_of`). An arm answers 0 where it did, else the fault's number, and
 -- has then changed nothing.
-use Rattle.std.specs.Prelude.{◌≡◌, true, not, List, ℕ, ◌+◌, ◌*◌, ◌-◌, ◌/◌, ◌%◌, ◌<◌, ◌≤◌, ℤ, pos, length, get_or, set}
+use Rattle.std.specs.Prelude.{◌≡◌, true, not, List, ℕ, ◌+◌, ◌*◌, ◌-◌, ◌/◌, ◌%◌, ◌<◌, ◌≤◌, ℤ, pos, length, get_or, set, Option, MatchOption, ⊤}
 use Rattle.std.specs.Int.{w64}
 use Rattle.std.proofs.Common.{to_z}
 use Rattle.image.specs.Program.{Program}
@@ -18,8 +18,11 @@ use Rattle.task.specs.Choices.{Choices, chosen}
 use Rattle.task.specs.Effect.{Effect, stores, faults, asked, integer, Op, unknown, opcodes, effect_of}
 use Rattle.task.specs.Formed.{value_fits}
 use Rattle.task.specs.Execute.{going, ending, answered}
+use Rattle.arms.specs.declared.Course.{Course}
+use Rattle.arms.specs.declared.Course.TheVariants.{On, Off, Fault}
 use Rattle.arms.specs.declared.Gone.{Gone}
-use Rattle.arms.specs.Registers.{registers_of, Sized, in_register, operand_by}
+use Rattle.arms.specs.declared.Registers.{Registers}
+use Rattle.arms.specs.Registers.{registers_of, registers_in, Sized, in_register, operand_by}
 
 -- what an instruction looks at of a task with these numbers
 abbrev pub active : ℕ → ℕ → ℕ → ℕ → Active
@@ -39,32 +42,52 @@ context_with program words choices depth = record { program = program; words = w
 abbrev pub context_of : List ℕ → List ℤ → ℕ → ℕ → Context
 context_of cells words interval depth = context_with (program_of cells) words (chosen interval) depth
 
+-- ---- What an instruction comes to
+
+-- P, where the task goes on by itself
+abbrev pub IfOn : Course → Type 0 → Type 0
+IfOn On P = P
+IfOn Off P = ⊤
+IfOn (Fault n) P = ⊤
+
+-- P, where the instruction is left to others
+abbrev pub IfOff : Course → Type 0 → Type 0
+IfOff On P = ⊤
+IfOff Off P = P
+IfOff (Fault n) P = ⊤
+
+-- P of the fault's number, where there is one
+abbrev pub IfFault : Course → (ℕ → Type 0) → Type 0
+IfFault On P = ⊤
+IfFault Off P = ⊤
+IfFault (Fault n) P = P n
+
 -- ---- It sets a register
 
--- it did (0), as the effect e says; or e is a fault with this number, and it left all as it was
-pub record Sets (what r : ℕ) (before after : List Register) (e : Effect) : Type 0 where
-  pub did : what ≡ 0 → (w : Value) × (e ≡ stores w) × (after ≡ set before r (record { value = w }))
-  pub failed : (what ≡ 0 → ⊥) → (2 ≤ what) × (e ≡ faults what) × (after ≡ before)
+-- it did, as the effect e says; or e is a fault with this number, and it left all as it was
+pub record Sets (what : Course) (r : ℕ) (before after : List Register) (e : Effect) : Type 0 where
+  pub did : IfOn what ((w : Value) × (e ≡ stores w) × (after ≡ set before r (record { value = w })))
+  pub failed : IfFault what (λ n. (2 ≤ n) × (e ≡ faults n) × (after ≡ before))
+  pub not_off : IfOff what ⊥
 
 -- of two integers, as in the rows 2 to 8 of the table
 abbrev pub computing : (ℤ → ℤ → Effect) → Value → Value → Effect
 computing after s v = integer s 31 λ a. integer v 31 λ b. after a b
 
--- where u is what an operation gives of the bits a and b: as it says of two operands that have these bits
-abbrev pub SetsComputed : ℕ → ℕ → ℕ → List ℕ → List ℕ → List ℕ → List ℕ → ℕ → ℕ → (List Register → Value) → (List Register → Value) → Type 0
-SetsComputed what r u nums kinds nums' kinds' a b s v =
-    Sized nums' kinds' × ((op : ℤ → ℤ → Value) → Int (to_z w64 u) ≡ op (to_z w64 a) (to_z w64 b) → Sets what r (registers_of nums kinds) (registers_of nums' kinds')
-    (computing (λ m n. stores (op m n)) (s (registers_of nums kinds)) (v (registers_of nums kinds))))
+-- of the integers with the bits a and b it stores the one with these bits; or there are none, since the divisor b is 0 (32)
+abbrev pub Computes : (ℤ → ℤ → Effect) → ℕ → ℕ → Option ℕ → Type 0
+Computes after a b bits =
+    MatchOption bits (after (to_z w64 a) (to_z w64 b) ≡ faults 32) (λ u. after (to_z w64 a) (to_z w64 b) ≡ stores (Int (to_z w64 u)))
 
 -- the rows 5 and 6, by what they give of two integers, the second not 0
 abbrev pub dividing : (ℤ → ℤ → ℤ) → ℤ → ℤ → Effect
 dividing op a b = asked (not (eq_z b (pos 0))) 32 (stores (Int (op a b)))
 
 -- as the table says of an instruction with these operands, whatever the task's other numbers and its open forks
-abbrev pub SetsAs : Context → Op → ℕ → ℕ → List ℕ → List ℕ → List ℕ → List ℕ → (List Register → Value) → (List Register → Value) → Type 0
-SetsAs x op what r nums kinds nums' kinds' s v =
-    Sized nums' kinds' × ((t : Active) (o : List Fork) → t.depth ≡ x.depth → Sets what r (registers_of nums kinds) (registers_of nums' kinds')
-    (effect_of x.program x.words x.choices (s (registers_of nums kinds)) (v (registers_of nums kinds)) t o op))
+abbrev pub SetsAs : Context → Op → Course → ℕ → Registers → Registers → (List Register → Value) → (List Register → Value) → Type 0
+SetsAs x op what r before after s v =
+    Sized after.nums after.kinds × ((t : Active) (o : List Fork) → t.depth ≡ x.depth → Sets what r (registers_in before) (registers_in after)
+    (effect_of x.program x.words x.choices (s (registers_in before)) (v (registers_in before)) t o op))
 
 -- what such an arm may rest on; the register r that it sets stands in the decoded code, after the arm
 pub record CanSet (cells code nums kinds : List ℕ) (depth pc arm s v : ℕ) : Type 0 where
@@ -78,26 +101,27 @@ pub record CanSet (cells code nums kinds : List ℕ) (depth pc arm s v : ℕ) : 
   pub values_fit : (i : ℕ) → value_fits (program_of cells) (in_register i (registers_of nums kinds)) ≡ true
   pub depth_most : depth ≤ 6
 
--- the arm of opcode n and operand kind k is n + 32 k: as the table says of that opcode; or it sets no register (1), and is left as it was.
+-- the arm of opcode n and operand kind k is n + 32 k: as the table says of that opcode; or it sets no register, and is left as it was.
 -- Of the kinds from `least` on, all that set one do
-pub record SetsBy (x : Context) (least arm what r s v : ℕ) (nums kinds nums' kinds' : List ℕ) : Type 0 where
-  pub still_sized : Sized nums' kinds'
-  pub carried : (what ≡ 1 → ⊥) → (arm < 128) × (arm % 32 < 13)
-  pub as_table : (what ≡ 1 → ⊥) → (n k : ℕ) → n ≤ 17 → arm ≡ n + 32 * k
-      → SetsAs x (get_or opcodes n unknown) what r nums kinds nums' kinds' (in_register s) (operand_by k v)
-  pub untouched : what ≡ 1 → registers_of nums' kinds' ≡ registers_of nums kinds
+pub record SetsBy (x : Context) (least arm : ℕ) (what : Course) (r s v : ℕ) (before after : Registers) : Type 0 where
+  pub still_sized : Sized after.nums after.kinds
+  pub carried : IfOff what ⊥ → (arm < 128) × (arm % 32 < 13)
+  pub as_table : IfOff what ⊥ → (n k : ℕ) → n ≤ 17 → arm ≡ n + 32 * k
+      → SetsAs x (get_or opcodes n unknown) what r before after (in_register s) (operand_by k v)
+  pub untouched : IfOff what (registers_in after ≡ registers_in before)
   -- the opcodes 10 and 12 to 17
-  pub others : what ≡ 1 → (n k : ℕ) → 1 ≤ n → n ≤ 17 → least ≤ k → k ≤ 3 → arm ≡ n + 32 * k → (10 ≤ n) × (n ≡ 11 → ⊥)
+  pub others : IfOff what ((n k : ℕ) → 1 ≤ n → n ≤ 17 → least ≤ k → k ≤ 3 → arm ≡ n + 32 * k → (10 ≤ n) × (n ≡ 11 → ⊥))
 
 -- ---- It goes elsewhere
 
--- to the place g .pc of the decoded code, with the difference of g.beat and left as its counter, as the instruction e says (0); or e is a
+-- to the place g.pc of the decoded code, with the difference of g.beat and left as its counter, as the instruction e says; or e is a
 -- fault with this number
 pub record Leads (cells : List ℕ) (most left : ℕ) (g : Gone) (e : Executed) : Type 0 where
-  pub leads : g.what ≡ 0 → e ≡ going (g.pc / 4) (g.beat - left)
-  pub failed : (g.what ≡ 0 → ⊥) → (2 ≤ g.what) × (e ≡ ending Faults g.what)
+  pub leads : IfOn g.what (e ≡ going (g.pc / 4) (g.beat - left))
+  pub failed : IfFault g.what (λ n. (2 ≤ n) × (e ≡ ending Faults n))
+  pub not_off : IfOff g.what ⊥
   pub aligned : g.pc ≡ 4 * (g.pc / 4)
-  pub inside : g.what ≡ 0 → g.pc / 4 < instruction_count cells
+  pub inside : IfOn g.what (g.pc / 4 < instruction_count cells)
   pub counted : left ≤ g.beat
   pub beat_most : g.beat ≤ most
 

@@ -6,6 +6,7 @@ use Rattle.task.specs.declared.Value.{Value}
 use Rattle.task.specs.declared.Value.TheVariants.{Int, Label, Record}
 use Rattle.task.specs.declared.Register.{Register}
 use Rattle.task.specs.Frames.{zero_register}
+use Rattle.arms.specs.declared.Registers.{Registers}
 
 -- kind 0: an integer's bits; 1: a label; 2: a record, 2 ^ 32 times the continuation and the depth
 abbrev pub value_of : ℕ → ℕ → Value
@@ -17,6 +18,10 @@ unfoldable pub registers_of : List ℕ → List ℕ → List Register
 registers_of [] kinds = []
 registers_of (u ∷ nums) [] = []
 registers_of (u ∷ nums) (k ∷ kinds) = record { value = value_of k u } ∷ registers_of nums kinds
+
+-- those of a task
+abbrev pub registers_in : Registers → List Register
+registers_in r = registers_of r.nums r.kinds
 
 -- both rows have 16
 abbrev pub Sized : List ℕ → List ℕ → Type 0

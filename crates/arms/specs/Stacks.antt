@@ -1,5 +1,5 @@
 -- A task's stack in two rows, the pile: of each entry its 64 bits and, in `tags`, its kind, as of a register. And what a push and a pop do to them.
-use Rattle.std.specs.Prelude.{◌≡◌, List, [], ◌∷◌, ℕ, zero, suc, ◌+◌, ◌*◌, ◌-◌, ◌<◌, ◌≤◌, length, get_or, set}
+use Rattle.std.specs.Prelude.{◌≡◌, List, [], ◌∷◌, ℕ, zero, suc, ◌+◌, ◌*◌, ◌-◌, ◌<◌, ◌≤◌, length, get_or, set, Option, Some, IfSome, IfNone}
 use Rattle.task.specs.declared.Register.{Register}
 use Rattle.task.specs.Frames.{zero_register, stack_length}
 use Rattle.arms.specs.Registers.{value_of, registers_of, Sized, operand_by}
@@ -31,18 +31,18 @@ pub record SameBelow (low : ℕ) (pile tags pile' tags' : List ℕ) : Type 0 whe
   pub same_pile : (i : ℕ) → i < low → get_or pile' i 0 ≡ get_or pile i 0
   pub same_tags : (i : ℕ) → i < low → get_or tags' i 0 ≡ get_or tags i 0
 
--- ---- A push and a pop: the height after it, or 33, where there is no place or no value, and the rows are as they were
+-- ---- A push and a pop: the height after it, or nothing, where there is no place or no value, and the rows are as they were
 
 -- the bits u of kind k are stored above the others
-pub record PushedOn (low height u k : ℕ) (pile tags : List ℕ) (h : ℕ) (pile' tags' : List ℕ) : Type 0 where
-  pub no_place : h ≡ 33 → (32 ≤ height) × (pile' ≡ pile) × (tags' ≡ tags)
-  pub its_has_place : (h ≡ 33 → ⊥) → (height < 32) × (h ≡ height + 1) × (pile' ≡ set pile (low + height) u) × (tags' ≡ set tags (low + height) k)
+pub record PushedOn (low height u k : ℕ) (pile tags : List ℕ) (h : Option ℕ) (pile' tags' : List ℕ) : Type 0 where
+  pub no_place : IfNone h ((32 ≤ height) × (pile' ≡ pile) × (tags' ≡ tags))
+  pub its_has_place : IfSome h (λ t. (height < 32) × (t ≡ height + 1) × (pile' ≡ set pile (low + height) u) × (tags' ≡ set tags (low + height) k))
 
 -- the last one goes to r
-pub record PoppedTo (r low height : ℕ) (nums kinds pile tags : List ℕ) (h : ℕ) (nums' kinds' : List ℕ) : Type 0 where
-  pub no_value : h ≡ 33 → (height ≡ 0) × (nums' ≡ nums) × (kinds' ≡ kinds)
-  pub has_value : (h ≡ 33 → ⊥) → (0 < height) × (h ≡ height - 1)
-      × (nums' ≡ set nums r (get_or pile (low + (height - 1)) 0)) × (kinds' ≡ set kinds r (get_or tags (low + (height - 1)) 0))
+pub record PoppedTo (r low height : ℕ) (nums kinds pile tags : List ℕ) (h : Option ℕ) (nums' kinds' : List ℕ) : Type 0 where
+  pub no_value : IfNone h ((height ≡ 0) × (nums' ≡ nums) × (kinds' ≡ kinds))
+  pub has_value : IfSome h (λ t. (0 < height) × (t ≡ height - 1)
+      × (nums' ≡ set nums r (get_or pile (low + (height - 1)) 0)) × (kinds' ≡ set kinds r (get_or tags (low + (height - 1)) 0)))
 
 -- what they may rest on; r and v stand in the decoded code, after the arm
 pub record CanStack (code nums kinds pile tags : List ℕ) (low height pc : ℕ) : Type 0 where
@@ -53,9 +53,9 @@ pub record CanStack (code nums kinds pile tags : List ℕ) (low height pc : ℕ)
   pub r_small : get_or code (pc + 1) 0 < 16
   pub register_operand : get_or code pc 0 ≡ 48 → get_or code (pc + 3) 0 < 16
 
--- by the arm: 17 pops to r, 16 + 32 k pushes the operand v of kind k; another does neither (33)
-pub record StackTurned (arm r v low height : ℕ) (nums kinds pile tags : List ℕ) (h : ℕ) (nums' kinds' pile' tags' : List ℕ) : Type 0 where
-  pub pops : (h ≡ 33 → ⊥) → arm ≡ 17 → PoppedTo r low height nums kinds pile tags h nums' kinds' × (pile' ≡ pile) × (tags' ≡ tags)
-  pub pushes : (h ≡ 33 → ⊥) → (arm ≡ 17 → ⊥) → (k : ℕ) × (k ≤ 3) × (arm ≡ 16 + 32 * k) × (u : ℕ) × (w : ℕ)
-      × (value_of w u ≡ operand_by k v (registers_of nums kinds)) × PushedOn low height u w pile tags h pile' tags' × (nums' ≡ nums) × (kinds' ≡ kinds)
-  pub untouched : h ≡ 33 → (nums' ≡ nums) × (kinds' ≡ kinds) × (pile' ≡ pile) × (tags' ≡ tags)
+-- by the arm: 17 pops to r, 16 + 32 k pushes the operand v of kind k; another does neither
+pub record StackTurned (arm r v low height : ℕ) (nums kinds pile tags : List ℕ) (h : Option ℕ) (nums' kinds' pile' tags' : List ℕ) : Type 0 where
+  pub pops : IfSome h (λ t. arm ≡ 17 → PoppedTo r low height nums kinds pile tags (Some t) nums' kinds' × (pile' ≡ pile) × (tags' ≡ tags))
+  pub pushes : IfSome h (λ t. (arm ≡ 17 → ⊥) → (k : ℕ) × (k ≤ 3) × (arm ≡ 16 + 32 * k) × (u : ℕ) × (w : ℕ)
+      × (value_of w u ≡ operand_by k v (registers_of nums kinds)) × PushedOn low height u w pile tags (Some t) pile' tags' × (nums' ≡ nums) × (kinds' ≡ kinds))
+  pub untouched : IfNone h ((nums' ≡ nums) × (kinds' ≡ kinds) × (pile' ≡ pile) × (tags' ≡ tags))

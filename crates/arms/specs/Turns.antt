@@ -20,6 +20,7 @@ use Rattle.task.specs.Execute.{ending, executed}
 use Rattle.arms.specs.declared.Gone.{Gone}
 use Rattle.arms.specs.declared.Stopped.{Stopped}
 use Rattle.arms.specs.Registers.{registers_of, Sized, in_register}
+use Rattle.arms.specs.Arms.{IfOn, IfOff, IfFault}
 use Rattle.arms.specs.Stacks.{stack_of, Lies, SameBelow}
 use Rattle.arms.specs.Code.{Decodes}
 -- for the crates above, too
@@ -93,12 +94,13 @@ module _ (cells : List ℕ) (words : List ℤ) (interval places depth : ℕ) whe
 
   -- one instruction, after which `left` is left
   pub record Turned (pc beat left : ℕ) (before : List Register) (g : Gone) (after : List Register) : Type 0 where
-    pub steps : g.what ≡ 0 → (forks : List Fork) (span : ℕ) (u : Stacked)
+    pub steps : IfOn g.what ((forks : List Fork) (span : ℕ) (u : Stacked)
         → step (program_of cells) words (chosen interval) (frame_at places depth forks (pc / 4) (beat - (left + 1)) span u before)
-        ≡ one (frame_at places depth forks (g.pc / 4) (g.beat - left) (span + 1) u after)
-    pub stays : (g.what ≡ 0 → ⊥) → (after ≡ before) × Ends g.what (pc / 4) (beat - (left + 1)) before
+        ≡ one (frame_at places depth forks (g.pc / 4) (g.beat - left) (span + 1) u after))
+    pub stays : IfOff g.what ((after ≡ before) × Ends 1 (pc / 4) (beat - (left + 1)) before)
+    pub faults : IfFault g.what (λ n. (2 ≤ n) × (after ≡ before) × Ends n (pc / 4) (beat - (left + 1)) before)
     pub aligned : g.pc ≡ 4 * (g.pc / 4)
-    pub inside : g.what ≡ 0 → g.pc / 4 < instruction_count cells
+    pub inside : IfOn g.what (g.pc / 4 < instruction_count cells)
     pub counted : left ≤ g.beat
     pub beat_most : g.beat ≤ beat
 

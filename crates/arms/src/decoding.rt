@@ -11,13 +11,7 @@ use image::{Instruction, layout};
 fn jumps_to_label(x: Instruction) -> bool
     ensures { result ≡ true → (x.kind ≡ 2) × ((x.opcode ≡ 10 → ⊥) → x.opcode ≡ 13) }
 {
-    if x.kind != 2 {
-        return false;
-    }
-    if x.opcode == 10 {
-        return true;
-    }
-    x.opcode == 13
+    x.kind == 2 && (x.opcode == 10 || x.opcode == 13)
 }
 
 // `decode_one` alone calls it, with an instruction of an accepted program. A block that is not promotion-ready is entered without a question, so
@@ -27,23 +21,19 @@ fn arm_of(cells: &[u64], x: Instruction) -> Arm
     ensures { Armed cells.now x result.number result.operand }
 {
     let number = x.opcode + 32 * x.kind;
-    if !jumps_to_label(x) {
-        return Arm {
-            number,
-            operand: x.operand,
-        };
+    if jumps_to_label(x) {
+        let b = x.operand as usize;
+        if layout::annotation_of(cells, b) != 1 {
+            let first = layout::first_of(cells, b);
+            return Arm {
+                number: 128 + number,
+                operand: 4 * first,
+            };
+        }
     }
-    let b = x.operand as usize;
-    if layout::annotation_of(cells, b) == 1 {
-        return Arm {
-            number,
-            operand: x.operand,
-        };
-    }
-    let first = layout::first_of(cells, b);
     Arm {
-        number: 128 + number,
-        operand: 4 * first,
+        number,
+        operand: x.operand,
     }
 }
 
@@ -67,9 +57,7 @@ pub fn decode(cells: &[u64], code: &mut [u64])
     ensures { Decodes cells.now code.new }
 {
     let n = layout::instruction_count(cells) as usize;
-    let mut i = 0usize;
-    while i < n {
+    for i in 0..n {
         decode_one(cells, i, code);
-        i += 1;
     }
 }

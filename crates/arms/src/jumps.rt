@@ -10,151 +10,145 @@ ghost use Rattle.task.specs.Effect.{if_jump, jump};
 ghost use Rattle.task.specs.Formed.{value_fits};
 ghost use Rattle.task.specs.Step.{promotes};
 ghost use Rattle.task.specs.Execute.{entering};
-ghost use Rattle.arms.specs.Registers.{Sized, value_of, registers_of, in_register};
+ghost use Rattle.arms.specs.Registers.{value_of, registers_in, in_register};
 ghost use Rattle.arms.specs.Arms.{active, Leads, LeadsAs, Unready};
 
-use crate::Gone;
+use crate::{Code, Course, Going, Gone, Registers};
 use image::layout;
 
 // Whether control goes to the handler of block b instead.
+#[tactic(auto, unfolding(task::specs::Step::promotes))]
 fn is_promoted(cells: &[u64], interval: u64, b: usize, counter: u64, places: u64) -> bool
     requires { (program_no cells.now ≡ 0) × (b < block_count cells.now) }
     ensures { result ≡ promotes (program_of cells.now) (chosen interval) b counter places }
 {
-    if layout::annotation_of(cells, b) != 1 {
-        return false;
-    }
-    if interval == 0 {
-        return false;
-    }
-    if counter < interval {
-        return false;
-    }
-    2 <= places
+    layout::annotation_of(cells, b) == 1 && interval != 0 && interval <= counter && 2 <= places
 }
 
 // Entering block b. At a promotion the counter becomes 0: the beat is what is left.
-pub fn enter(cells: &[u64], interval: u64, places: u64, left: u64, beat: u64, b: usize) -> Gone
-    requires { (program_no cells.now ≡ 0) × (b < block_count cells.now) × (left ≤ beat) }
-    ensures { (i depth : ℕ) → Leads cells.now beat left result
-        (entering (program_of cells.now) (chosen interval) b (active places i (beat - left) depth)) }
+pub fn enter(code: &Code, task: Going, b: usize) -> Gone
+    requires { (program_no code.now.cells.now ≡ 0) × (b < block_count code.now.cells.now) × (task.left ≤ task.beat) }
+    ensures { (i depth : ℕ) → Leads code.now.cells.now task.beat task.left result
+        (entering (program_of code.now.cells.now) (chosen code.now.interval) b (active task.places i (task.beat - task.left) depth)) }
 {
-    if is_promoted(cells, interval, b, beat - left, places) {
-        let handler = layout::label_of(cells, b) as usize;
-        let first = layout::first_of(cells, handler) as usize;
+    if is_promoted(
+        code.cells,
+        code.interval,
+        b,
+        task.beat - task.left,
+        task.places,
+    ) {
+        let handler = layout::label_of(code.cells, b) as usize;
+        let first = layout::first_of(code.cells, handler) as usize;
         return Gone {
-            what: 0,
+            what: Course::On,
             pc: 4 * first,
-            beat: left,
+            beat: task.left,
         };
     }
-    let first = layout::first_of(cells, b) as usize;
+    let first = layout::first_of(code.cells, b) as usize;
     Gone {
-        what: 0,
+        what: Course::On,
         pc: 4 * first,
-        beat,
+        beat: task.beat,
     }
 }
 
 // Jump to the label in a register.
-pub fn jump_register(
-    cells: &[u64],
-    nums: &[u64],
-    kinds: &[u8],
-    interval: u64,
-    places: u64,
-    left: u64,
-    beat: u64,
-    pc: usize,
-    v: usize,
-) -> Gone
-    requires { (program_no cells.now ≡ 0) × (left ≤ beat) × Sized nums.now kinds.now × (v < 16) × (pc ≡ 4 * (pc / 4))
-        × (value_fits (program_of cells.now) (in_register v (registers_of nums.now kinds.now)) ≡ true) }
-    ensures { (s : Value) → LeadsAs cells.now interval jump places pc beat left result s (in_register v (registers_of nums.now kinds.now)) }
+pub fn jump_register(code: &Code, registers: &Registers, task: Going, v: usize) -> Gone
+    requires { (program_no code.now.cells.now ≡ 0) × (task.left ≤ task.beat) × (v < 16) × (task.pc ≡ 4 * (task.pc / 4))
+        × (value_fits (program_of code.now.cells.now) (in_register v (registers_in registers.now)) ≡ true) }
+    ensures { (s : Value) → LeadsAs code.now.cells.now code.now.interval jump task.places task.pc task.beat task.left result s
+        (in_register v (registers_in registers.now)) }
 {
-    if kinds[v] != 1 {
-        return Gone { what: 34, pc, beat };
+    if registers.kinds[v] != 1 {
+        return Gone {
+            what: Course::Fault(34),
+            pc: task.pc,
+            beat: task.beat,
+        };
     }
-    enter(cells, interval, places, left, beat, nums[v] as usize)
+    enter(code, task, registers.nums[v] as usize)
 }
 
 // If-jump to a value of this kind with these bits, which it looks at only when it jumps.
 pub fn branch_to(
-    cells: &[u64],
-    nums: &[u64],
-    kinds: &[u8],
-    interval: u64,
-    places: u64,
-    left: u64,
-    beat: u64,
+    code: &Code,
+    registers: &Registers,
+    task: Going,
     s: usize,
-    pc: usize,
     kind: u8,
     num: u64,
 ) -> Gone
-    requires { (program_no cells.now ≡ 0) × (value_fits (program_of cells.now) (value_of kind num) ≡ true) × (left ≤ beat) × Sized nums.now kinds.now × (s < 16)
-        × (pc ≡ 4 * (pc / 4)) × (pc / 4 + 1 < instruction_count cells.now) }
-    ensures { LeadsAs cells.now interval if_jump places pc beat left result (in_register s (registers_of nums.now kinds.now)) (value_of kind num) }
+    requires { (program_no code.now.cells.now ≡ 0) × (value_fits (program_of code.now.cells.now) (value_of kind num) ≡ true) × (task.left ≤ task.beat)
+        × (s < 16) × (task.pc ≡ 4 * (task.pc / 4)) × (task.pc / 4 + 1 < instruction_count code.now.cells.now) }
+    ensures { LeadsAs code.now.cells.now code.now.interval if_jump task.places task.pc task.beat task.left result
+        (in_register s (registers_in registers.now)) (value_of kind num) }
 {
-    if kinds[s] != 0 {
-        return Gone { what: 31, pc, beat };
-    }
-    if nums[s] != 0 {
+    if registers.kinds[s] != 0 {
         return Gone {
-            what: 0,
-            pc: pc + 4,
-            beat,
+            what: Course::Fault(31),
+            pc: task.pc,
+            beat: task.beat,
+        };
+    }
+    if registers.nums[s] != 0 {
+        return Gone {
+            what: Course::On,
+            pc: task.pc + 4,
+            beat: task.beat,
         };
     }
     if kind != 1 {
-        return Gone { what: 34, pc, beat };
+        return Gone {
+            what: Course::Fault(34),
+            pc: task.pc,
+            beat: task.beat,
+        };
     }
-    enter(cells, interval, places, left, beat, num as usize)
+    enter(code, task, num as usize)
 }
 
 // If-jump to the label in a register.
-pub fn branch_register(
-    cells: &[u64],
-    nums: &[u64],
-    kinds: &[u8],
-    interval: u64,
-    places: u64,
-    left: u64,
-    beat: u64,
-    s: usize,
-    pc: usize,
-    v: usize,
-) -> Gone
-    requires { (program_no cells.now ≡ 0) × (value_fits (program_of cells.now) (in_register v (registers_of nums.now kinds.now)) ≡ true) × (left ≤ beat)
-        × Sized nums.now kinds.now × (s < 16) × (pc ≡ 4 * (pc / 4)) × (pc / 4 + 1 < instruction_count cells.now) × (v < 16) }
-    ensures { LeadsAs cells.now interval if_jump places pc beat left result (in_register s (registers_of nums.now kinds.now))
-        (in_register v (registers_of nums.now kinds.now)) }
+pub fn branch_register(code: &Code, registers: &Registers, task: Going, s: usize, v: usize) -> Gone
+    requires { (program_no code.now.cells.now ≡ 0)
+        × (value_fits (program_of code.now.cells.now) (in_register v (registers_in registers.now)) ≡ true)
+        × (task.left ≤ task.beat) × (s < 16) × (task.pc ≡ 4 * (task.pc / 4)) × (task.pc / 4 + 1 < instruction_count code.now.cells.now) × (v < 16) }
+    ensures { LeadsAs code.now.cells.now code.now.interval if_jump task.places task.pc task.beat task.left result
+        (in_register s (registers_in registers.now)) (in_register v (registers_in registers.now)) }
 {
-    let kind = kinds[v];
-    let num = nums[v];
     branch_to(
-        cells, nums, kinds, interval, places, left, beat, s, pc, kind, num,
+        code,
+        registers,
+        task,
+        s,
+        registers.kinds[v],
+        registers.nums[v],
     )
 }
 
 // If-jump to a block that is not promotion-ready, whose first place in the decoded code is v.
-pub fn branch_plain(nums: &[u64], kinds: &[u8], beat: u64, s: usize, pc: usize, v: usize) -> Gone
-    requires { Sized nums.now kinds.now × (s < 16) × (pc < 4294967296) }
+pub fn branch_plain(registers: &Registers, beat: u64, s: usize, pc: usize, v: usize) -> Gone
+    requires { (s < 16) × (pc < 4294967296) }
     ensures { (cells : List ℕ) (interval places left b : ℕ) → Unready cells b v → pc ≡ 4 * (pc / 4) → pc / 4 + 1 < instruction_count cells
-        → left ≤ beat → LeadsAs cells interval if_jump places pc beat left result (in_register s (registers_of nums.now kinds.now)) (Label b) }
+        → left ≤ beat → LeadsAs cells interval if_jump places pc beat left result (in_register s (registers_in registers.now)) (Label b) }
 {
-    if kinds[s] != 0 {
-        return Gone { what: 31, pc, beat };
-    }
-    if nums[s] == 0 {
+    if registers.kinds[s] != 0 {
         return Gone {
-            what: 0,
+            what: Course::Fault(31),
+            pc,
+            beat,
+        };
+    }
+    if registers.nums[s] == 0 {
+        return Gone {
+            what: Course::On,
             pc: v,
             beat,
         };
     }
     Gone {
-        what: 0,
+        what: Course::On,
         pc: pc + 4,
         beat,
     }

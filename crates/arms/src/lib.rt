@@ -11,33 +11,77 @@ mod setting;
 pub mod stacking;
 pub mod turning;
 
-// A value's kind and its 64 bits.
+// The 16 registers in two rows: of each its 64 bits and its kind.
+#[derive(Clone, Copy, Debug, PartialEq, Eq)]
+pub struct Registers {
+    pub nums: [u64; 16],
+    pub kinds: [u8; 16],
+}
+
+// The stacks of a task and of the sides that are kept, in two rows likewise: seven stretches of 32.
+#[derive(Drop)]
+pub struct Pile {
+    pub nums: [u64; 224],
+    pub kinds: [u8; 224],
+}
+
+// What a job lends to its tasks: the program's cells and the program decoded, the call record and the interval of promotions.
 #[derive(Clone, Copy)]
+pub struct Code<'a> {
+    pub cells: &'a [u64],
+    pub code: &'a [u64],
+    pub words: &'a [i64],
+    pub interval: u64,
+}
+
+// Where a task stands that goes on by itself: its places and its depth, what is left of the budget, the number that its counter is the difference
+// of and what is left, its place in the decoded code; and where its stack begins on the pile, and how many values are on it.
+#[derive(Clone, Copy, Debug, PartialEq, Eq)]
+pub struct Going {
+    pub places: u64,
+    pub depth: u64,
+    pub left: u64,
+    pub beat: u64,
+    pub pc: usize,
+    pub low: u64,
+    pub height: u64,
+}
+
+// A value's kind and its 64 bits.
+#[derive(Clone, Copy, Debug, PartialEq, Eq)]
 pub struct Pair {
     pub kind: u8,
     pub num: u64,
 }
 
 // A decoded instruction's arm, and its operand.
-#[derive(Clone, Copy)]
+#[derive(Clone, Copy, Debug, PartialEq, Eq)]
 pub struct Arm {
     pub number: u64,
     pub operand: u64,
 }
 
-// What the task does: 0 it goes on by itself, 1 its instruction is fork, join, halt, push or pop, of which the loop carries out the last two where
-// there is a place or a value; any other number is that instruction's fault's. And where it goes: the place of the next instruction, and the number
-// that its counter is the difference of and what is left of the budget.
-#[derive(Clone, Copy)]
+// What an instruction comes to: the task goes on by itself; it is left to others, as fork, join, halt, push and pop, of which the loop carries out
+// the last two where there is a place or a value; or it faults with this number.
+#[derive(Clone, Copy, Debug, PartialEq, Eq)]
+pub enum Course {
+    On,
+    Off,
+    Fault(u8),
+}
+
+// That, and where the task goes: the place of the next instruction, and the number that its counter is the difference of and what is left of the
+// budget.
+#[derive(Clone, Copy, Debug, PartialEq, Eq)]
 pub struct Gone {
-    pub what: u8,
+    pub what: Course,
     pub pc: usize,
     pub beat: u64,
 }
 
-// Where a task stands before an instruction that it does not carry out by itself, and what that is, as in `Gone`; or, where it would go on, once
-// the budget is used up. And how many values are on its stack.
-#[derive(Clone, Copy)]
+// Where a task stands before an instruction that it does not carry out by itself: 1 for one that is left to others, else its fault's number; or,
+// where it would go on, once the budget is used up (0). And how many values are on its stack.
+#[derive(Clone, Copy, Debug, PartialEq, Eq)]
 pub struct Stopped {
     pub what: u8,
     pub pc: usize,

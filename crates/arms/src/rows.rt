@@ -1,18 +1,20 @@
 // Registers in two rows of numbers: one set, and values in and out of them.
 ghost use Rattle.std.specs.Prelude.{◌≡◌, ◌<◌, set};
-ghost use Rattle.arms.specs.Registers.{Sized, value_of};
+ghost use Rattle.arms.specs.Registers.{value_of};
 
-use crate::Pair;
+use crate::{Pair, Registers};
 use task::Value;
 
-// r := a value. Our crates alone call it, with a register of an accepted program.
-pub fn put(nums: &mut [u64], kinds: &mut [u8], r: usize, num: u64, kind: u8)
-    requires { Sized nums.old kinds.old × (r < 16) }
-    ensures nums_after { nums.new ≡ set nums.old r num }
-    ensures kinds_after { kinds.new ≡ set kinds.old r kind }
-{
-    nums[r] = num;
-    kinds[r] = kind;
+impl Registers {
+    // r := a value. Our crates alone call it, with a register of an accepted program.
+    pub fn put(&mut self, r: usize, num: u64, kind: u8)
+        requires { r < 16 }
+        ensures nums_after { self.new.nums ≡ set self.old.nums r num }
+        ensures kinds_after { self.new.kinds ≡ set self.old.kinds r kind }
+    {
+        self.nums[r] = num;
+        self.kinds[r] = kind;
+    }
 }
 
 // Our crates alone call it: a label of a well-formed task is a block's number.

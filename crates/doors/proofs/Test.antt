@@ -15,8 +15,8 @@ use Rattle.drive.specs.declared.State.{State}
 use Rattle.drive.specs.Issue.{slot_no}
 use Rattle.drive.specs.Passes.{run_from}
 use Rattle.drive.specs.Rounds.{rounds_from}
-use Rattle.machine.specs.declared.Outcome.{Outcome}
-use Rattle.machine.specs.declared.Dispatched.{Dispatched}
+use Rattle.machine.specs.Outcome.{Outcome}
+use Rattle.machine.specs.Dispatched.{Dispatched}
 use Rattle.machine.specs.Running.{outcome_by, outcome}
 use Rattle.machine.specs.Dispatching.{lanes_allowed, dispatched_by, dispatched}
 use Rattle.state.specs.State.{state_length}

@@ -10,11 +10,11 @@ use Rattle.agreement.specs.Plain.{Stepped, one, two}
 use Rattle.task.specs.declared.Frame.{Frame}
 use Rattle.task.specs.Step.{step}
 use Rattle.drive.specs.declared.State.{State}
-use Rattle.machine.specs.declared.Outcome.{Outcome}
+use Rattle.machine.specs.Outcome.{Outcome}
 use Rattle.machine.specs.Starting.{start_no}
 use Rattle.machine.specs.Picking.{pick_no}
 use Rattle.machine.specs.Running.{outcome}
-use Rattle.machine.specs.declared.Dispatched.{Dispatched}
+use Rattle.machine.specs.Dispatched.{Dispatched}
 use Rattle.machine.specs.Dispatching.{dispatched}
 use Rattle.job.specs.Dispatch.{dispatch_job_no}
 use Rattle.state.specs.State.{fault_number}

@@ -12,9 +12,10 @@ use Rattle.task.specs.Frames.{zero_register, stack_length, empty_stack}
 use Rattle.task.specs.Stretches.{reads}
 use Rattle.task.proofs.StretchLaws.{length-reads, reads_same, reads_all, reads_snoc}
 use Rattle.drive.specs.declared.State.{State}
+use Rattle.drive.specs.Moves.{with_arrays, dropping}
 use Rattle.drive.specs.Slots.{at}
 use Rattle.drive.proofs.SlotLaws.{whole}
-use Rattle.drive.proofs.InPlace.{sets-after, with_arrays, entry_at}
+use Rattle.drive.proofs.InPlace.{sets-after, entry_at}
 
 module _ {A : Type 0} (d : A) where
   sets_snoc : (vs l : List A) (b : ℕ) (v : A) → set (sets l b vs) (b + length vs) v ≡ sets l b (vs ++ (v ∷ []))
@@ -42,14 +43,6 @@ module _ {A : Type 0} (d : A) where
   pub copied_all : (l vs : List A) → length l ≡ length vs → sets l 0 vs ≡ vs
   copied_all l vs e =
       sym (reads_all d (sets l 0 vs)) ∙ ap (reads d (sets l 0 vs) 0) (length-sets l 0 vs ∙ e) ∙ reads_same d vs l 0 (omega arith)
-
--- i of a frame's registers put at slot k
-abbrev pub filling : State → ℕ → List Register → ℕ → State
-filling m k registers i = with_arrays m (sets m.bank (16 * k) (reads zero_register registers 0 i)) m.stacks m.tasks
-
--- of slot k's first n values on its stack those from the one numbered `left` on dropped
-abbrev pub dropping : State → ℕ → ℕ → ℕ → State
-dropping m k n left = with_arrays m m.bank (sets m.stacks (32 * k + left) (replicate (n - left) zero_register)) m.tasks
 
 -- ---- a stack's values dropped
 
@@ -87,9 +80,6 @@ module _ (m : State) (k n : ℕ) where
       ∙ ap (λ (x : ℕ). with_arrays m m.bank (set (sets m.stacks x zs) b zero_register) m.tasks) behind
       ∙ ap (λ (l : List Register). with_arrays m m.bank l m.tasks) (sym (sets-after zs m.stacks (suc b) b zero_register (omega arith)))
       ∙ ap (λ (x : ℕ). with_arrays m m.bank (sets m.stacks b (replicate x zero_register)) m.tasks) (sym more)
-
-  pub drop-ends : {m' : State} (left : ℕ) → left ≤ 0 → m' ≡ dropping m k n left → m' ≡ dropping m k n 0
-  drop-ends left none is = let e : left ≡ 0 = omega arith in is ∙ ap (dropping m k n) e
 
   -- all that a stack has: it is empty
   pub drop_all : {left : ℕ} → left ≤ 0 → n ≤ stack_length → ((i : ℕ) → n ≤ i → i < stack_length → get_or (at m k).stack i zero_register ≡ zero_register)

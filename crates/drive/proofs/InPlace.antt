@@ -14,6 +14,8 @@ use Rattle.task.specs.Step.{register, with_task}
 use Rattle.task.specs.Stretches.{reads}
 use Rattle.task.proofs.StretchLaws.{length-reads, get_d_reads}
 use Rattle.drive.specs.declared.State.{State}
+use Rattle.drive.specs.Writes.{with_task_at}
+use Rattle.drive.specs.Moves.{with_arrays}
 use Rattle.drive.specs.Slots.{at, put}
 use Rattle.drive.proofs.SlotLaws.{whole}
 
@@ -55,15 +57,6 @@ changed l b n i v h =
     ap (sets l b) (whole n (set r i v) (length-set r i v ∙ length-reads zero_register l b n)) ∙ sets-changed zero_register l b n i v h
 
 -- ---- the state
-
--- the state with these registers, stacks and task records
-abbrev pub with_arrays : State → List Register → List Register → List Task → State
-with_arrays m bank stacks tasks =
-    record { places = m.places; interval = m.interval; work = m.work; bank = bank; stacks = stacks; tasks = tasks }
-
--- the state with slot k's task record t
-abbrev pub with_task_at : State → ℕ → Task → State
-with_task_at m k t = with_arrays m m.bank m.stacks (set m.tasks k t)
 
 -- and with v in slot k's register r
 abbrev pub stored_at : State → ℕ → Task → ℕ → Register → State

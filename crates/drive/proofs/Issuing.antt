@@ -36,14 +36,16 @@ use Rattle.task.specs.Stretches.{reads}
 use Rattle.task.proofs.StepKeeps.{running_is}
 use Rattle.task.proofs.Executing.{after, parent_side, child_side, made_by, made, step-executed}
 use Rattle.drive.specs.declared.State.{State}
+use Rattle.drive.specs.Writes.{with_task_at}
+use Rattle.drive.specs.Moves.{with_arrays, filling, dropping, moved}
 use Rattle.drive.specs.Slots.{at, put, ticked, slots_of}
 use Rattle.drive.specs.Issue.{issued}
 use Rattle.turns.specs.Kinds.{runs_on, stores_it, status_of, height_left, stacks_it, pops_it, stack_no, entry_of, restacked_by, side_of}
 use Rattle.turns.specs.Moving.{faults, fork_moves, end_moves}
 use Rattle.turns.proofs.LeafLaws.{pop_some, push-place}
-use Rattle.drive.proofs.Copying.{filling, dropping, drop_all}
-use Rattle.drive.proofs.PlanLaws.{moved, fork-moved, by_fault, end_moved}
-use Rattle.drive.proofs.InPlace.{kept, changed, with_arrays, with_task_at, stored_at, put-task, put-stored, put_stacked, entry_at}
+use Rattle.drive.proofs.Copying.{drop_all}
+use Rattle.drive.proofs.PlanLaws.{fork-moved, by_fault, end_moved}
+use Rattle.drive.proofs.InPlace.{kept, changed, stored_at, put-task, put-stored, put_stacked, entry_at}
 use Rattle.drive.proofs.RankLaws.{rank-small}
 use Rattle.drive.proofs.Models.{Allowed, laws_hold}
 use Rattle.drive.proofs.ShapeLaws.{Fits}

@@ -14,7 +14,7 @@ use borrow.Author.Tests.{lt-ltb, le-ltb}
 use Rattle.facts.proofs.Tests.{clash, by-below}
 use Rattle.task.specs.Frames.{running, work_limit}
 use Rattle.drive.specs.declared.State.{State}
-use Rattle.drive.specs.declared.Driven.{Driven}
+use Rattle.drive.specs.Driven.{Driven}
 use Rattle.drive.specs.Slots.{at}
 use Rattle.drive.specs.Issue.{slot_no, issued}
 use Rattle.drive.specs.Courses.{Next, over, turn, follows}

@@ -16,9 +16,10 @@ use Rattle.task.specs.Frames.{zero_register, zeros}
 use Rattle.task.specs.Stretches.{reads}
 use Rattle.task.proofs.StretchLaws.{length-reads, get_d_reads}
 use Rattle.drive.specs.declared.State.{State}
+use Rattle.drive.specs.Moves.{with_arrays, filling, placed}
 use Rattle.drive.specs.Slots.{at, ticked, slots_of}
-use Rattle.drive.proofs.InPlace.{sets-after, sets-reads, with_arrays}
-use Rattle.drive.proofs.Copying.{copied_none, copied_next, filling}
+use Rattle.drive.proofs.InPlace.{sets-after, sets-reads}
+use Rattle.drive.proofs.Copying.{copied_none, copied_next}
 
 -- ---- stretches of a list
 
@@ -91,9 +92,6 @@ module _ (m₀ : State) (z : ℕ) (from : List Register) where
       ap (λ (n : State). stored_in n (16 * z + i) r) p
       ∙ (λ j. with_arrays m₀ (filled_next m₀.bank from z i r e j) m₀.stacks m₀.tasks)
 
-  pub filling_all : {m : State} (i : ℕ) → i ≤ 16 → 16 ≤ i → m ≡ filling m₀ z from i → m ≡ filling m₀ z from 16
-  filling_all {m} i a b p = let e : i ≡ 16 = omega arith in p ∙ ap (filling m₀ z from) e
-
 -- 16 integers 0
 pub zero_next : (m₀ : State) (z : ℕ) {m : State} {r : Register} (i : ℕ) → m ≡ filling m₀ z zeros i → i < 16 → r ≡ zero_register
     → stored_in m (16 * z + i) r ≡ filling m₀ z zeros (i + 1)
@@ -109,10 +107,6 @@ copy_next m₀ z k {m} {r} i apart p small e =
     (e ∙ ap (λ (o : State). get_or o.bank (16 * k + i) zero_register) p ∙ still-there m₀.bank (reads zero_register from 0 i) z k i (omega (arith, n)) apart small)
 
 -- ---- a slot's registers while pairs are copied into them
-
--- slot z's registers are l
-abbrev pub placed : State → ℕ → List Register → State
-placed m z l = with_arrays m (sets m.bank (16 * z) l) m.stacks m.tasks
 
 pub placed-none : (m : State) (z : ℕ) → m ≡ placed m z (at m z).registers
 placed-none m z = λ j. with_arrays m (sym (sets-reads zero_register m.bank (16 * z) 16) j) m.stacks m.tasks

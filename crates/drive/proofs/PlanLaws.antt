@@ -1,24 +1,23 @@
 -- What a plan of moves does to the state, and that a fork, an ended side and a join are a turn's task records with its moves made.
 use Prim.Native.Nat.{ℕ, ◌+◌, ◌*◌, ◌≤◌, ◌<◌}
 use mathlib.Core.Path.{◌≡◌, refl, sym, ap, ◌∙◌, subst⁻¹}
-use mathlib.Core.Logic.{◌⊎◌, inl, inr, ⊎_elim}
+use mathlib.Core.Logic.{inl, inr, ⊎_elim}
 use mathlib.Core.Bool.{Bool, true, false, cond, ◌&&◌}
 use mathlib.Core.List.{List}
 use native.Mathlib.Omega.{arith}
 use lib.Dec.{eqb, ltb}
-use lib.ListN.{length, set}
+use lib.ListN.{length}
 use lib.Seq.{sets}
 use borrow.Author.Tests.{eqb-true, eqb-false}
-use Rattle.facts.proofs.Tests.{by-test}
+use Rattle.facts.proofs.Tests.{by-test, clash}
 use Rattle.image.specs.Layout.{program_of}
 use Rattle.agreement.specs.Slots.{merged}
 use Rattle.task.specs.declared.Register.{Register}
-use Rattle.task.specs.declared.Task.{Task}
 use Rattle.task.specs.declared.Joint.{Joint}
 use Rattle.task.specs.declared.Frame.{Frame}
 use Rattle.task.specs.declared.Kind.{Kind}
 use Rattle.task.specs.declared.Kind.TheVariants.{Stores, Goes, Pushes, Pops, Waits, Halts, Faults, Forks}
-use Rattle.task.specs.Frames.{zero_register, zeros, stack_length, empty_stack, vacant_task, vacant}
+use Rattle.task.specs.Frames.{zero_register, zeros, stack_length, empty_stack, vacant}
 use Rattle.task.specs.Step.{copied, join}
 use Rattle.task.specs.Execute.{joint_of, joint_registers, joint_stack}
 use Rattle.task.specs.Stretches.{reads}
@@ -26,37 +25,16 @@ use Rattle.task.proofs.Copying.{copies_none, faulted-pairs, join-joint}
 use Rattle.task.proofs.JoinKeeps.{length-copied}
 use Rattle.task.proofs.StretchLaws.{length-reads}
 use Rattle.drive.specs.declared.State.{State}
+use Rattle.drive.specs.Writes.{tasks_joined}
+use Rattle.drive.specs.Moves.{with_arrays, filling, dropping, placed, paired_at, cleared_at, copied_at, moved, PlanFits}
 use Rattle.turns.specs.declared.moves.Moves.{Moves}
 use Rattle.drive.specs.Slots.{at, put, Sized, slots_of}
 use Rattle.turns.specs.Moving.{fork_moves, faults, end_moves, join_moves}
 use Rattle.drive.proofs.SlotLaws.{whole, at-full, put_same, put_other}
-use Rattle.drive.proofs.InPlace.{kept, with_arrays}
-use Rattle.drive.proofs.Copying.{filling, dropping, drop-none, drop_all}
-use Rattle.drive.proofs.Moving.{sets_apart, placed, placed-none}
+use Rattle.drive.proofs.InPlace.{kept}
+use Rattle.drive.proofs.Copying.{drop-none, drop_all}
+use Rattle.drive.proofs.Moving.{sets_apart, placed-none}
 use Rattle.drive.proofs.Stacking.{Stacked, one-flat}
-
--- ---- the moves, one after the other
-
-abbrev pub paired_at : Moves → State → State
-paired_at p m = placed m p.to (copied (at m p.from).registers p.pairs p.packed (at m p.to).registers)
-
-abbrev pub cleared_at : Moves → State → State
-cleared_at p m = cond (ltb 0 p.clears) (dropping (filling m p.from zeros 16) p.dropped p.drops 0) m
-
-abbrev pub copied_at : Moves → State → State
-copied_at p m = cond (ltb 0 p.whole) (filling m p.to (at m p.from).registers 16) m
-
-abbrev pub moved : Moves → State → State
-moved p m = copied_at p (cleared_at p (paired_at p m))
-
--- its slots are the state's, and two where registers go from one to the other
-pub record PlanFits (p : Moves) : Type 0 where
-  pub from_below : p.from < 64
-  pub to_below : p.to < 64
-  pub pairs_apart : 0 < p.pairs → (p.to < p.from) ⊎ (p.from < p.to)
-  pub whole_apart : 0 < p.whole → (p.to < p.from) ⊎ (p.from < p.to)
-  pub dropped_below : p.dropped < 64
-  pub drops_few : p.drops ≤ stack_length
 
 unpaired : (p : Moves) (m : State) → p.pairs ≤ 0 → paired_at p m ≡ m
 unpaired p m none =
@@ -90,6 +68,9 @@ by_fault P Halts x y = x
 by_fault P Faults x y = y
 by_fault P Forks x y = x
 
+no_whole : {A : Type 0} → false ≡ true → A
+no_whole e = clash e refl
+
 pub end_moved : (m : State) (k : ℕ) (kind : Kind) (h : ℕ)
     → moved (end_moves k kind h) m ≡ cond (ltb 0 (faults kind)) (dropping (filling m k zeros 16) k (faults kind * h) 0) m
 end_moved m k kind h = ap (λ (n : State). cleared_at (end_moves k kind h) n) (unpaired (end_moves k kind h) m (omega arith))
@@ -99,16 +80,12 @@ end_fits k kind h below most = record {
   from_below = below;
   to_below = omega arith;
   pairs_apart = λ h. absurd (omega arith);
-  whole_apart = λ h. absurd (omega arith);
+  whole_apart = λ h. no_whole h;
   dropped_below = below;
   drops_few = by_fault (λ n. n * h ≤ stack_length) kind (omega arith) (omega arith);
 }
 
 -- ---- a join: slot q has the parent's side, slot c above it the child's
-
--- the two task records are written, registers and stacks are not yet
-abbrev pub tasks_joined : State → ℕ → ℕ → Task → State
-tasks_joined m q c t = with_arrays m m.bank m.stacks (set (set m.tasks c vacant_task) q t)
 
 -- a stack that is empty already
 flat-kept : (m : State) (k : ℕ) → Stacked (at m k) → (at m k).task.height ≡ 0

@@ -1,10 +1,10 @@
 -- What a turn of the loop has written and planned: with its moves made, the next turn holds. One statement for each kind of turn.
 use mathlib.Core.Path.{◌≡◌, refl, sym, ap, ap₂, ◌∙◌, subst⁻¹}
-use mathlib.Core.Bool.{true, false, cond}
+use mathlib.Core.Bool.{Bool, true, false, cond}
 use mathlib.Core.List.{List}
 use Prim.Native.Nat.{ℕ, ◌+◌, ◌-◌, ◌*◌, ◌/◌, ◌%◌, ◌<◌, ◌≤◌}
 use native.Mathlib.Omega.{arith}
-use lib.Dec.{ltb}
+use lib.Dec.{leb}
 use lib.ListN.{get_or, set}
 use lib.Seq.{get_or-set_same, get_or-set_other}
 use Rattle.facts.proofs.Tests.{clash, by-test}
@@ -23,21 +23,24 @@ use Rattle.task.specs.Values.{record_of}
 use Rattle.task.specs.Step.{counted, ended, with_height, step}
 use Rattle.task.specs.Execute.{joint_of}
 use Rattle.drive.specs.declared.State.{State}
+use Rattle.drive.specs.Writes.{with_task_at, tasks_joined}
+use Rattle.drive.specs.Moves.{paired_at, cleared_at, moved, PlanFits}
 use Rattle.turns.specs.declared.moves.Moves.{Moves}
 use Rattle.turns.specs.declared.course.Position.{Position}
-use Rattle.turns.specs.declared.course.Stretch.{Stretch}
+use Rattle.turns.specs.declared.course.Course.{Course}
+use Rattle.turns.specs.declared.course.Course.TheVariants.{Passes, Listed, Rounds}
+use Rattle.std.specs.Prelude.{Option, Some, None, is_some}
 use Rattle.drive.specs.Slots.{at, ticked, slots_of}
 use Rattle.drive.specs.Issue.{issued}
 use Rattle.turns.specs.Moving.{fork_moves, end_moves, join_moves}
 use Rattle.turns.specs.Kinds.{status_of, height_left, stacks_it, pops_it, stack_no}
-use Rattle.turns.specs.Stretches.{rounds_of}
+use Rattle.turns.specs.Stretches.{Stretch, first_of, next_stretch, rounds_of}
 use Rattle.turns.specs.Walk.{picked_on, stopped_at}
 use Rattle.drive.proofs.Models.{Allowed}
 use Rattle.drive.proofs.ShapeLaws.{Fits}
 use Rattle.drive.proofs.Owning.{own_allowed, own_fits, places_most}
 use Rattle.drive.proofs.SettleSafety.{fits_safe}
-use Rattle.drive.proofs.InPlace.{with_task_at}
-use Rattle.drive.proofs.PlanLaws.{moved, paired_at, cleared_at, PlanFits, tasks_joined, join-moved, join-fits, end_fits, fork-fits}
+use Rattle.drive.proofs.PlanLaws.{join-moved, join-fits, end_fits, fork-fits}
 use Rattle.drive.proofs.SlotLaws.{task-runs}
 use Rattle.drive.proofs.IssueLaws.{issued_work}
 use Rattle.drive.proofs.Issuing.{end_frame, ends-steps, refused-steps, end_put, forked_at, forks-issued, forks-room}
@@ -52,17 +55,17 @@ ahead g m p o =
 
 moved_work : (plan : Moves) (m : State) → (moved plan m).work ≡ m.work
 moved_work plan m =
-    by-test (ltb 0 plan.whole) (λ a. rw a (cleared_work (paired_at plan m))) (λ a. rw a (cleared_work (paired_at plan m)))
+    by-test plan.whole (λ a. rw a (cleared_work (paired_at plan m))) (λ a. rw a (cleared_work (paired_at plan m)))
   where
     cleared_work : (n : State) → (cleared_at plan n).work ≡ n.work
-    cleared_work n = by-test (ltb 0 plan.clears) (λ b. rw b) (λ b. rw b)
+    cleared_work n = by-test plan.clears (λ b. rw b) (λ b. rw b)
 
 moved_tasks : (plan : Moves) (m : State) → (moved plan m).tasks ≡ m.tasks
 moved_tasks plan m =
-    by-test (ltb 0 plan.whole) (λ a. rw a (cleared_tasks (paired_at plan m))) (λ a. rw a (cleared_tasks (paired_at plan m)))
+    by-test plan.whole (λ a. rw a (cleared_tasks (paired_at plan m))) (λ a. rw a (cleared_tasks (paired_at plan m)))
   where
     cleared_tasks : (n : State) → (cleared_at plan n).tasks ≡ n.tasks
-    cleared_tasks n = by-test (ltb 0 plan.clears) (λ b. rw b) (λ b. rw b)
+    cleared_tasks n = by-test plan.clears (λ b. rw b) (λ b. rw b)
 
 pub record Planned (g : Given) (before : ℕ) (m : State) (plan : Moves) (p : Position) (o side : ℕ) : Type 0 where
   pub plan_fits : PlanFits plan
@@ -81,9 +84,6 @@ pub then_grows : {g : Given} {before : ℕ} {m : State} {plan : Moves} {p : Posi
 then_grows {g} {before} {m} {plan} x {m'} is =
     let same : m'.work ≡ m.work = ap (λ (n : State). n.work) is ∙ moved_work plan m in
     (omega (arith, x.grows.0), omega (arith, x.grows.1))
-
-pub less_with : {a b : ℕ} (n : ℕ) → a < b → a + n < b + n
-less_with n h = omega arith
 
 -- against a larger number
 pub planned_below : {g : Given} {before after : ℕ} {m : State} {plan : Moves} {p : Position} {o side : ℕ} → before ≤ after
@@ -232,28 +232,38 @@ module _ (g : Given) (allowed : GivenAllowed g) where
 
 -- ---- the next stretch, or the end
 
+-- where the stretches are over, as many rounds are begun as were before
+pub rounds_kept : (course : Course) (order : List ℕ) (begun places work : ℕ) (ended : Bool) (row : ℕ)
+    → (next_stretch course order begun places work ended row).over ≡ true
+    → rounds_of course (next_stretch course order begun places work ended row).first.begun ≡ rounds_of course begun
+rounds_kept (Passes slot picks) order begun places work ended row over = refl
+rounds_kept Listed order begun places work ended row over = refl
+rounds_kept (Rounds lanes rounds) order begun places work true row over = refl
+rounds_kept (Rounds lanes rounds) order begun places work false row over =
+    by-test (leb work_limit work)
+    (λ t. rw t refl)
+    (λ t. by-test (leb rounds begun) (λ u. rw (t, u) refl) (λ u. let none = rw (t, u) at over in clash none refl))
+
 module _ (g : Given) {m : State} {p : Position} (a : At g m p) {s : Stretch}
     (c : Comes (result g) m a.picks p.begun (most_stretches g.course g.order) (rounds_of g.course) (λ q. At g m q) s) where
-  pub next-at : s.over ≡ false → At g m s.first
-  next-at o = go c
-    where
-      go : Comes (result g) m a.picks p.begun (most_stretches g.course g.order) (rounds_of g.course) (λ q. At g m q) s → At g m s.first
-      go (comes_none over b u r e) = clash over o
-      go (comes_one over f x) = x
-
-  pub next-ends : s.over ≡ true → result g ≡ record { state = m; picks = m.work - g.state.work; rounds = rounds_of g.course s.first.begun }
-  next-ends o = go c
+  -- there is one
+  pub next_goes : {q : Position} → Some q ≡ first_of s → At g m q × (ahead g m q 0 < ahead g m p 0)
+  next_goes {q} is = go c
     where
       go : Comes (result g) m a.picks p.begun (most_stretches g.course g.order) (rounds_of g.course) (λ q. At g m q) s
-          → result g ≡ record { state = m; picks = m.work - g.state.work; rounds = rounds_of g.course s.first.begun }
-      go (comes_none over b u r e) = e ∙ ap (λ (n : ℕ). record { state = m; picks = n; rounds = rounds_of g.course s.first.begun }) (sym (rise_is g a))
-      go (comes_one over f x) = clash o over
-
-  pub next-less : ahead g m s.first 0 + cond s.over 0 1 < ahead g m p 0 + 1
-  next-less = go c
-    where
-      go : Comes (result g) m a.picks p.begun (most_stretches g.course g.order) (rounds_of g.course) (λ q. At g m q) s
-          → ahead g m s.first 0 + cond s.over 0 1 < ahead g m p 0 + 1
-      go (comes_none over b u r e) = let z : ◌≡◌ {A = ℕ} (cond s.over 0 1) 0 = rw over in omega arith
+          → At g m q × (ahead g m q 0 < ahead g m p 0)
+      go (comes_none over b u r e) = clash (sym (ap is_some is)) (ap (λ b. is_some (cond b None (Some s.first))) over)
       go (comes_one over f x) =
-          let z : ◌≡◌ {A = ℕ} (cond s.over 0 1) 1 = rw over in omega (arith, f.begun_more, f.begun_most, f.ahead_most, f.until_most)
+          let there : q ≡ s.first = ap (λ (o : Option Position). elim o [ None ↦ s.first | Some r ↦ r ]) (is ∙ ap (λ b. cond b None (Some s.first)) over) in
+          (subst⁻¹ (At g m) there x, subst⁻¹ (λ r. ahead g m r 0 < ahead g m p 0) there (omega (arith, f.begun_more, f.begun_most, f.ahead_most, f.until_most)))
+
+  -- there is none
+  pub next_none : None ≡ first_of s
+      → (result g ≡ record { state = m; picks = m.work - g.state.work; rounds = rounds_of g.course s.first.begun }) × (s.over ≡ true)
+  next_none is = go c
+    where
+      go : Comes (result g) m a.picks p.begun (most_stretches g.course g.order) (rounds_of g.course) (λ q. At g m q) s
+          → (result g ≡ record { state = m; picks = m.work - g.state.work; rounds = rounds_of g.course s.first.begun }) × (s.over ≡ true)
+      go (comes_none over b u r e) =
+          (e ∙ ap (λ (n : ℕ). record { state = m; picks = n; rounds = rounds_of g.course s.first.begun }) (sym (rise_is g a)), over)
+      go (comes_one over f x) = clash (ap (λ b. is_some (cond b None (Some s.first))) over) (sym (ap is_some is))

@@ -8,11 +8,10 @@ use borrow.Author.Tests.{ltb-true, lt-ltb, le-ltb}
 use Rattle.facts.proofs.Tests.{both_true, clash, by-test, by-below}
 use Rattle.task.specs.Frames.{work_limit}
 use Rattle.turns.specs.declared.course.Position.{Position}
-use Rattle.turns.specs.declared.course.Stretch.{Stretch}
-use Rattle.turns.specs.Stretches.{stop_at}
+use Rattle.turns.specs.Stretches.{Stretch, stop_at}
 use Rattle.turns.specs.Walk.{walks_on, passed_on, goes_again, picked_on, stopped_at}
 use Rattle.drive.specs.declared.State.{State}
-use Rattle.drive.specs.declared.Driven.{Driven}
+use Rattle.drive.specs.Driven.{Driven}
 
 -- the walk goes on from here
 abbrev pub Walks : State → Position → Type 0

@@ -17,7 +17,7 @@ use Rattle.turns.specs.Rows.{packed, slot_in}
 use Rattle.turns.specs.Stretches.{done, round_from, next_round}
 use Rattle.turns.specs.Walk.{walks_on, taking, goes_again, round_on, left_of}
 use Rattle.drive.specs.declared.State.{State}
-use Rattle.drive.specs.declared.Driven.{Driven}
+use Rattle.drive.specs.Driven.{Driven}
 use Rattle.drive.specs.Slots.{at}
 use Rattle.drive.specs.Ending.{job_ended}
 use Rattle.drive.specs.Issue.{issued}

@@ -1,33 +1,18 @@
 -- Whether a join is due, test by test; and what one turn of settling does.
-use Prim.Native.Nat.{ℕ, zero, suc, ◌+◌, ◌*◌, ◌-◌, ◌%◌, ◌≤◌, ◌<◌}
+use Prim.Native.Nat.{ℕ, zero, suc, ◌+◌, ◌*◌, ◌-◌, ◌%◌, ◌<◌}
 use mathlib.Core.Path.{◌≡◌, refl, sym}
-use mathlib.Core.Bool.{Bool, true, false, not, ◌&&◌, and-false}
+use mathlib.Core.Bool.{Bool, true, false, ◌&&◌}
 use mathlib.Core.List.{List}
 use native.Mathlib.Omega.{arith}
 use lib.Dec.{eqb, ltb}
-use borrow.Author.Tests.{lt-ltb, le-ltb, eq-eqb, ltb-true, eqb-true, not-true}
+use borrow.Author.Tests.{lt-ltb, ltb-true, eqb-true, not-true}
 use Rattle.facts.proofs.Tests.{clash, both_true}
 use Rattle.image.specs.Layout.{program_of}
 use Rattle.agreement.specs.Slots.{side_ended, due, merged, settle}
 use Rattle.agreement.proofs.SlotLaws.{settle-none, settle-go, settle_stop}
-use Rattle.task.specs.declared.Status.{Status}
-use Rattle.task.specs.Frames.{is_running, running}
+use Rattle.task.specs.Frames.{running}
 use Rattle.drive.specs.declared.State.{State}
 use Rattle.drive.specs.Slots.{at, slots_of}
-
--- of a task at depth d, the status decides
-pub status_decides : (depth d : ℕ) (status s : Status) → depth ≡ d → status ≡ s → not (is_running s) ≡ (eqb depth d && not (is_running status))
-status_decides depth d status s p q = rw (eq-eqb _ _ p, q)
-
--- whether a fork has its child's slot in the state
-pub no-width : (q w : ℕ) → w ≡ 0 → false ≡ (ltb 0 w && ltb (q + w) 64)
-no-width q w e = rw (le-ltb 0 w (omega arith))
-
-pub no_room : (q w : ℕ) → 64 ≤ q + w → false ≡ (ltb 0 w && ltb (q + w) 64)
-no_room q w e = rw (le-ltb (q + w) 64 e) (sym (and-false (ltb 0 w)))
-
-pub room : (q w : ℕ) → 0 < w → q + w < 64 → true ≡ (ltb 0 w && ltb (q + w) 64)
-room q w a b = rw (lt-ltb 0 w a, lt-ltb (q + w) 64 b)
 
 module _ (cells : List ℕ) (m : State) (q w d : ℕ) where
   -- where there is none, no join is due

@@ -2,10 +2,10 @@
 use Prim.Native.Nat.{ℕ, ◌+◌, ◌*◌, ◌/◌, ◌%◌, ◌≤◌, ◌<◌}
 use mathlib.Core.Path.{◌≡◌, sym, ap, ◌∙◌, subst, subst⁻¹}
 use mathlib.Core.Logic.{◌⊎◌, inl, inr, ◌≢◌}
-use mathlib.Core.Bool.{Bool, true, false}
+use mathlib.Core.Bool.{Bool, true}
 use mathlib.Core.List.{List}
 use native.Mathlib.Omega.{arith}
-use lib.ListN.{length, get_or, set, length-set, get_or-eq_default}
+use lib.ListN.{length, get_or, set, length-set}
 use lib.Seq.{sets, length-sets, get_or-set_same, get_or-set_other, ext_get_or}
 use Rattle.facts.proofs.Tests.{by_order}
 use Rattle.task.specs.declared.Register.{Register}
@@ -130,7 +130,3 @@ task-runs m m' k t n h e runs =
       ap (λ (l : List Task). on (get_or l k no_task)) e ∙ ap on (get_or-set_same m.tasks k t no_task (omega arith)) ∙ runs,
       λ i other. ap (λ (l : List Task). on (get_or l i no_task)) e ∙ ap on (get_or-set_other m.tasks k i t no_task other),
     )
-
--- past the last slot there is no task
-pub no-task-beyond : (m : State) (k : ℕ) → length m.tasks ≡ 64 → 64 ≤ k → running (at m k) ≡ false
-no-task-beyond m k n h = ap (λ (t : Task). is_running t.status) (get_or-eq_default m.tasks no_task {n = k} (omega arith))

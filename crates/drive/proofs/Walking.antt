@@ -14,11 +14,10 @@ use borrow.Author.Tests.{le-leb, lt-leb, leb-true, ltb-true, ne_eqb, eq-eqb}
 use Rattle.facts.proofs.Tests.{both_true, clash, by-below, by_order}
 use Rattle.task.specs.Frames.{running, work_limit}
 use Rattle.drive.specs.declared.State.{State}
-use Rattle.drive.specs.declared.Driven.{Driven}
+use Rattle.drive.specs.Driven.{Driven}
 use Rattle.turns.specs.declared.course.Course.{Course}
 use Rattle.turns.specs.declared.course.Course.TheVariants.{Passes, Listed, Rounds}
 use Rattle.turns.specs.declared.course.Position.{Position}
-use Rattle.turns.specs.declared.course.Stretch.{Stretch}
 use Rattle.drive.specs.Slots.{at}
 use Rattle.drive.specs.Settings.{rank}
 use Rattle.drive.specs.Ending.{job_ended}
@@ -26,7 +25,7 @@ use Rattle.drive.specs.Issue.{slot_no, issued}
 use Rattle.drive.specs.Passes.{run_from}
 use Rattle.drive.specs.Rounds.{round_of}
 use Rattle.turns.specs.Rows.{packed}
-use Rattle.turns.specs.Stretches.{nowhere, next_pass, next_stretch, lanes_of, rounds_of}
+use Rattle.turns.specs.Stretches.{Stretch, nowhere, next_pass, next_stretch, lanes_of, rounds_of}
 use Rattle.turns.specs.Walk.{walks_on, behind, to, gone_by, passed_on, picked_on, stopped_at, width}
 use Rattle.drive.specs.Driving.{starts_in, left, driven}
 use Rattle.drive.proofs.RankLaws.{rank_power}

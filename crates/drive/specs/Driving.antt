@@ -3,7 +3,7 @@ use Rattle.std.specs.Prelude.{Bool, true, ◌&&◌, List, ℕ, ltb, leb, ℤ}
 use Rattle.turns.specs.declared.course.Course.{Course}
 use Rattle.turns.specs.declared.course.Course.TheVariants.{Passes, Listed, Rounds}
 use Rattle.drive.specs.declared.State.{State}
-use Rattle.drive.specs.declared.Driven.{Driven}
+use Rattle.drive.specs.Driven.{Driven}
 use Rattle.drive.specs.Courses.{Run}
 use Rattle.drive.specs.Passes.{run_from}
 use Rattle.drive.specs.Listing.{list_from}

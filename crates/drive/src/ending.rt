@@ -19,9 +19,7 @@ pub fn end_at(depth: u32, status: Status) -> End
     ensures { result ≡ end_at depth status }
 {
     match status {
-        Status::Vacant => End::NotEnded,
-        Status::Running => End::NotEnded,
-        Status::Waiting => End::NotEnded,
+        Status::Vacant | Status::Running | Status::Waiting => End::NotEnded,
         Status::Halted => End::Halt,
         Status::Faulted(n) => fault_end(depth, n),
     }
@@ -32,16 +30,11 @@ pub fn end_of(m: State) -> End
     ensures { result ≡ ending m }
 {
     let t = m.tasks[0];
-    let status = t.status;
-    end_at(t.depth, status)
+    end_at(t.depth, t.status)
 }
 
 pub fn has_ended(end: End) -> bool
     ensures { result ≡ is_end end }
 {
-    match end {
-        End::NotEnded => false,
-        End::Halt => true,
-        End::Fault(_) => true,
-    }
+    !matches!(end, End::NotEnded)
 }

@@ -3,7 +3,9 @@
 
 pub mod ending;
 pub mod picks;
+mod registers;
 pub mod slots;
+mod writes;
 
 use task::{Register, Task};
 
@@ -20,17 +22,16 @@ pub struct State {
 }
 
 // How a job has ended: by halt, or by a fault with its number.
-#[derive(Clone, Copy)]
+#[derive(Clone, Copy, Debug, PartialEq, Eq)]
 pub enum End {
     NotEnded,
     Halt,
     Fault(u8),
 }
 
-// What the loop over the slots leaves: the state, the picks carried out, and of rounds how many were begun.
-#[derive(Clone, Copy)]
-pub struct Driven {
-    pub state: State,
+// What the loop over the slots counts: the picks carried out, and of rounds how many were begun.
+#[derive(Clone, Copy, Debug, PartialEq, Eq)]
+pub struct Counts {
     pub picks: u64,
     pub rounds: u64,
 }

@@ -1,225 +1,169 @@
-// The one loop that carries out picks, in the state where it stands: it keeps the state in a local, since a function that took it would copy
-// it, and a struct cannot be lent for writing. It is told a course; what an instruction does to the state is the rest. A turn of the outer loop
-// is one look at a join that is due; or a walk along the stretch, over every pick after which the task runs on alone, and then the pick that
-// stopped it, a fork or an ended side, or the next stretch. At its end the register moves are made that it has planned.
-// An ended side leaves `due`, the depth whose join is looked at next, and `side`, the slot that it is looked at from.
+// The one loop that carries out picks, in the state that it is lent, where it stands. It is told a course; what an instruction does to the state
+// is the rest. A turn of the outer loop is one look at a join that is due; or a walk along the stretch, over every pick after which the task runs
+// on alone, and then the pick that stopped it, a fork or an ended side, or the next stretch. At its end the register moves are made that it has
+// planned. An ended side leaves `due`, the depth whose join is looked at next, and `side`, the slot that it is looked at from.
+// The walk and the looks for a row stay in the function: what they keep (`Leads` and `Gathers`, in proofs/) speaks of the course's whole run and
+// of a state that fits it, which the contract of a part, made of specs/, does not have.
 ghost use Rattle.std.specs.Prelude.{◌≡◌, true, length};
 ghost use Rattle.image.specs.Layout.{program_cells, program_of};
 ghost use Rattle.image.specs.Questions.{program_no};
 ghost use Rattle.drive.specs.Shape.{shape};
 ghost use Rattle.drive.specs.Driving.{starts_in, driven};
 
-use crate::{Driven, State, ending, slots};
+use crate::{Counts, State, ending, registers, slots, writes};
 use task::running::is_running;
 use task::{Active, Kind};
-use turns::course::Course;
-use turns::moves::Sides;
-use turns::{course, moves, records, rows, stacking, walk};
+use turns::course::{Course, Position};
+use turns::rows::Row;
+use turns::{moves, records, stacking, walk};
 
 // For a course that has no order.
 pub const NO_ORDER: [u8; 1] = [0];
 
 // The picks of a course. Pick, run, dispatcher, `orders` and `job` call it, after the questions that ensure its `requires`.
-pub fn drive(cells: &[u64], words: &[i64], state: State, order: &[u8], course: Course) -> Driven
-    requires { (program_no cells.now ≡ 0) × (length cells.now ≡ program_cells) × (shape (program_of cells.now) state ≡ true) × (starts_in course state ≡ true) }
-    ensures { result ≡ driven cells.now words.now state order.now course }
+pub fn drive(
+    cells: &[u64],
+    words: &[i64],
+    state: &mut State,
+    order: &[u8],
+    course: Course,
+) -> Counts
+    requires { (program_no cells.now ≡ 0) × (length cells.now ≡ program_cells) × (shape (program_of cells.now) state.old ≡ true) × (starts_in course state.old ≡ true) }
+    ensures state_after { state.new ≡ (driven cells.now words.now state.old order.now course).state }
+    ensures picks { result.picks ≡ (driven cells.now words.now state.old order.now course).picks }
+    ensures rounds { result.rounds ≡ (driven cells.now words.now state.old order.now course).rounds }
 {
-    let mut m = state;
-    let first = m.work;
-    let mut p = course::no_position(0, first);
+    let before = state.work;
+    let mut p = Position::nowhere(0, before);
     // the joins that may be due
     let mut due: u32 = 0;
     let mut side = 0usize;
-    let mut over = false;
-    while !over {
-        let mut plan = moves::no_moves();
-        if 0 < due {
+    loop {
+        let plan = if 0 < due {
             // one look at a join
-            let own = m.tasks[side];
-            let w = own.places;
+            let w = state.tasks[side].places;
             let q = slots::first_slot(side, w);
             if !slots::has_room(q, w) {
                 due = 0;
                 continue;
             }
             let c = q + (w as usize);
-            let parent = m.tasks[q];
-            let child = m.tasks[c];
-            if !slots::both_ended(parent, child, due) {
+            if !slots::both_ended(state.tasks[q], state.tasks[c], due) {
                 due = 0;
                 continue;
             }
-            let joint = task::joining::joined(cells, parent, child);
-            let whole = joint.task;
-            m.tasks[c] = slots::vacant_task();
-            m.tasks[q] = whole;
-            let sides = Sides {
-                pairs: joint.pairs,
-                packed: joint.packed,
-                faulted: joint.faulted,
-                ours: parent.height,
-                theirs: child.height,
-            };
-            plan = moves::join_moves(q, c, sides);
             side = q;
-            due = due - 1;
+            due -= 1;
+            writes::join_sides(cells, state, q, c)
         } else {
             // a walk, over the picks after which the task runs on
-            let mut stopped = false;
-            let mut e = task::results::go(0, 0);
-            while walk::walks_on(stopped, m.work, p) {
+            let mut stop = None;
+            while p.walks_on(stop.is_some(), state.work) {
                 let k = p.slot;
-                let record = m.tasks[k];
-                let status = record.status;
-                if is_running(status) {
+                let record = state.tasks[k];
+                if is_running(record.status) {
                     let active = Active {
                         places: record.places,
                         pc: record.pc,
                         counter: record.counter,
                         depth: record.depth,
                     };
-                    let forks = record.forks;
                     let x = image::layout::instruction_of(cells, active.pc as usize);
                     let base = 16 * k;
                     let at_s = base + (x.s as usize);
-                    let left_register = m.bank[at_s];
-                    let s = left_register.value;
+                    let s = state.bank[at_s].value;
                     let at_v = base + ((x.operand % 16) as usize);
-                    let right_register = m.bank[at_v];
-                    let held = right_register.value;
-                    let v = task::execution::operand(x, held);
-                    e = task::execution::execute(
+                    let v = task::execution::operand(x, state.bank[at_v].value);
+                    let e = task::execution::execute(
                         cells,
                         words,
-                        m.interval as u64,
+                        state.interval as u64,
                         x,
                         s,
                         v,
                         active,
-                        forks,
+                        record.forks,
                     );
-                    let kind = e.kind;
-                    if records::runs_on(kind) {
+                    if records::runs_on(e.kind) {
                         // the record before the register: with a store between, the open forks would be copied out and in
-                        m.tasks[k] = records::ran_on(record, e.pc, e.counter);
-                        if records::does_store(kind) {
+                        state.tasks[k] = records::ran_on(record, e.pc, e.counter);
+                        if records::does_store(e.kind) {
                             let at_r = base + (x.r as usize);
-                            let value = e.value;
-                            m.bank[at_r] = moves::holding(value);
+                            state.bank[at_r] = moves::holding(e.value);
                         }
-                        m.work = m.work + 1;
-                        p = walk::picked_on(p, m.places, m.work, active.places);
+                        state.work += 1;
+                        p = p.picked_on(state.places, state.work, active.places);
                     } else {
-                        stopped = true;
+                        stop = Some(e);
                     }
                 } else {
-                    p = walk::gone_by(p, m.places, walk::width_of(record.places));
+                    p = p.gone_by(state.places, walk::width_of(record.places));
                 }
             }
-            if !stopped {
-                let first_task = m.tasks[0];
-                let first_status = first_task.status;
-                let ended = ending::has_ended(ending::end_at(first_task.depth, first_status));
-                // the row of slots that a round takes here
-                let mut row = rows::no_slots(course::lanes_of(course));
+            let Some(e) = stop else {
+                let first = state.tasks[0];
+                let ended = ending::has_ended(ending::end_at(first.depth, first.status));
+                // the row of slots that a round takes here: not a `for`, since all places of a slot are gone by at once
+                let mut row = Row::new(course.lanes());
                 let mut look = 0usize;
-                while rows::looks_on(row, look, m.places) {
-                    let met = m.tasks[look];
-                    let met_status = met.status;
-                    if is_running(met_status) {
-                        row = rows::with_slot(row, look);
+                while row.looks_on(look, state.places) {
+                    let met = state.tasks[look];
+                    if is_running(met.status) {
+                        row = row.with_slot(look);
                     }
-                    look = look + (walk::width_of(met.places) as usize);
+                    look += walk::width_of(met.places) as usize;
                 }
-                let next = course::next_stretch(
-                    course, order, p.begun, m.places, m.work, ended, row.slots,
+                let next = course.next_stretch(
+                    order,
+                    p.begun,
+                    state.places,
+                    state.work,
+                    ended,
+                    row.slots,
                 );
-                over = next.over;
-                p = next.first;
+                match next {
+                    Some(first) => p = first,
+                    None => {
+                        return Counts {
+                            picks: (state.work - before) as u64,
+                            rounds: course.rounds(p.begun),
+                        };
+                    }
+                }
                 continue;
-            }
+            };
             // the pick that stopped it
             let k = p.slot;
-            m.work = m.work + 1;
+            state.work += 1;
             let mut kind = e.kind;
             let mut fault = e.fault;
             if stacking::does_stack(kind) {
                 // a push or a pop, after which the task runs on unless the stack is full or empty
-                let own = m.tasks[k];
+                let own = state.tasks[k];
                 let pops = stacking::does_pop(kind);
-                let no = stacking::ask_stack(pops, own.height);
-                if no == 0 {
-                    let at = 32 * k + stacking::entry_of(pops, own.height);
-                    let held = m.stacks[at];
-                    let value = e.value;
-                    m.stacks[at] = moves::holding(value);
-                    if pops {
-                        let x = image::layout::instruction_of(cells, own.pc as usize);
-                        let at_r = 16 * k + (x.r as usize);
-                        m.bank[at_r] = held;
+                match stacking::entry_of(pops, own.height) {
+                    Ok(entry) => {
+                        writes::move_value(cells, state, k, pops, entry, e);
+                        p = p.picked_on(state.places, state.work, own.places);
+                        continue;
                     }
-                    m.tasks[k] = stacking::restacked(own, pops, e.pc, e.counter);
-                    p = walk::picked_on(p, m.places, m.work, own.places);
-                    continue;
+                    Err(no) => {
+                        kind = Kind::Faults;
+                        fault = no;
+                    }
                 }
-                kind = Kind::Faults;
-                fault = no;
             }
-            let record = m.tasks[k];
+            let record = state.tasks[k];
             if let Kind::Forks = kind {
-                let value = e.value;
-                let parent = records::side_task(record, records::record_of(value), e.pc, e.counter);
-                let c = k + (parent.places as usize);
-                m.tasks[k] = parent;
-                m.tasks[c] = records::begun_at(parent, e.child);
-                plan = moves::fork_moves(k, c);
-                p = walk::stopped_at(p, m.places, parent.places);
+                p = p.stopped_at(state.places, record.places / 2);
+                writes::open_fork(state, k, e)
             } else {
-                m.tasks[k] = records::ended_task(record, kind, fault);
-                plan = moves::end_moves(k, kind, record.height);
                 due = record.depth;
                 side = k;
-                p = walk::stopped_at(p, m.places, record.places);
+                p = p.stopped_at(state.places, record.places);
+                writes::end_side(state, k, kind, fault)
             }
-        }
-        let from = plan.from;
-        let to = plan.to;
-        let mut pairs = plan.pairs;
-        let mut packed = plan.packed;
-        while 0 < pairs {
-            let source = (packed / 16 % 16) as usize;
-            let target = (packed % 16) as usize;
-            let moved = m.bank[16 * from + source];
-            m.bank[16 * to + target] = moved;
-            packed = packed / 256;
-            pairs = pairs - 1;
-        }
-        if 0 < plan.clears {
-            let mut i = 0usize;
-            while i < 16 {
-                m.bank[16 * from + i] = moves::zero_register();
-                i += 1;
-            }
-            let dropped = plan.dropped;
-            let mut left = plan.drops as usize;
-            while 0 < left {
-                left -= 1;
-                m.stacks[32 * dropped + left] = moves::zero_register();
-            }
-        }
-        if 0 < plan.whole {
-            let mut i = 0usize;
-            while i < 16 {
-                let copied = m.bank[16 * from + i];
-                m.bank[16 * to + i] = copied;
-                i += 1;
-            }
-        }
-    }
-    let picks = (m.work - first) as u64;
-    Driven {
-        state: m,
-        picks,
-        rounds: course::rounds_of(course, p.begun),
+        };
+        registers::make_moves(state, &plan);
     }
 }

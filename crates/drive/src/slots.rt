@@ -4,6 +4,7 @@ ghost use Rattle.task.specs.Frames.{is_running, no_forks, vacant_task};
 ghost use Rattle.drive.specs.Slots.{at};
 
 use crate::State;
+use task::running::is_running;
 use task::{Fork, Frame, Register, Status, Task, Value};
 
 // Our own crates alone call it, with a slot below the state's 64.
@@ -14,18 +15,14 @@ pub fn frame_at(m: State, k: usize) -> Frame
     let mut registers = [Register {
         value: Value::Int(0),
     }; 16];
-    let mut i = 0usize;
-    while i < 16 {
+    for i in 0..16 {
         registers[i] = m.bank[16 * k + i];
-        i += 1;
     }
     let mut stack = [Register {
         value: Value::Int(0),
     }; task::STACK];
-    let mut j = 0usize;
-    while j < task::STACK {
+    for j in 0..task::STACK {
         stack[j] = m.stacks[32 * k + j];
-        j += 1;
     }
     let task = m.tasks[k];
     Frame {
@@ -67,27 +64,14 @@ pub fn vacant_task() -> Task
 fn side_ended(t: Task, d: u32) -> bool
     ensures { result ≡ (eqb t.depth d && not (is_running t.status)) }
 {
-    if t.depth != d {
-        return false;
-    }
-    let s = t.status;
-    match s {
-        Status::Running => false,
-        Status::Vacant => true,
-        Status::Waiting => true,
-        Status::Halted => true,
-        Status::Faulted(_) => true,
-    }
+    t.depth == d && !is_running(t.status)
 }
 
 // Whether both sides of a fork that made depth d have ended.
 pub fn both_ended(p: Task, c: Task, d: u32) -> bool
     ensures { result ≡ (eqb p.depth d && not (is_running p.status)) && (eqb c.depth d && not (is_running c.status)) }
 {
-    if side_ended(p, d) {
-        return side_ended(c, d);
-    }
-    false
+    side_ended(p, d) && side_ended(c, d)
 }
 
 // Whether a fork at slot q, of w places each side, has its child's slot in the state. Drive alone calls it, with a slot of the state.
@@ -95,16 +79,7 @@ pub fn has_room(q: usize, w: u64) -> bool
     requires { q < 64 }
     ensures { result ≡ (ltb 0 w && ltb (q + w) 64) }
 {
-    if w == 0 {
-        return false;
-    }
-    if 64 <= w {
-        return false;
-    }
-    if 64 <= q + (w as usize) {
-        return false;
-    }
-    true
+    0 < w && w < 64 && q + (w as usize) < 64
 }
 
 // The parent's slot of the innermost fork of a task of w places in slot k. Drive alone calls it, with a slot of the state.
@@ -112,10 +87,7 @@ pub fn first_slot(k: usize, w: u64) -> usize
     requires { k < 64 }
     ensures { (result ≡ k - k % (2 * w)) × (result ≤ k) }
 {
-    if w == 0 {
-        return 0;
-    }
-    if 64 <= w {
+    if w == 0 || 64 <= w {
         return 0;
     }
     k - k % (2 * w as usize)

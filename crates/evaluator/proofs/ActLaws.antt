@@ -5,41 +5,45 @@ use mathlib.Core.List.{List, ◌∷◌}
 use Prim.Native.Nat.{ℕ, suc, ◌+◌, ◌*◌, ◌-◌, ◌/◌, ◌<◌, ◌≤◌}
 use native.Mathlib.Omega.{arith}
 use lib.IntN.{ℤ}
-use Rattle.facts.proofs.Tests.{both_true, by_order}
-use Rattle.image.specs.Layout.{version_of, instruction_of, program_of}
+use Rattle.facts.proofs.Tests.{by_order}
+use Rattle.image.specs.Layout.{instruction_of, program_of}
 use Rattle.agreement.specs.Plain.{one, two, Rules}
 use Rattle.serial.specs.Serial.{to_come, held, onward, run}
 use Rattle.serial.proofs.Equations.{onward-runs}
+use Rattle.task.specs.declared.Status.TheVariants.{Running}
 use Rattle.task.specs.declared.Fork.{Fork}
 use Rattle.task.specs.declared.Frame.{Frame}
 use Rattle.task.specs.declared.Kind.{Kind}
 use Rattle.task.specs.declared.Kind.TheVariants.{Stores, Goes, Pushes, Pops, Waits, Halts, Faults, Forks}
 use Rattle.task.specs.declared.Executed.{Executed}
-use Rattle.task.specs.Frames.{work_limit}
+use Rattle.task.specs.Frames.{is_running, work_limit}
 use Rattle.task.specs.Choices.{chosen}
-use Rattle.task.specs.Formed.{fault_listed, formed, within}
+use Rattle.task.specs.Formed.{formed, within}
 use Rattle.task.specs.Step.{step}
 use Rattle.task.proofs.Executing.{made_by, step-executed}
-use Rattle.task.proofs.Formation.{Formed, formed_is, listed-within}
+use Rattle.task.proofs.Formation.{Formed, formed_is}
 use Rattle.arms.specs.declared.Stopped.{Stopped}
 use Rattle.evaluator.specs.declared.Hand.{Hand}
 use Rattle.evaluator.specs.declared.Kept.{Kept}
-use Rattle.arms.specs.Registers.{registers_of, Sized}
-use Rattle.evaluator.specs.Banks.{forks_of, Nested}
+use Rattle.arms.specs.declared.Registers.{Registers}
+use Rattle.arms.specs.declared.Pile.{Pile}
+use Rattle.evaluator.specs.declared.Rows.{Rows}
+use Rattle.arms.specs.Registers.{Sized}
+use Rattle.evaluator.specs.Banks.{bank_of, forks_of, Nested}
 use Rattle.arms.specs.Code.{Decodes}
 use Rattle.arms.specs.Stacks.{Stacked, stack_of}
 use Rattle.arms.specs.Turns.{frame_at, rules, executed_of, Starts, RunsUntil}
 use Rattle.evaluator.specs.Sides.{Good, CanStep, made_of}
-use Rattle.evaluator.specs.Hands.{frame_from, Rows, rows_of, kept_of, low_of, hand_frame, kept_frame, pending_from, Point, LeadsTo}
+use Rattle.evaluator.specs.Hands.{frame_from, kept_of, low_of, hand_frame, kept_frame, pending_from, Point, LeadsTo}
 use Rattle.evaluator.specs.Hands.{hand_side, stepped_in, own_frame, Applied}
 use Rattle.evaluator.proofs.GoodLaws.{good_more, good_depth}
 use Rattle.evaluator.proofs.ForkLaws.{nested_same, nested_opened}
 use Rattle.evaluator.proofs.StackLaws.{low_top, low_same, low_most}
-use Rattle.evaluator.proofs.HandLaws.{is_running_lem, kept-stays}
+use Rattle.evaluator.proofs.HandLaws.{with_own, kept-stays}
 use Rattle.evaluator.proofs.OpeningLaws.{opened_under}
 use Rattle.evaluator.proofs.FrameLaws.{pending_same, pending_top, one-run, two_run, one-good, two_good}
 
-module _ (cells : List ℕ) (words : List ℤ) (interval : ℕ) (h : Hand) (rows : Rows) (p : Point cells h rows) (runs : h.what ≡ 0) where
+module _ (cells : List ℕ) (words : List ℤ) (interval : ℕ) (h : Hand) (rows : Rows) (p : Point cells h rows) (runs : h.status ≡ Running) where
   abbrev R : Rules Frame
   R = rules cells words interval
 
@@ -49,10 +53,10 @@ module _ (cells : List ℕ) (words : List ℤ) (interval : ℕ) (h : Hand) (rows
 
   -- its stack
   abbrev own_stack : Stacked
-  own_stack = stack_of rows.pile rows.tags h.low h.height
+  own_stack = stack_of rows.pile.nums rows.pile.kinds h.low h.height
 
   pub own_is : hand_frame h rows ≡ f
-  own_is = ap (λ w. frame_from w h.places h.depth (forks_of rows.recs h.depth) (h.pc / 4) (h.beat - h.left) (h.spun - h.left) own_stack (registers_of rows.nums rows.kinds)) runs
+  own_is = ap (λ w. frame_from w h.places h.depth (forks_of rows.records h.depth) (h.pc / 4) (h.beat - h.left) (h.spun - h.left) own_stack (bank_of rows.registers)) runs
 
   pub good : Good cells p.rank p.height (work_limit - h.left) f
   good = subst (Good cells p.rank p.height (work_limit - h.left)) own_is p.own_good
@@ -63,11 +67,11 @@ module _ (cells : List ℕ) (words : List ℤ) (interval : ℕ) (h : Hand) (rows
   -- ---- by itself
 
   pub starts : (code : List ℕ) → Decodes cells code
-      → Starts cells code rows.nums rows.kinds rows.pile rows.tags h.places h.depth h.left h.beat h.pc h.low h.height
+      → Starts cells code rows.registers.nums rows.registers.kinds rows.pile.nums rows.pile.kinds h.places h.depth h.left h.beat h.pc h.low h.height
   starts code d = record {
     rank = p.rank;
     height = p.height;
-    forks = forks_of rows.recs h.depth;
+    forks = forks_of rows.records h.depth;
     span = h.spun - h.left;
     room = p.room;
     its_is_formed = good.its_is_formed;
@@ -84,12 +88,12 @@ module _ (cells : List ℕ) (words : List ℤ) (interval : ℕ) (h : Hand) (rows
     counter_least = p.counter_least;
   }
 
-  module _ (z : Stopped) (nums kinds pile tags : List ℕ) (sized : Sized nums kinds)
-      (t : RunsUntil cells words interval h.places h.depth h.pc h.beat h.left h.low h.height rows.pile rows.tags
-      (registers_of rows.nums rows.kinds) z pile tags (registers_of nums kinds)) where
+  module _ (z : Stopped) (g : Registers) (u : Pile) (sized : Sized g.nums g.kinds)
+      (t : RunsUntil cells words interval h.places h.depth h.pc h.beat h.left h.low h.height rows.pile.nums rows.pile.kinds
+      (bank_of rows.registers) z u.nums u.kinds (bank_of g)) where
     abbrev h' : Hand
     h' = record {
-      what = 0;
+      status = Running;
       places = h.places;
       depth = h.depth;
       pc = z.pc;
@@ -101,10 +105,10 @@ module _ (cells : List ℕ) (words : List ℤ) (interval : ℕ) (h : Hand) (rows
     }
 
     abbrev rows' : Rows
-    rows' = rows_of nums kinds rows.bank rows.marks rows.recs rows.sides pile tags
+    rows' = with_own rows g u
 
     abbrev o : List Fork
-    o = forks_of rows.recs h.depth
+    o = forks_of rows.records h.depth
 
     span_is : h.spun - h.left + (h.left - z.left) ≡ h.spun - z.left
     span_is = omega (arith, t.runs.fewer, p.span_least)
@@ -113,10 +117,10 @@ module _ (cells : List ℕ) (words : List ℤ) (interval : ℕ) (h : Hand) (rows
     work_is = omega (arith, t.runs.fewer, p.limited)
 
     abbrev after : ℕ → Frame
-    after span = frame_at h.places h.depth o (z.pc / 4) (z.beat - z.left) span (stack_of pile tags h.low z.height) (registers_of nums kinds)
+    after span = frame_at h.places h.depth o (z.pc / 4) (z.beat - z.left) span (stack_of u.nums u.kinds h.low z.height) (bank_of g)
 
     same_kept : (i : ℕ) → i < h.depth → kept_frame rows' i ≡ kept_frame rows i
-    same_kept i l = kept-stays h rows nums kinds pile tags i t.same_below p.piled l
+    same_kept i l = kept-stays h rows g u i t.same_below p.piled l
 
     good-after : Good cells p.rank p.height (work_limit - z.left) (after (h.spun - z.left))
     good-after = record {
@@ -139,9 +143,9 @@ module _ (cells : List ℕ) (words : List ℤ) (interval : ℕ) (h : Hand) (rows
             (good_more cells p.rank (p.rank - (i + 1)) (kept_frame rows i) (omega (arith, t.runs.fewer)) (p.kept_good i l));
         full = record {
           sized = sized;
-          bank_full = p.full.bank_full;
-          marks_full = p.full.marks_full;
-          recs_full = p.full.recs_full;
+          banks_full = p.full.banks_full;
+          banks_sized = p.full.banks_sized;
+          records_full = p.full.records_full;
           sides_full = p.full.sides_full;
           pile_full = t.same_below.still_lies.pile_full;
           tags_full = t.same_below.still_lies.tags_full;
@@ -166,7 +170,7 @@ module _ (cells : List ℕ) (words : List ℤ) (interval : ℕ) (h : Hand) (rows
   -- ---- one that it does not carry out by itself
 
   module _ (some : 0 < h.left) where
-    pub can_step : CanStep cells (hand_side h rows.recs rows.nums rows.kinds)
+    pub can_step : CanStep cells (hand_side h rows.records rows.registers)
     can_step = record {
       rank = p.rank;
       height = p.height;
@@ -200,15 +204,6 @@ module _ (cells : List ℕ) (words : List ℤ) (interval : ℕ) (h : Hand) (rows
           ∙ ap (λ n. made_by e.kind f n e) (sym er)
           ∙ made_of_lem e.kind r e
 
-      -- a fault's number is one of the list
-      pub fault_least : e.kind ≡ Faults → 3 ≤ e.fault
-      fault_least k =
-          let g = one-good cells words interval f h.left some p.limited refl p.accepted_program p.rank p.height p.room good _
-          (steps-to ∙ ap (λ y. made_of y f r e) k) in
-          let x = formed_is (program_of cells) p.rank p.height _ g.its_is_formed in
-          let y = listed-within (version_of cells) e.fault (both_true (fault_listed (version_of cells) e.fault) _ x.its_status_fits).0 in
-          omega (arith, y.0)
-
       pub fork_room : e.kind ≡ Forks → h.depth < 6
       fork_room k =
           let g = two_good cells words interval f h.left some p.limited refl p.accepted_program p.rank p.height p.room good _ _
@@ -233,10 +228,10 @@ module _ (cells : List ℕ) (words : List ℤ) (interval : ℕ) (h : Hand) (rows
         same_lows : low_of rows'.sides h.depth ≡ low_of rows.sides h.depth
         same_lows = low_same rows.sides rows'.sides h.depth a.same_kept
 
-        below_none : (i : ℕ) → i < h.depth → (kept_of rows'.sides i).what ≡ 0 → (kept_of rows'.sides i).height ≡ 0
+        below_none : (i : ℕ) → i < h.depth → (kept_of rows'.sides i).status ≡ Running → (kept_of rows'.sides i).height ≡ 0
         below_none i l w =
             let e = a.same_kept i l in
-            ap (λ (k : Kept). k.height) e ∙ p.piled.none_yet i l (sym (ap (λ (k : Kept). k.what) e) ∙ w)
+            ap (λ (k : Kept). k.height) e ∙ p.piled.none_yet i l (sym (ap (λ (k : Kept). k.status) e) ∙ w)
 
         alone_leads : step (program_of cells) words (chosen interval) f ≡ one (hand_frame z rows') → LeadsTo cells words interval h rows z rows'
         alone_leads st =
@@ -259,7 +254,7 @@ module _ (cells : List ℕ) (words : List ℤ) (interval : ℕ) (h : Hand) (rows
                   own_low = a.same_low ∙ p.piled.own_low ∙ sym same_lows ∙ ap (low_of rows'.sides) (sym d);
                   none_yet = λ i l w. below_none i (omega (arith, d, l)) w;
                 };
-                nested = subst (Nested rows'.recs) (sym d) (nested_same rows.recs rows'.recs h.depth a.same_forks p.nested);
+                nested = subst (Nested rows'.records) (sym d) (nested_same rows.records rows'.records h.depth a.same_forks p.nested);
                 on_place = a.on_place;
                 kept_on_place = λ i l. below-place i (omega (arith, d, l));
                 counter_least = a.counter_least;
@@ -302,13 +297,13 @@ module _ (cells : List ℕ) (words : List ℤ) (interval : ℕ) (h : Hand) (rows
                     (λ b. absurd (omega (arith, b, d, l)));
                 full = a.still_full;
                 piled = record {
-                  own_low = a.same_low ∙ p.piled.own_low ∙ sym same_lows ∙ sym (low_top rows'.sides h.depth (ap (λ (x : Kept). x.what) (a.child_kept k)))
+                  own_low = a.same_low ∙ p.piled.own_low ∙ sym same_lows ∙ sym (low_top rows'.sides h.depth (ap (λ (x : Kept). x.status) (a.child_kept k)))
                       ∙ ap (low_of rows'.sides) (sym d);
                   none_yet = λ i l w. by_order i h.depth (λ b. below_none i b w)
                       (λ b. ap (λ m. (kept_of rows'.sides m).height) b ∙ ap (λ (x : Kept). x.height) (a.child_kept k))
                       (λ b. absurd (omega (arith, b, d, l)));
                 };
-                nested = subst (Nested rows'.recs) (sym d) (nested_opened rows.recs rows'.recs h.depth a.same_forks p.nested (a.record_kept k)
+                nested = subst (Nested rows'.records) (sym d) (nested_opened rows.records rows'.records h.depth a.same_forks p.nested (a.record_kept k)
                     (opened_under (program_of cells) words (chosen interval) f ee k));
                 on_place = a.on_place;
                 kept_on_place = λ i l. by_order i h.depth (λ b. below-place i b)
@@ -323,7 +318,7 @@ module _ (cells : List ℕ) (words : List ℤ) (interval : ℕ) (h : Hand) (rows
                   ∙ ap (λ n. run R n (onward R (hand_frame z rows') (to_come c ∷ s))) (sym a.less)
                   ∙ ap (λ x. run R z.left (onward R (hand_frame z rows') (to_come c ∷ x))) (sym same_pending)
                   ∙ ap (λ x. run R z.left (onward R (hand_frame z rows') x)) (sym (pending_top (kept_frame rows') h.depth true
-                  (is_running_lem (kept_of rows'.sides h.depth).what (ap (λ (x : Kept). x.what) (a.child_kept k)))))
+                  (ap (λ (x : Kept). is_running x.status) (a.child_kept k))))
                   ∙ ap (λ n. run R z.left (onward R (hand_frame z rows') (pending_from (kept_frame rows') n))) (sym d);
             }
 

@@ -7,8 +7,6 @@ use native.Mathlib.Omega.{arith}
 use lib.Dec.{eqb, ltb}
 use lib.IntN.{ℤ}
 use lib.ListN.{get_or}
-use mir.Syntax.{w64}
-use mir.Val.{to_z}
 use borrow.Author.Tests.{eqb-true, ltb-true}
 use Rattle.facts.proofs.Tests.{both_true}
 use Rattle.image.specs.declared.Instruction.{Instruction}
@@ -16,26 +14,24 @@ use Rattle.image.specs.Program.{Program}
 use Rattle.image.specs.Layout.{block_count, instruction_of, program_of}
 use Rattle.image.proofs.Accepted.{accepted, Accepted, InstructionAccepted}
 use Rattle.task.specs.declared.Value.{Value}
-use Rattle.task.specs.declared.Value.TheVariants.{Int, Label, Record}
+use Rattle.task.specs.declared.Value.TheVariants.{Label, Record}
 use Rattle.task.specs.declared.Register.{Register}
 use Rattle.task.specs.declared.Kind.TheVariants.{Faults}
 use Rattle.task.specs.declared.Fork.{Fork}
 use Rattle.task.specs.declared.Active.{Active}
 use Rattle.task.specs.declared.Frame.{Frame}
 use Rattle.task.specs.declared.Executed.{Executed}
-use Rattle.task.specs.Frames.{work_limit}
 use Rattle.task.specs.Choices.{Choices}
-use Rattle.task.specs.Effect.{asked, Op, fork, meet, unknown, opcodes, fits}
+use Rattle.task.specs.Effect.{asked, Op, fork, unknown, opcodes, fits}
 use Rattle.task.specs.Formed.{is_target, value_fits}
 use Rattle.task.specs.Step.{register, operand, active_of, promotes}
 use Rattle.task.specs.Execute.{going, ending, entering, counted_active, answered, executed}
 use Rattle.task.proofs.Formation.{Formed, formed_is}
 use Rattle.task.proofs.StepKeeps.{operand-fits}
-use Rattle.task.proofs.Counts.{Within, within_is}
-use Rattle.evaluator.specs.declared.Side.{Side}
 use Rattle.arms.specs.Registers.{value_of, registers_of, Sized, operand_by}
 use Rattle.arms.specs.Turns.{executed_of}
-use Rattle.evaluator.specs.Sides.{frame_of, CanStep}
+use Rattle.evaluator.specs.Banks.{bank_of}
+use Rattle.evaluator.specs.Sides.{Side, frame_of, CanStep}
 use Rattle.arms.proofs.RegisterLaws.{value-at}
 
 -- ---- the operand by its kind, as two numbers
@@ -43,15 +39,6 @@ use Rattle.arms.proofs.RegisterLaws.{value-at}
 pub pair-register : (nums kinds : List ℕ) (k o : ℕ) → Sized nums kinds → k ≡ 1 → o < 16
     → value_of (get_or kinds o 0) (get_or nums o 0) ≡ operand_by k o (registers_of nums kinds)
 pair-register nums kinds k o h e l = rw e (sym (value-at nums kinds o h l))
-
-pub pair-label : (k o : ℕ) (l : List Register) → k ≡ 2 → Label o ≡ operand_by k o l
-pair-label k o l e = rw e
-
-pub pair-number : (k o : ℕ) (l : List Register) → (k ≡ 1 → ⊥) → (k ≡ 2 → ⊥) → Int (to_z w64 o) ≡ operand_by k o l
-pair-number zero o l p q = refl
-pair-number (suc zero) o l p q = absurd (p refl)
-pair-number (suc (suc zero)) o l p q = absurd (q refl)
-pair-number (suc (suc (suc k))) o l p q = refl
 
 operand_as : (g : Frame) (i : Instruction) (k : ℕ) → k ≤ 3 → i.kind ≡ k → operand g i ≡ operand_by k i.operand g.registers
 unfolding operand
@@ -77,16 +64,6 @@ target_is cells k u l h = rw (record_is k u l) at h
 -- ---- a value that is none
 
 module _ (words : List ℤ) (choices : Choices) (program : Program) (u : ℕ) (t : Active) (l : List Fork) where
-  pub fork-no_record : (k : ℕ) (v : Value) → k < 2 → ending Faults 36 ≡ answered program words choices (value_of k u) v t l fork
-  fork-no_record zero v h = refl
-  fork-no_record (suc zero) v h = refl
-  fork-no_record (suc (suc k)) v h = absurd (omega arith)
-
-  pub meet_no_record : (k : ℕ) (s : Value) → k < 2 → ending Faults 36 ≡ answered program words choices s (value_of k u) t l meet
-  meet_no_record zero s h = refl
-  meet_no_record (suc zero) s h = refl
-  meet_no_record (suc (suc k)) s h = absurd (omega arith)
-
   pub fork-no-label : (j : ℕ) (s : Value) {c d : ℕ} {z : Bool} → s ≡ Record c d → z ≡ fits (record { continuation = c; depth = d }) t.depth l → z ≡ true
       → (j ≡ 1 → ⊥) → ending Faults 34 ≡ answered program words choices s (value_of j u) t l fork
   unfolding asked
@@ -112,9 +89,6 @@ module _ (cells : List ℕ) (own : Side) (can : CanStep cells own) where
   its : Formed (program_of cells) can.rank can.height g
   its = formed_is (program_of cells) can.rank can.height g can.good.its_is_formed
 
-  counts : Within can.before own.task
-  counts = within_is can.before g can.good.is_within
-
   pub ok : Accepted cells
   ok = accepted cells can.accepted_program
 
@@ -124,13 +98,10 @@ module _ (cells : List ℕ) (own : Side) (can : CanStep cells own) where
   pub place-below : own.task.pc < 1024
   place-below = omega (arith, its.pc_below, ok.few_instructions)
 
-  pub counter_below : own.task.counter < work_limit
-  counter_below = omega (arith, counts.counter_most, can.below_limit)
-
   pub depth_most : own.task.depth ≤ 6
   depth_most = omega (arith, its.has_depth, can.room)
 
-  module _ (sized : Sized own.nums own.kinds) (x : Instruction) (ex : x ≡ instruction_of cells own.task.pc) where
+  module _ (sized : Sized own.registers.nums own.registers.kinds) (x : Instruction) (ex : x ≡ instruction_of cells own.task.pc) where
     pub s-below : x.s < 16
     s-below = omega (arith, ap (λ (y : Instruction). y.s) ex, here.s_small)
 
@@ -141,10 +112,10 @@ module _ (cells : List ℕ) (own : Side) (can : CanStep cells own) where
     label_below h = omega (arith, ap (λ (y : Instruction). y.operand) ex, here.label_below (sym (ap (λ (y : Instruction). y.kind) ex) ∙ h))
 
     -- the two values
-    pub s_is : (stack : List Register) → value_of (get_or own.kinds x.s 0) (get_or own.nums x.s 0) ≡ register (frame_of own stack) x.s
-    s_is stack = sym (value-at own.nums own.kinds x.s sized s-below)
+    pub s_is : (stack : List Register) → value_of (get_or own.registers.kinds x.s 0) (get_or own.registers.nums x.s 0) ≡ register (frame_of own stack) x.s
+    s_is stack = sym (value-at own.registers.nums own.registers.kinds x.s sized s-below)
 
-    pub v_is : {w : Value} → w ≡ operand_by x.kind x.operand (registers_of own.nums own.kinds) → (stack : List Register) → w ≡ operand (frame_of own stack) x
+    pub v_is : {w : Value} → w ≡ operand_by x.kind x.operand (bank_of own.registers) → (stack : List Register) → w ≡ operand (frame_of own stack) x
     v_is e stack = e ∙ sym (operand_as (frame_of own stack) x x.kind (omega (arith, ap (λ (y : Instruction). y.kind) ex, here.kind_known)) refl)
 
     pub v_fits : {v : Value} → ((stack : List Register) → v ≡ operand (frame_of own stack) x) → value_fits (program_of cells) v ≡ true

@@ -1,9 +1,8 @@
--- The laws, in their order: live tasks; then by rows: banks, records, kept sides, stacks, the task in hand, the record that a fork is opened under,
+-- The laws, in their order: live tasks; then by rows: banks, records, stacks, the task in hand, the record that a fork is opened under,
 -- the loop over frames, its rounds, an ending instruction.
 pub mod GoodLaws
 pub mod BankLaws
 pub mod ForkLaws
-pub mod KeepLaws
 pub mod StackLaws
 pub mod HandLaws
 pub mod OpeningLaws

@@ -1,21 +1,27 @@
--- Banks of 16 registers in longer rows, and the records of open forks as a row of numbers.
-use Rattle.std.specs.Prelude.{◌≡◌, true, List, [], ◌∷◌, ℕ, zero, suc, ◌/◌, ◌%◌, ◌<◌, get_or}
-use Rattle.std.proofs.lemmas.List.Edits.{sets}
+-- Banks of 16 registers, one for each side that is kept, and the records of open forks as a row of numbers.
+use Rattle.std.specs.Prelude.{◌≡◌, true, List, [], ◌∷◌, ℕ, zero, suc, ◌/◌, ◌%◌, ◌<◌, get_or, set}
 use Rattle.task.specs.declared.Register.{Register}
 use Rattle.task.specs.declared.Fork.{Fork}
 use Rattle.task.specs.Frames.{zero_fork}
 use Rattle.task.specs.Effect.{fits}
-use Rattle.task.specs.Stretches.{reads}
+use Rattle.arms.specs.declared.Registers.{Registers}
 use Rattle.arms.specs.Registers.{registers_of}
 
--- the bank that begins at a place of the longer rows
-abbrev pub bank_from : List ℕ → List ℕ → ℕ → List Register
-bank_from nums kinds at = registers_of (reads 0 nums at 16) (reads 0 kinds at 16)
+-- one, and none
+abbrev pub bank_of : Registers → List Register
+bank_of r = registers_of r.nums r.kinds
 
--- a row of 16, and a stretch of a longer one
-pub record Exchanged (row kept row' kept' : List ℕ) (at : ℕ) : Type 0 where
-  pub taken : row' ≡ reads 0 kept at 16
-  pub given : kept' ≡ sets kept at row
+abbrev pub no_bank : Registers
+no_bank = record { nums = []; kinds = [] }
+
+-- that of the side kept at depth d
+abbrev pub bank_at : List Registers → ℕ → List Register
+bank_at banks d = bank_of (get_or banks d no_bank)
+
+-- registers, and the bank in a place
+pub record Exchanged (r : Registers) (banks : List Registers) (r' : Registers) (banks' : List Registers) (at : ℕ) : Type 0 where
+  pub taken : r' ≡ get_or banks at no_bank
+  pub given : banks' ≡ set banks at r
 
 -- a record as one number, as in a register
 abbrev pub fork_of : ℕ → Fork

@@ -1,4 +1,4 @@
 -- What the contracts of `evaluator` cite.
-pub mod Sides
 pub mod Banks
+pub mod Sides
 pub mod Hands

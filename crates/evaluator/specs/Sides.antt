@@ -1,4 +1,4 @@
--- A task with its registers in two rows (`Side`), and its stack, as a frame; a side that is kept as an open fork of `serial`; the job and its live tasks; and one
+-- A task with its registers (`Side`), and its stack, as a frame; a side that is kept as an open fork of `serial`; the job and its live tasks; and one
 -- instruction, whatever it is.
 use Rattle.std.specs.Prelude.{◌≡◌, Bool, true, false, cond, List, ℕ, ◌<◌, ◌≤◌, set}
 use Rattle.image.specs.Layout.{program_of}
@@ -7,6 +7,7 @@ use Rattle.agreement.specs.Plain.{Stepped, one, two}
 use Rattle.serial.specs.Serial.{Open, to_come, finished}
 use Rattle.task.specs.declared.Register.{Register}
 use Rattle.task.specs.declared.Status.TheVariants.{Waiting, Halted}
+use Rattle.task.specs.declared.Task.{Task}
 use Rattle.task.specs.declared.Frame.{Frame}
 use Rattle.task.specs.declared.Kind.{Kind}
 use Rattle.task.specs.declared.Kind.TheVariants.{Stores, Goes, Pushes, Pops, Waits, Halts, Faults, Forks}
@@ -15,12 +16,16 @@ use Rattle.task.specs.Frames.{running, work_limit}
 use Rattle.task.specs.Values.{record_of}
 use Rattle.task.specs.Formed.{formed, within}
 use Rattle.task.specs.Step.{counted, moved_to, ended, side, with_task, emptied, faulted, has_place, has_value, pushed, popped}
-use Rattle.evaluator.specs.declared.Side.{Side}
-use Rattle.arms.specs.Registers.{registers_of}
+use Rattle.arms.specs.declared.Registers.{Registers}
 use Rattle.arms.specs.Code.{Decodes}
+use Rattle.evaluator.specs.Banks.{bank_of}
+
+pub record Side : Type 0 where
+  pub task : Task
+  pub registers : Registers
 
 abbrev pub frame_of : Side → List Register → Frame
-frame_of s stack = record { task = s.task; registers = registers_of s.nums s.kinds; stack = stack }
+frame_of s stack = record { task = s.task; registers = bank_of s.registers; stack = stack }
 
 -- ---- The forks pending
 

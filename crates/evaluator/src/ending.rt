@@ -1,6 +1,6 @@
 // The instruction that the task in hand does not carry out by itself: a fault that its arm has found, or fork, join, halt, push or pop. Of the last
 // two the loop leaves those for which there is no place or no value; nothing here rests on that.
-ghost use Rattle.std.specs.Prelude.{◌≡◌, true, List, ℕ, ◌-◌, ◌/◌, ◌<◌, ◌≤◌, ℤ, length};
+ghost use Rattle.std.specs.Prelude.{◌≡◌, true, List, ℕ, ◌-◌, ◌/◌, ◌<◌, ◌≤◌, ℤ};
 ghost use Rattle.image.specs.Program.{Program};
 ghost use Rattle.image.specs.Layout.{program_of};
 ghost use Rattle.image.specs.Questions.{most_instructions, program_no};
@@ -11,29 +11,30 @@ ghost use Rattle.task.specs.Choices.{Choices, chosen};
 ghost use Rattle.task.specs.Effect.{fork, halt, meet, push};
 ghost use Rattle.task.specs.Formed.{value_fits};
 ghost use Rattle.task.specs.Execute.{answered};
-ghost use Rattle.arms.specs.Registers.{Sized, registers_of, value_of, operand_by};
-ghost use Rattle.evaluator.specs.Banks.{forks_of, Nested};
+ghost use Rattle.arms.specs.Registers.{value_of, operand_by};
+ghost use Rattle.evaluator.specs.Banks.{bank_of, forks_of, Nested};
 ghost use Rattle.arms.specs.Turns.{executed_of, Ends};
 ghost use Rattle.evaluator.specs.Sides.{frame_of, CanStep};
 ghost use Rattle.evaluator.specs.Hands.{hand_side};
 
-use crate::Hand;
 use crate::fitting::does_fit;
-use arms::Pair;
+use crate::{Hand, Rows};
 use arms::rows::value_of;
+use arms::{Code, Pair, Registers};
 use image::{Instruction, layout};
 use task::{Active, Executed, Kind, Value, results};
 
 // The operand's kind and bits.
-fn operand_pair(nums: &[u64], kinds: &[u8], x: Instruction) -> Pair
-    requires { Sized nums.now kinds.now × (x.kind ≡ 1 → x.operand < 16) }
-    ensures { value_of result.kind result.num ≡ operand_by x.kind x.operand (registers_of nums.now kinds.now) }
+fn operand_pair(registers: &Registers, x: Instruction) -> Pair
+    requires { x.kind ≡ 1 → x.operand < 16 }
+    ensures { value_of result.kind result.num ≡ operand_by x.kind x.operand (bank_of registers.now) }
 {
     if x.kind == 1 {
         let at = x.operand as usize;
-        let kind = kinds[at];
-        let num = nums[at];
-        return Pair { kind, num };
+        return Pair {
+            kind: registers.kinds[at],
+            num: registers.nums[at],
+        };
     }
     if x.kind == 2 {
         return Pair {
@@ -49,17 +50,17 @@ fn operand_pair(nums: &[u64], kinds: &[u8], x: Instruction) -> Pair
 
 // Opcode 12, of a task that has counted it: a record s that fits, a label v, two places. `ending` alone calls these four, with the values
 // of a well-formed task.
-fn fork_under(cells: &[u64], recs: &[u64], s: Pair, v: Pair, t: Active) -> Executed
-    requires { (program_no cells.now ≡ 0) × (value_fits (program_of cells.now) (value_of v.kind v.num) ≡ true) × (length recs.now ≡ 6) × (t.pc < most_instructions) × (t.depth ≤ 6)
-        × Nested recs.now t.depth }
+fn fork_under(cells: &[u64], records: &[u64; 6], s: Pair, v: Pair, t: Active) -> Executed
+    requires { (program_no cells.now ≡ 0) × (value_fits (program_of cells.now) (value_of v.kind v.num) ≡ true) × (t.pc < most_instructions) × (t.depth ≤ 6)
+        × Nested records.now t.depth }
     ensures { (w : List ℤ) (c : Choices) → result ≡ answered (program_of cells.now) w c (value_of s.kind s.num) (value_of v.kind
-        v.num) t (forks_of recs.now t.depth) fork }
+        v.num) t (forks_of records.now t.depth) fork }
 {
     if s.kind < 2 {
         return results::fault(36);
     }
     let under = s.num;
-    if !does_fit(recs, under, t.depth as u64) {
+    if !does_fit(records, under, t.depth as u64) {
         return results::fault(36);
     }
     if v.kind != 1 {
@@ -80,17 +81,17 @@ fn fork_under(cells: &[u64], recs: &[u64], s: Pair, v: Pair, t: Active) -> Execu
 }
 
 // Opcode 15, likewise: to the continuation, which is a join target and so never promotes; or the task waits.
-fn meet_under(cells: &[u64], recs: &[u64], v: Pair, t: Active) -> Executed
-    requires { (program_no cells.now ≡ 0) × (value_fits (program_of cells.now) (value_of v.kind v.num) ≡ true) × (length recs.now ≡ 6) × (t.depth ≤ 6)
-        × Nested recs.now t.depth }
+fn meet_under(cells: &[u64], records: &[u64; 6], v: Pair, t: Active) -> Executed
+    requires { (program_no cells.now ≡ 0) × (value_fits (program_of cells.now) (value_of v.kind v.num) ≡ true) × (t.depth ≤ 6)
+        × Nested records.now t.depth }
     ensures { (w : List ℤ) (interval : ℕ) (s : Value) → result ≡ answered (program_of cells.now) w (chosen interval) s (value_of v.kind
-        v.num) t (forks_of recs.now t.depth) meet }
+        v.num) t (forks_of records.now t.depth) meet }
 {
     if v.kind < 2 {
         return results::fault(36);
     }
     let under = v.num;
-    if !does_fit(recs, under, t.depth as u64) {
+    if !does_fit(records, under, t.depth as u64) {
         return results::fault(36);
     }
     if under % 4294967296 != (t.depth as u64) {
@@ -119,52 +120,39 @@ fn push_of(v: Pair, t: Active) -> Executed
     results::pass(Kind::Pushes, value, t)
 }
 
-// `act` alone calls it, and ensures `CanStep` and, by `Point`, `Nested`; `run_hand` ensures `Ends`. The call record and the interval are the
-// contract's: none of these instructions looks at them.
-pub fn ending(
-    cells: &[u64],
-    words: &[i64],
-    interval: u64,
-    what: u8,
-    hand: Hand,
-    nums: &[u64],
-    kinds: &[u8],
-    recs: &[u64],
-) -> Executed
-    requires { CanStep cells.now (hand_side hand recs.now nums.now kinds.now) × Sized nums.now kinds.now × (length recs.now ≡ 6) × (hand.left ≤ hand.beat)
-        × (what ≡ 0 → ⊥) × Ends cells.now words.now interval hand.places hand.depth what (hand.pc / 4) (hand.beat - hand.left) (registers_of nums.now kinds.now)
-        × Nested recs.now hand.depth }
-    ensures { (stack : List Register) → result ≡ executed_of (program_of cells.now) words.now (chosen interval) (frame_of (hand_side hand recs.now nums.now kinds.now) stack) }
-{
-    if what != 1 {
-        return results::fault(what);
+impl Hand {
+    // `act` alone calls it, and ensures `CanStep` and, by `Point`, `Nested`; `run_hand` ensures `Ends`. The call record and the interval are the
+    // contract's: none of these instructions looks at them.
+    pub fn ending(self, code: &Code, what: u8, rows: &Rows) -> Executed
+        requires { CanStep code.now.cells.now (hand_side self rows.now.records rows.now.registers) × (self.left ≤ self.beat) × (what ≡ 0 → ⊥)
+            × Ends code.now.cells.now code.now.words.now code.now.interval self.places self.depth what (self.pc / 4) (self.beat - self.left) (bank_of rows.now.registers)
+            × Nested rows.now.records self.depth }
+        ensures { (stack : List Register) → result ≡ executed_of (program_of code.now.cells.now) code.now.words.now (chosen code.now.interval)
+            (frame_of (hand_side self rows.now.records rows.now.registers) stack) }
+    {
+        if what != 1 {
+            return results::fault(what);
+        }
+        let at = self.pc / 4;
+        let x = layout::instruction_of(code.cells, at);
+        let t = results::count(Active {
+            places: self.places,
+            pc: at as u16,
+            counter: (self.beat - self.left) as u32,
+            depth: self.depth as u32,
+        });
+        let at_s = x.s as usize;
+        let s = Pair {
+            kind: rows.registers.kinds[at_s],
+            num: rows.registers.nums[at_s],
+        };
+        let v = operand_pair(&rows.registers, x);
+        match x.opcode {
+            12 => fork_under(code.cells, &rows.records, s, v, t),
+            15 => meet_under(code.cells, &rows.records, v, t),
+            16 => push_of(v, t),
+            17 => results::pass(Kind::Pops, Value::Int(0), t),
+            _ => halt_at(t),
+        }
     }
-    let at = hand.pc / 4;
-    let x = layout::instruction_of(cells, at);
-    let t = results::count(Active {
-        places: hand.places,
-        pc: at as u16,
-        counter: (hand.beat - hand.left) as u32,
-        depth: hand.depth as u32,
-    });
-    let at_s = x.s as usize;
-    let s = Pair {
-        kind: kinds[at_s],
-        num: nums[at_s],
-    };
-    let v = operand_pair(nums, kinds, x);
-    let opcode = x.opcode;
-    if opcode == 12 {
-        return fork_under(cells, recs, s, v, t);
-    }
-    if opcode == 15 {
-        return meet_under(cells, recs, v, t);
-    }
-    if opcode == 16 {
-        return push_of(v, t);
-    }
-    if opcode == 17 {
-        return results::pass(Kind::Pops, Value::Int(0), t);
-    }
-    halt_at(t)
 }

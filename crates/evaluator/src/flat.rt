@@ -3,133 +3,114 @@
 ghost use Rattle.std.specs.Prelude.{◌≡◌, true, false, ◌<◌};
 ghost use Rattle.agreement.specs.Plain.{eval};
 ghost use Rattle.serial.specs.Serial.{within_budget};
+ghost use Rattle.task.specs.declared.Status.TheVariants.{Running};
 ghost use Rattle.task.specs.Frames.{start_frame, work_limit};
 ghost use Rattle.arms.specs.Registers.{registers_of};
 ghost use Rattle.arms.specs.Code.{Decodes};
 ghost use Rattle.arms.specs.Turns.{rules};
-ghost use Rattle.evaluator.specs.Hands.{rows_of, Point, LeadsTo, over_by, weight, CanEvaluate, Finds, Closes};
+ghost use Rattle.evaluator.specs.Hands.{Point, LeadsTo, first_hand, over_by, weight, CanEvaluate, Finds, Closes};
 
-use crate::closing::{join_parent, take_child};
-use crate::hands::{act, run_hand};
-use crate::keeping::kept_at;
-use crate::{Finished, Hand};
+use crate::{Finished, Hand, Kept, Rows};
+use arms::{Code, Pile, Registers};
+use task::Status;
 
-fn is_over(hand: Hand) -> bool
-    ensures { result ≡ over_by hand.what hand.left hand.depth }
-{
-    if hand.what == 0 {
-        return hand.left == 0;
-    }
-    hand.depth == 0
-}
-
-// One round: a running task's instructions up to one that it does not carry out by itself, and that one; or what comes after the end of a side.
-fn advance(
-    cells: &[u64],
-    code: &[u64],
-    words: &[i64],
-    interval: u64,
-    hand: Hand,
-    nums: &mut [u64],
-    kinds: &mut [u8],
-    bank: &mut [u64],
-    marks: &mut [u8],
-    recs: &mut [u64],
-    sides: &mut [u64],
-    pile: &mut [u64],
-    tags: &mut [u8],
-) -> Hand
-    requires { Point cells.now hand (rows_of nums.old kinds.old bank.old marks.old recs.old sides.old pile.old tags.old) × Decodes cells.now code.now
-        × (over_by hand.what hand.left hand.depth ≡ false) }
-    ensures result_bound { weight result < weight hand }
-    ensures leads_to { LeadsTo cells.now words.now interval hand (rows_of nums.old kinds.old bank.old marks.old recs.old sides.old pile.old tags.old) result (rows_of nums.new kinds.new bank.new marks.new recs.new sides.new pile.new tags.new) }
-{
-    if hand.what == 0 {
-        let ran = run_hand(cells, code, words, interval, hand, nums, kinds, pile, tags);
-        if ran.what == 0 {
-            return ran.hand;
+impl Hand {
+    // A job's first task.
+    fn first(places: u64, budget: u64) -> Hand
+        ensures { result ≡ first_hand places budget }
+    {
+        Hand {
+            status: Status::Running,
+            places,
+            depth: 0,
+            pc: 0,
+            beat: budget,
+            left: budget,
+            spun: budget,
+            low: 0,
+            height: 0,
         }
-        return act(
-            cells, words, interval, ran.what, ran.hand, nums, kinds, bank, marks, recs, sides,
-            pile, tags,
-        );
     }
-    let k = kept_at(sides, (hand.depth - 1) as usize);
-    if k.what == 0 {
-        return take_child(hand, nums, kinds, bank, marks, sides);
+
+    fn is_over(self) -> bool
+        ensures { result ≡ over_by self.status self.left self.depth }
+    {
+        match self.status {
+            Status::Running => self.left == 0,
+            _ => self.depth == 0,
+        }
     }
-    join_parent(cells, hand, nums, kinds, bank, marks, recs, sides)
+
+    // One round: a running task's instructions up to one that it does not carry out by itself, and that one; or what comes after the end of a side.
+    fn advance(self, code: &Code, rows: &mut Rows) -> Hand
+        requires { Point code.now.cells.now self rows.old × Decodes code.now.cells.now code.now.code.now × (over_by self.status self.left self.depth ≡ false) }
+        ensures result_bound { weight result < weight self }
+        ensures leads_to { LeadsTo code.now.cells.now code.now.words.now code.now.interval self rows.old result rows.new }
+    {
+        if let Status::Running = self.status {
+            let ran = self.run_hand(code, rows);
+            if ran.what == 0 {
+                return ran.hand;
+            }
+            return ran.hand.act(code, ran.what, rows);
+        }
+        if let Status::Running = rows.sides[(self.depth - 1) as usize].status {
+            return self.take_child(rows);
+        }
+        self.join_parent(code.cells, rows)
+    }
 }
 
 // All of them.
-fn run_all(
-    cells: &[u64],
-    code: &[u64],
-    words: &[i64],
-    interval: u64,
-    first: Hand,
-    nums: &mut [u64],
-    kinds: &mut [u8],
-    bank: &mut [u64],
-    marks: &mut [u8],
-    recs: &mut [u64],
-    sides: &mut [u64],
-    pile: &mut [u64],
-    tags: &mut [u8],
-) -> Hand
-    requires { Point cells.now first (rows_of nums.old kinds.old bank.old marks.old recs.old sides.old pile.old tags.old) × Decodes cells.now code.now }
-    ensures depth_value { over_by result.what result.left result.depth ≡ true }
-    ensures leads_to { LeadsTo cells.now words.now interval first (rows_of nums.old kinds.old bank.old marks.old recs.old sides.old pile.old tags.old) result (rows_of nums.new kinds.new bank.new marks.new recs.new sides.new pile.new tags.new) }
+fn run_all(code: &Code, first: Hand, rows: &mut Rows) -> Hand
+    requires { Point code.now.cells.now first rows.old × Decodes code.now.cells.now code.now.code.now }
+    ensures depth_value { over_by result.status result.left result.depth ≡ true }
+    ensures leads_to { LeadsTo code.now.cells.now code.now.words.now code.now.interval first rows.old result rows.new }
 {
     let mut hand = first;
-    while !is_over(hand) {
-        hand = advance(
-            cells, code, words, interval, hand, nums, kinds, bank, marks, recs, sides, pile, tags,
-        );
+    while !hand.is_over() {
+        hand = hand.advance(code, rows);
     }
     hand
 }
 
 // Our crates alone call it: with an accepted program decoded by `decode`, the job's places, its first registers, and a budget that is at most the
 // work's limit. It leaves the last task's registers, but for those of a faulted one, which are 16 integers 0; its stack is handed to nobody.
-pub fn evaluate(
-    cells: &[u64],
-    code: &[u64],
-    words: &[i64],
-    interval: u64,
-    places: u64,
-    budget: u64,
-    nums: &mut [u64],
-    kinds: &mut [u8],
-) -> Finished
-    requires { CanEvaluate cells.now code.now places budget nums.old kinds.old }
-    ensures finds { Finds result nums.new kinds.new (within_budget budget (eval (rules cells.now words.now interval) work_limit (start_frame places (registers_of nums.old kinds.old)))) }
-    ensures left_value { result.what ≡ 0 → result.left ≡ 0 }
-    ensures closes { Closes cells.now result nums.new kinds.new }
+pub fn evaluate(code: &Code, places: u64, budget: u64, registers: &mut Registers) -> Finished
+    requires { CanEvaluate code.now.cells.now code.now.code.now places budget registers.old.nums registers.old.kinds }
+    ensures finds { Finds result registers.new.nums registers.new.kinds (within_budget budget (eval
+        (rules code.now.cells.now code.now.words.now code.now.interval) work_limit
+        (start_frame places (registers_of registers.old.nums registers.old.kinds)))) }
+    ensures left_value { result.status ≡ Running → result.left ≡ 0 }
+    ensures closes { Closes code.now.cells.now result registers.new.nums registers.new.kinds }
 {
-    let mut bank = [0u64; 96];
-    let mut marks = [0u8; 96];
-    let mut recs = [0u64; 6];
-    let mut sides = [0u64; 30];
-    let mut pile = [0u64; 224];
-    let mut tags = [0u8; 224];
-    let first = Hand {
-        what: 0,
-        places,
-        depth: 0,
-        pc: 0,
-        beat: budget,
-        left: budget,
-        spun: budget,
-        low: 0,
-        height: 0,
+    let mut rows = Rows {
+        // Row by row: the proof takes their lengths from reading them.
+        registers: Registers {
+            nums: registers.nums,
+            kinds: registers.kinds,
+        },
+        banks: [Registers {
+            nums: [0; 16],
+            kinds: [0; 16],
+        }; 6],
+        records: [0; 6],
+        sides: [Kept {
+            status: Status::Running,
+            places: 0,
+            pc: 0,
+            span: 0,
+            height: 0,
+        }; 6],
+        pile: Pile {
+            nums: [0; 224],
+            kinds: [0; 224],
+        },
     };
-    let z = run_all(
-        cells, code, words, interval, first, nums, kinds, &mut bank, &mut marks, &mut recs,
-        &mut sides, &mut pile, &mut tags,
-    );
+    let z = run_all(code, Hand::first(places, budget), &mut rows);
+    *registers = rows.registers;
     Finished {
-        what: z.what,
+        status: z.status,
         places: z.places,
         left: z.left,
         span: z.spun - z.left,

@@ -1,75 +1,22 @@
 // The task in hand: its instructions by itself, and then one that it does not carry out by itself.
-ghost use Rattle.std.specs.Prelude.{◌≡◌, List, ℕ, ◌*◌, ◌-◌, ◌/◌, ◌<◌, ◌≤◌, length, set};
-ghost use Rattle.std.proofs.lemmas.List.Edits.{sets};
+ghost use Rattle.std.specs.Prelude.{◌≡◌, ◌-◌, ◌/◌, ◌<◌, ◌≤◌, set};
 ghost use Rattle.task.specs.Values.{record_of};
-ghost use Rattle.task.specs.declared.Kind.TheVariants.{Faults, Forks};
-ghost use Rattle.arms.specs.Registers.{Sized, registers_of};
-ghost use Rattle.evaluator.specs.Banks.{fork_of};
+ghost use Rattle.task.specs.declared.Status.TheVariants.{Running};
+ghost use Rattle.task.specs.declared.Kind.TheVariants.{Forks};
 ghost use Rattle.arms.specs.Turns.{Starts, Ends};
-ghost use Rattle.evaluator.specs.Hands.{rows_of, Keeps, Full, Piled, Point, LeadsTo, Rests};
+ghost use Rattle.evaluator.specs.Banks.{bank_of, fork_of};
+ghost use Rattle.evaluator.specs.Hands.{Keeps, Full, Piled, Point, LeadsTo, Rests};
 ghost use Rattle.evaluator.specs.Hands.{gone_on, ended_with, parent_of, child_of, Pushed, Popped, Applied};
 
-use crate::banks::save;
-use crate::ending::ending;
-use crate::keeping::keep;
-use crate::{Hand, Kept, Ran};
-use arms::rows::{pair_of, put};
+use crate::{Hand, Kept, Ran, Rows};
+use arms::rows::pair_of;
 use arms::stacking::{pop_to, push_on};
 use arms::turning::run_on;
+use arms::{Code, Going, Pile, Registers};
 use image::layout;
-use task::{Executed, Kind, Value};
+use task::{Executed, Kind, Status, Value};
 
-// The instructions by itself. `evaluate` alone calls it, with a running task.
-pub fn run_hand(
-    cells: &[u64],
-    code: &[u64],
-    words: &[i64],
-    interval: u64,
-    hand: Hand,
-    nums: &mut [u64],
-    kinds: &mut [u8],
-    pile: &mut [u64],
-    tags: &mut [u8],
-) -> Ran
-    requires { Starts cells.now code.now nums.old kinds.old pile.old tags.old hand.places hand.depth hand.left hand.beat hand.pc hand.low
-        hand.height × (hand.what ≡ 0) }
-    ensures rests { Rests cells.now words.now interval hand result (registers_of nums.new kinds.new) }
-    ensures leads_to { (bank marks recs sides : List ℕ) → Point cells.now hand (rows_of nums.old kinds.old bank marks recs sides pile.old tags.old) → LeadsTo cells.now words.now interval hand (rows_of nums.old kinds.old bank marks recs sides pile.old tags.old) result.hand (rows_of nums.new kinds.new bank marks recs sides pile.new tags.new) }
-{
-    let ran = run_on(
-        cells,
-        code,
-        words,
-        nums,
-        kinds,
-        interval,
-        hand.places,
-        hand.depth,
-        hand.left,
-        hand.beat,
-        hand.pc,
-        pile,
-        tags,
-        hand.low,
-        hand.height,
-    );
-    Ran {
-        what: ran.what,
-        hand: Hand {
-            what: 0,
-            places: hand.places,
-            depth: hand.depth,
-            pc: ran.pc,
-            beat: ran.beat,
-            left: ran.left,
-            spun: hand.spun,
-            low: hand.low,
-            height: ran.height,
-        },
-    }
-}
-
-// The record that a fork is opened under, as one number.
+// The record that a fork is opened under, as one number; no fork is opened under another value.
 fn record_bits(v: Value) -> u64
     ensures { fork_of result ≡ record_of v }
 {
@@ -80,195 +27,167 @@ fn record_bits(v: Value) -> u64
     }
 }
 
-// An instruction has been counted, and the task goes on, with so many values on its stack. `apply` and what it calls alone call these three.
-fn go_on(hand: Hand, pc: u16, counter: u32, height: u64) -> Hand
-    requires { (0 < hand.left) × (hand.left ≤ 4294967295) }
-    ensures { result ≡ gone_on hand pc counter height }
-{
-    let left = hand.left - 1;
-    Hand {
-        what: 0,
-        places: hand.places,
-        depth: hand.depth,
-        pc: 4 * (pc as usize),
-        beat: left + (counter as u64),
-        left,
-        spun: hand.spun,
-        low: hand.low,
-        height,
-    }
-}
-
-fn end_with(hand: Hand, what: u64, height: u64) -> Hand
-    requires { 0 < hand.left }
-    ensures { result ≡ ended_with hand what height }
-{
-    Hand {
-        what,
-        places: hand.places,
-        depth: hand.depth,
-        pc: 0,
-        beat: hand.left - 1,
-        left: hand.left - 1,
-        spun: hand.spun,
-        low: hand.low,
-        height,
-    }
-}
-
-// The child's side is kept, with an empty stack, and the parent's goes on.
-fn open_fork(
-    hand: Hand,
-    under: u64,
-    e: Executed,
-    nums: &[u64],
-    kinds: &[u8],
-    bank: &mut [u64],
-    marks: &mut [u8],
-    recs: &mut [u64],
-    sides: &mut [u64],
-) -> Hand
-    requires { Sized nums.now kinds.now × (length bank.old ≡ 96) × (length marks.old ≡ 96) × (length recs.old ≡ 6) × (length sides.old ≡ 30) ×
-        (hand.depth < 6) × (0 < hand.left) × (hand.left ≤ 4294967295) × (hand.left ≤ hand.spun) }
-    ensures value { result ≡ parent_of hand e.pc e.counter }
-    ensures bank_after { bank.new ≡ sets bank.old (16 * hand.depth) nums.now }
-    ensures marks_after { marks.new ≡ sets marks.old (16 * hand.depth) kinds.now }
-    ensures recs_after { recs.new ≡ set recs.old hand.depth under }
-    ensures keeps { Keeps sides.old hand.depth (child_of hand e.child) sides.new }
-{
-    let at = hand.depth as usize;
-    let rest = hand.left - 1;
-    let places = hand.places / 2;
-    save(nums, kinds, bank, marks, 16 * at);
-    recs[at] = under;
-    let child = Kept {
-        what: 0,
-        places,
-        pc: 4 * (e.child as usize),
-        span: hand.spun - rest,
-        height: 0,
-    };
-    keep(sides, at, child);
-    Hand {
-        what: 0,
-        places,
-        depth: hand.depth + 1,
-        pc: 4 * (e.pc as usize),
-        beat: rest + (e.counter as u64),
-        left: rest,
-        spun: hand.spun,
-        low: hand.low,
-        height: hand.height,
-    }
-}
-
-// The value goes on the stack, where a place is left (42). `apply` alone calls these two: by `Point` the stack lies on the pile.
-fn push_value(hand: Hand, e: Executed, pile: &mut [u64], tags: &mut [u8]) -> Hand
-    requires { (length pile.old ≡ 224) × (length tags.old ≡ 224) × (hand.low ≤ 192) × (0 < hand.left) × (hand.left ≤ 4294967295) }
-    ensures { Pushed hand e pile.old tags.old result pile.new tags.new }
-{
-    let value = e.value;
-    let p = pair_of(value);
-    let height = push_on(pile, tags, hand.low, hand.height, p.num, p.kind);
-    if height == 33 {
-        return end_with(hand, 42, 0);
-    }
-    go_on(hand, e.pc, e.counter, height)
-}
-
-// The value pushed last goes to r, where there is one (43); its place on the pile is not in use any more.
-fn pop_value(
-    r: u64,
-    hand: Hand,
-    e: Executed,
-    nums: &mut [u64],
-    kinds: &mut [u8],
-    pile: &[u64],
-    tags: &[u8],
-) -> Hand
-    requires { Sized nums.old kinds.old × (length pile.now ≡ 224) × (length tags.now ≡ 224) × (hand.low ≤ 192) × (hand.height ≤ 32) × (r < 16) ×
-        (0 < hand.left) × (hand.left ≤ 4294967295) }
-    ensures { Popped hand r e pile.now tags.now nums.old kinds.old result nums.new kinds.new }
-{
-    let height = pop_to(nums, kinds, r as usize, pile, tags, hand.low, hand.height);
-    if height == 33 {
-        return end_with(hand, 43, 0);
-    }
-    go_on(hand, e.pc, e.counter, height)
-}
-
-// What an instruction makes of the task and of the rows. `act` alone calls it, below the work's limit; `Point` has what is said of the pile.
-fn apply(
-    r: u64,
-    e: Executed,
-    hand: Hand,
-    nums: &mut [u64],
-    kinds: &mut [u8],
-    bank: &mut [u64],
-    marks: &mut [u8],
-    recs: &mut [u64],
-    sides: &mut [u64],
-    pile: &mut [u64],
-    tags: &mut [u8],
-) -> Hand
-    requires { Full (rows_of nums.old kinds.old bank.old marks.old recs.old sides.old pile.old tags.old) × (r < 16) × (0 < hand.left) ×
-        (hand.left ≤ 4294967295) × (hand.left ≤ hand.spun) × (e.kind ≡ Forks → hand.depth < 6) × (e.kind ≡ Faults → 3 ≤ e.fault) ×
-        Piled hand sides.old × (hand.depth ≤ 6) × (hand.height ≤ 32) }
-    ensures { Applied hand (rows_of nums.old kinds.old bank.old marks.old recs.old sides.old pile.old tags.old) r e result (rows_of nums.new kinds.new bank.new marks.new recs.new sides.new pile.new tags.new) }
-{
-    let kind = e.kind;
-    let value = e.value;
-    match kind {
-        Kind::Stores => {
-            let p = pair_of(value);
-            put(nums, kinds, r as usize, p.num, p.kind);
-            go_on(hand, e.pc, e.counter, hand.height)
+impl Hand {
+    // The instructions by itself. `evaluate` alone calls it, with a running task.
+    pub fn run_hand(self, code: &Code, rows: &mut Rows) -> Ran
+        requires { Starts code.now.cells.now code.now.code.now rows.old.registers.nums rows.old.registers.kinds rows.old.pile.nums rows.old.pile.kinds
+            self.places self.depth self.left self.beat self.pc self.low self.height × (self.status ≡ Running) }
+        ensures rests { Rests code.now.cells.now code.now.words.now code.now.interval self result (bank_of rows.new.registers) }
+        ensures leads_to { Point code.now.cells.now self rows.old → LeadsTo code.now.cells.now code.now.words.now code.now.interval self rows.old result.hand
+            rows.new }
+    {
+        let going = Going {
+            places: self.places,
+            depth: self.depth,
+            left: self.left,
+            beat: self.beat,
+            pc: self.pc,
+            low: self.low,
+            height: self.height,
+        };
+        let ran = run_on(code, &mut rows.registers, &mut rows.pile, going);
+        Ran {
+            what: ran.what,
+            hand: Hand {
+                status: Status::Running,
+                places: self.places,
+                depth: self.depth,
+                pc: ran.pc,
+                beat: ran.beat,
+                left: ran.left,
+                spun: self.spun,
+                low: self.low,
+                height: ran.height,
+            },
         }
-        Kind::Goes => go_on(hand, e.pc, e.counter, hand.height),
-        Kind::Pushes => push_value(hand, e, pile, tags),
-        Kind::Pops => pop_value(r, hand, e, nums, kinds, pile, tags),
-        Kind::Waits => end_with(hand, 2, hand.height),
-        Kind::Halts => end_with(hand, 1, hand.height),
-        Kind::Faults => end_with(hand, e.fault as u64, 0),
-        Kind::Forks => open_fork(
-            hand,
-            record_bits(value),
-            e,
-            nums,
-            kinds,
-            bank,
-            marks,
-            recs,
-            sides,
-        ),
     }
-}
 
-// The instruction that the task does not carry out by itself. `evaluate` alone calls it, with a running task and something left; `run_hand` ensures
-// `Ends`.
-pub fn act(
-    cells: &[u64],
-    words: &[i64],
-    interval: u64,
-    what: u8,
-    hand: Hand,
-    nums: &mut [u64],
-    kinds: &mut [u8],
-    bank: &mut [u64],
-    marks: &mut [u8],
-    recs: &mut [u64],
-    sides: &mut [u64],
-    pile: &mut [u64],
-    tags: &mut [u8],
-) -> Hand
-    requires { Point cells.now hand (rows_of nums.old kinds.old bank.old marks.old recs.old sides.old pile.old tags.old) × (hand.what ≡ 0) × (0 < hand.left)
-        × (what ≡ 0 → ⊥) × Ends cells.now words.now interval hand.places hand.depth what (hand.pc / 4) (hand.beat - hand.left) (registers_of nums.old kinds.old) }
-    ensures left_lt_left { result.left < hand.left }
-    ensures leads_to { LeadsTo cells.now words.now interval hand (rows_of nums.old kinds.old bank.old marks.old recs.old sides.old pile.old tags.old) result (rows_of nums.new kinds.new bank.new marks.new recs.new sides.new pile.new tags.new) }
-{
-    let x = layout::instruction_of(cells, hand.pc / 4);
-    let e = ending(cells, words, interval, what, hand, nums, kinds, recs);
-    apply(
-        x.r, e, hand, nums, kinds, bank, marks, recs, sides, pile, tags,
-    )
+    // An instruction has been counted, and the task goes on, with so many values on its stack. `apply` and what it calls alone call these three.
+    fn go_on(self, pc: u16, counter: u32, height: u64) -> Hand
+        requires { (0 < self.left) × (self.left ≤ 4294967295) }
+        ensures { result ≡ gone_on self pc counter height }
+    {
+        let left = self.left - 1;
+        Hand {
+            status: Status::Running,
+            places: self.places,
+            depth: self.depth,
+            pc: 4 * (pc as usize),
+            beat: left + (counter as u64),
+            left,
+            spun: self.spun,
+            low: self.low,
+            height,
+        }
+    }
+
+    fn end_with(self, status: Status, height: u64) -> Hand
+        requires { 0 < self.left }
+        ensures { result ≡ ended_with self status height }
+    {
+        Hand {
+            status,
+            places: self.places,
+            depth: self.depth,
+            pc: 0,
+            beat: self.left - 1,
+            left: self.left - 1,
+            spun: self.spun,
+            low: self.low,
+            height,
+        }
+    }
+
+    // The child's side is kept, with an empty stack, and the parent's goes on.
+    fn open_fork(self, under: u64, e: Executed, rows: &mut Rows) -> Hand
+        requires { (self.depth < 6) × (0 < self.left) × (self.left ≤ 4294967295) × (self.left ≤ self.spun) }
+        ensures value { result ≡ parent_of self e.pc e.counter }
+        ensures banks_after { rows.new.banks ≡ set rows.old.banks self.depth rows.old.registers }
+        ensures records_after { rows.new.records ≡ set rows.old.records self.depth under }
+        ensures keeps { Keeps rows.old.sides self.depth (child_of self e.child) rows.new.sides }
+        ensures same_registers { rows.new.registers ≡ rows.old.registers }
+        ensures same_pile { rows.new.pile ≡ rows.old.pile }
+    {
+        let at = self.depth as usize;
+        let rest = self.left - 1;
+        let places = self.places / 2;
+        rows.save(at);
+        rows.records[at] = under;
+        rows.sides[at] = Kept {
+            status: Status::Running,
+            places,
+            pc: 4 * (e.child as usize),
+            span: self.spun - rest,
+            height: 0,
+        };
+        Hand {
+            status: Status::Running,
+            places,
+            depth: self.depth + 1,
+            pc: 4 * (e.pc as usize),
+            beat: rest + (e.counter as u64),
+            left: rest,
+            spun: self.spun,
+            low: self.low,
+            height: self.height,
+        }
+    }
+
+    // The value goes on the stack, where a place is left (42). `apply` alone calls these two: by `Point` the stack lies on the pile.
+    fn push_value(self, e: Executed, pile: &mut Pile) -> Hand
+        requires { (self.low ≤ 192) × (0 < self.left) × (self.left ≤ 4294967295) }
+        ensures { Pushed self e pile.old.nums pile.old.kinds result pile.new.nums pile.new.kinds }
+    {
+        let p = pair_of(e.value);
+        match push_on(pile, self.low, self.height, p.num, p.kind) {
+            Some(height) => self.go_on(e.pc, e.counter, height),
+            None => self.end_with(Status::Faulted(42), 0),
+        }
+    }
+
+    // The value pushed last goes to r, where there is one (43); its place on the pile is not in use any more.
+    fn pop_value(self, r: u64, e: Executed, registers: &mut Registers, pile: &Pile) -> Hand
+        requires { (self.low ≤ 192) × (self.height ≤ 32) × (r < 16) × (0 < self.left) × (self.left ≤ 4294967295) }
+        ensures { Popped self r e pile.now.nums pile.now.kinds registers.old.nums registers.old.kinds result registers.new.nums registers.new.kinds }
+    {
+        match pop_to(registers, r as usize, pile, self.low, self.height) {
+            Some(height) => self.go_on(e.pc, e.counter, height),
+            None => self.end_with(Status::Faulted(43), 0),
+        }
+    }
+
+    // What an instruction makes of the task and of the rows. `act` alone calls it, below the work's limit; `Point` has what is said of the pile.
+    fn apply(self, r: u64, e: Executed, rows: &mut Rows) -> Hand
+        requires { Full rows.old × (r < 16) × (0 < self.left) × (self.left ≤ 4294967295) × (self.left ≤ self.spun) × (e.kind ≡ Forks → self.depth < 6) ×
+            Piled self rows.old.sides × (self.depth ≤ 6) × (self.height ≤ 32) }
+        ensures { Applied self rows.old r e result rows.new }
+    {
+        match e.kind {
+            Kind::Stores => {
+                let p = pair_of(e.value);
+                rows.registers.put(r as usize, p.num, p.kind);
+                self.go_on(e.pc, e.counter, self.height)
+            }
+            Kind::Goes => self.go_on(e.pc, e.counter, self.height),
+            Kind::Pushes => self.push_value(e, &mut rows.pile),
+            Kind::Pops => self.pop_value(r, e, &mut rows.registers, &rows.pile),
+            Kind::Waits => self.end_with(Status::Waiting, self.height),
+            Kind::Halts => self.end_with(Status::Halted, self.height),
+            Kind::Faults => self.end_with(Status::Faulted(e.fault), 0),
+            Kind::Forks => self.open_fork(record_bits(e.value), e, rows),
+        }
+    }
+
+    // The instruction that the task does not carry out by itself. `evaluate` alone calls it, with a running task and something left; `run_hand`
+    // ensures `Ends`.
+    pub fn act(self, code: &Code, what: u8, rows: &mut Rows) -> Hand
+        requires { Point code.now.cells.now self rows.old × (self.status ≡ Running) × (0 < self.left) × (what ≡ 0 → ⊥)
+            × Ends code.now.cells.now code.now.words.now code.now.interval self.places self.depth what (self.pc / 4) (self.beat - self.left) (bank_of rows.old.registers) }
+        ensures left_lt_left { result.left < self.left }
+        ensures leads_to { LeadsTo code.now.cells.now code.now.words.now code.now.interval self rows.old result rows.new }
+    {
+        let x = layout::instruction_of(code.cells, self.pc / 4);
+        let e = self.ending(code, what, rows);
+        self.apply(x.r, e, rows)
+    }
 }

@@ -2,7 +2,8 @@
 // order is and proves that it finds what the plain evaluation finds.
 #![tactic(auto)]
 
-use task::Task;
+use arms::{Pile, Registers};
+use task::Status;
 
 mod banks;
 mod closing;
@@ -10,22 +11,12 @@ mod ending;
 mod fitting;
 pub mod flat;
 mod hands;
-mod keeping;
 
-// A task with its registers; its stack stands beside it.
-#[derive(Clone, Copy)]
-pub struct Side {
-    pub task: Task,
-    pub nums: [u64; 16],
-    pub kinds: [u8; 16],
-}
-
-// The task in hand, but for its registers and the records of its open forks. What it does: 0 it runs, 1 it has halted, 2 it waits; any other
-// number is its fault's. Its counter is the difference of `beat` and what is left of the budget, its span that of `spun`. Its stack begins at
-// `low` of the pile and has `height` values.
+// The task in hand, but for its registers and the records of its open forks. Its counter is the difference of `beat` and what is left of the budget,
+// its span that of `spun`. Its stack begins at `low` of the pile and has `height` values.
 #[derive(Clone, Copy)]
 pub struct Hand {
-    pub what: u64,
+    pub status: Status,
     pub places: u64,
     pub depth: u64,
     pub pc: usize,
@@ -36,7 +27,7 @@ pub struct Hand {
     pub height: u64,
 }
 
-// The task in hand after its instructions by itself, and what its next one is, as in `Stopped`.
+// The task in hand after its instructions by itself, and what its next one is: the number of `Stopped`, of which `Ends` (crate arms) speaks.
 #[derive(Clone, Copy)]
 pub struct Ran {
     pub what: u8,
@@ -47,17 +38,28 @@ pub struct Ran {
 // below that of the child.
 #[derive(Clone, Copy)]
 pub struct Kept {
-    pub what: u64,
+    pub status: Status,
     pub places: u64,
     pub pc: usize,
     pub span: u64,
     pub height: u64,
 }
 
-// How an evaluation ended: 0 the budget was used up, else as in `Hand`.
+// What stands beside the task in hand: its registers; of each side that is kept, outermost first, a bank of registers, its fork's record and its
+// numbers; and the pile, on which the stacks lie.
+#[derive(Drop)]
+pub struct Rows {
+    pub registers: Registers,
+    pub banks: [Registers; 6],
+    pub records: [u64; 6],
+    pub sides: [Kept; 6],
+    pub pile: Pile,
+}
+
+// How an evaluation ended: the last task has halted or has a fault, or it runs still, and the budget was used up.
 #[derive(Clone, Copy)]
 pub struct Finished {
-    pub what: u64,
+    pub status: Status,
     pub places: u64,
     pub left: u64,
     pub span: u64,

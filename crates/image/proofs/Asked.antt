@@ -77,19 +77,11 @@ module _ (f : ℕ → ℕ) (to i : ℕ) where
   none : to ≤ i → to - i ≡ 0
   none h = omega arith
 
-  one : i + 1 ≡ to → to - i ≡ 1
-  one h = omega arith
-
   pub its_goes_on : i < to → f i ≡ 0 → first_no f (to - i) i ≡ first_no f (to - (i + 1)) (i + 1)
   its_goes_on h e = first-no-skips f (to - i) i (omega arith) e ∙ ap (λ (n : ℕ). first_no f n (i + 1)) (rest h)
 
   pub decides : i < to → (f i ≡ 0 → ⊥) → first_no f (to - i) i ≡ f i
   decides h e = first-no-stops f (to - i) i (omega arith) e
-
-  -- the last one
-  pub closes : i + 1 ≡ to → first_no f (to - i) i ≡ f i
-  unfolding first_no
-  closes h = rw (one h) (or_else_none (f i))
 
   pub no_more : to ≤ i → first_no f (to - i) i ≡ 0
   unfolding first_no

@@ -1,4 +1,5 @@
 pub mod Asked
+pub mod Refusals
 pub mod Versions
 pub mod Counts
 pub mod Pairs
@@ -7,7 +8,6 @@ pub mod Rows
 pub mod Walking
 pub mod Buffer
 pub mod Header
-pub mod Copying
 pub mod Accepted
 pub mod Written
 pub mod Limiting

@@ -1,23 +1,23 @@
 -- Question 8 by limits: a field is as laid out when it does not pass its limit.
-use mathlib.Core.Path.{◌≡◌, refl, sym, ap, ap₂, ◌∙◌, subst}
+use mathlib.Core.Path.{◌≡◌, refl, sym, ap, ap₂, ◌∙◌}
 use mathlib.Core.Bool.{Bool, true, false}
-use mathlib.Core.List.{List, [], ◌∷◌, ◌++◌}
-use Prim.Native.Nat.{ℕ, zero, suc, ◌+◌, ◌-◌, ◌*◌, ◌/◌, ◌%◌, ◌<◌, ◌≤◌}
+use mathlib.Core.List.{List}
+use Prim.Native.Nat.{ℕ, zero, suc, ◌+◌, ◌-◌, ◌*◌, ◌<◌, ◌≤◌}
 use native.Mathlib.Omega.{arith}
-use lib.ListN.{length, get_or, set}
-use lib.Seq.{sets, get_or-append-add}
+use lib.ListN.{length, get_or}
 use lib.Dec.{eqb, ltb, leb}
-use borrow.Author.Tests.{le-leb, lt-leb, ne_eqb, ltb-true, ltb-false}
+use borrow.Author.Tests.{le-leb, lt-leb, eq-eqb, ne_eqb, ltb-true, ltb-false}
 use Rattle.facts.proofs.Tests.{by-below}
 use Rattle.image.specs.declared.Instruction.{Instruction}
-use Rattle.image.specs.Layout.{rows, instruction_cell, version_of, block_count, instruction_count, instruction_of, program_of}
+use Rattle.image.specs.Layout.{instruction_cell, version_of, block_count, instruction_count, instruction_of, program_of}
 use Rattle.image.specs.Questions.{last_opcode, fields, has_r, has_s, has_v, has, register, operand_fits, laid_out, last_in_block, instruction_no}
 use Rattle.image.specs.Records.{instruction_record_no}
 use Rattle.image.specs.Marks.{Ended}
-use Rattle.image.specs.Limits.{limit_row, limits_at, no_opcode, limit_rows, largest_of, Limited, blocks_by}
-use Rattle.image.proofs.Rows.{placed, length-rows, get_d_rows, row-placed}
-use Rattle.image.proofs.Marking.{mark_told}
-use Rattle.image.proofs.Written.{sets-whole}
+use Rattle.image.specs.declared.questions.Fields.{Fields}
+use Rattle.image.specs.declared.questions.Limits.{Limits}
+use Rattle.image.specs.Limits.{flags_of, limit_row, no_opcode, limits_of, largest_of, Limited, blocks_by}
+use Rattle.std.specs.Prelude.{map}
+use Rattle.std.proofs.lemmas.List.{get_or-map}
 
 -- ---- one field
 
@@ -69,33 +69,14 @@ operand_limit blocks (suc (suc h)) k o b w q e f = absurd (omega arith)
 
 -- ---- the rows
 
-pub row_put : (l : List ℕ) (at flags r s v : ℕ) → r ≡ flags / has_r % 2 → s ≡ flags / has_s % 2 → v ≡ flags / has_v % 2
-    → set (set (set (set l at (15 * r)) (at + 1) (15 * s)) (at + 2) v) (at + 3) (3 * v) ≡ sets l at (limit_row flags)
-row_put l at flags r s v p q e =
-    let a = 15 * (flags / has_r % 2) in
-    let b = 15 * (flags / has_s % 2) in
-    let d = flags / has_v % 2 in
-    let two = placed l _ _ at (at + 1) (a ∷ []) (b ∷ []) refl refl refl in
-    let three = placed l _ _ at (at + 2) (a ∷ b ∷ []) (d ∷ []) two refl refl in
-    rw (p, q, e) (placed l _ _ at (at + 3) (a ∷ b ∷ d ∷ []) (3 * d ∷ []) three refl refl)
-
-pub row-filled : (table l l₁ l₂ : List ℕ) (n : ℕ) → table ≡ fields → l₁ ≡ sets l 4 (rows limits_at n)
-    → l₂ ≡ sets l₁ (4 + 4 * n) (limit_row (get_or table n 0)) → l₂ ≡ sets l 4 (rows limits_at (n + 1))
-row-filled table l l₁ l₂ n e p q =
-    row-placed limits_at 4 (λ b. refl) l l₁ l₂ 4 n p (q ∙ ap (λ (t : List ℕ). sets l₁ (4 + 4 * n) (limit_row (get_or t n 0))) e)
-
-pub limits_length : length limit_rows ≡ 72
-unfolding limit_rows
-limits_length = omega (arith, length-rows limits_at 4 (λ b. refl) 17)
-
-pub limits_filled : (l l₁ l₂ : List ℕ) → length l ≡ 72 → l₁ ≡ sets l 0 no_opcode → l₂ ≡ sets l₁ 4 (rows limits_at 17) → l₂ ≡ limit_rows
-unfolding limit_rows
-limits_filled l l₁ l₂ e p q =
-    placed l l₁ l₂ 0 4 no_opcode (rows limits_at 17) p q refl ∙ sets-whole l (no_opcode ++ rows limits_at 17) (limits_length ∙ sym e)
+-- the code's table
+pub row_of : (table : List Fields) (i : ℕ) (d : Fields) → map flags_of table ≡ fields → length table ≡ 17 → i < 17
+    → limit_row (flags_of (get_or table i d)) ≡ limit_row (get_or fields i 0)
+row_of table i d e l h = ap limit_row (sym (get_or-map flags_of table i d 0 (omega (arith, l))) ∙ ap (λ (r : List ℕ). get_or r i 0) e)
 
 -- the largest label tells the number of blocks
-pub blocks_told : (opcodes blocks : ℕ) (limits largest : List ℕ) → Limited opcodes blocks limits largest → blocks_by largest ≡ blocks
-blocks_told opcodes blocks limits largest L = ap (λ (l : List ℕ). blocks_by l) L.largest_are ∙ omega (arith, L.some_block)
+pub blocks_told : (opcodes blocks : ℕ) (largest : List ℕ) → Limited opcodes blocks largest → blocks_by largest ≡ blocks
+blocks_told opcodes blocks largest L = ap (λ (l : List ℕ). blocks_by l) L.largest_are ∙ omega (arith, L.some_block)
 
 -- ---- an instruction
 
@@ -112,49 +93,32 @@ pub past-opcodes : (opcodes blocks : ℕ) (x : Instruction) → opcodes < x.opco
 unfolding laid_out
 past-opcodes opcodes blocks x h = rw (le-leb 1 x.opcode (omega arith), lt-leb x.opcode opcodes h)
 
-module _ (N B : ℕ) (limits largest : List ℕ) (L : Limited N B limits largest) (x : Instruction) (most : x.opcode ≤ N) where
-  abbrev row : ℕ
-  row = 4 * x.opcode
-
-  pub row_inside : row + 3 < length limits
-  row_inside = omega (arith, ap (λ (l : List ℕ). length l) L.limits_are, limits_length, L.few_opcodes)
-
-  pub four_largest : length largest ≡ 4
-  four_largest = ap (λ (l : List ℕ). length l) L.largest_are
-
-  -- opcode 0 has the first row
-  none_limit : (k j : ℕ) → x.opcode < 1 → k ≡ row + j → get_or limits k 0 ≡ get_or limit_rows j 0
-  none_limit k j none e =
-      let z : k ≡ j = omega arith in
-      ap (λ (l : List ℕ). get_or l k 0) L.limits_are ∙ ap (λ (n : ℕ). get_or limit_rows n 0) z
-
-  no_kind : x.opcode < 1 → (get_or limits (row + 2) 0 ≡ 1) × (get_or limits (row + 3) 0 ≡ 0)
-  unfolding limit_rows
-  no_kind none = (none_limit (row + 2) 2 none refl, none_limit (row + 3) 3 none refl)
+module _ (N B : ℕ) (largest : List ℕ) (L : Limited N B largest) (x : Instruction) (most : x.opcode ≤ N) (row : Limits) (its : row ≡ limits_of x.opcode) where
+  no_kind : x.opcode < 1 → (row.least ≡ 1) × (row.most ≡ 0)
+  unfolding limits_of
+  no_kind none =
+      let e : row ≡ no_opcode = its ∙ rw (eq-eqb x.opcode 0 (omega arith)) in
+      (ap (λ (l : Limits). l.least) e, ap (λ (l : Limits). l.most) e)
 
   -- 1 to 17 have the table's
   module _ (least : 1 ≤ x.opcode) where
-    at_limit : (k j : ℕ) → k ≡ row + j → j < 4 → get_or limits k 0 ≡ get_or (limit_row (get_or fields (x.opcode - 1) 0)) j 0
-    unfolding limit_rows
-    at_limit k j e q =
-        let z : k ≡ 4 + (4 * (x.opcode - 1) + j) = omega (arith, least) in
-        ap (λ (l : List ℕ). get_or l k 0) L.limits_are ∙ ap (λ (n : ℕ). get_or limit_rows n 0) z
-        ∙ get_or-append-add no_opcode (rows limits_at 17) (4 * (x.opcode - 1) + j) 0
-        ∙ get_d_rows limits_at 4 (λ b. refl) 17 (x.opcode - 1) j (omega (arith, L.few_opcodes)) q
+    some_row : row ≡ limit_row (get_or fields (x.opcode - 1) 0)
+    unfolding limits_of
+    some_row = its ∙ rw (ne_eqb x.opcode 0 (λ z. omega arith))
 
-    most_r : get_or limits row 0 ≡ 15 * has x.opcode has_r
-    most_r = at_limit row 0 (omega arith) (omega arith)
+    most_r : row.r ≡ 15 * has x.opcode has_r
+    most_r = ap (λ (l : Limits). l.r) some_row
 
-    most_s : get_or limits (row + 1) 0 ≡ 15 * has x.opcode has_s
-    most_s = at_limit (row + 1) 1 refl (omega arith)
+    most_s : row.s ≡ 15 * has x.opcode has_s
+    most_s = ap (λ (l : Limits). l.s) some_row
 
-    least-kind : get_or limits (row + 2) 0 ≡ has x.opcode has_v
-    least-kind = at_limit (row + 2) 2 refl (omega arith)
+    least-kind : row.least ≡ has x.opcode has_v
+    least-kind = ap (λ (l : Limits). l.least) some_row
 
-    most_kind : get_or limits (row + 3) 0 ≡ 3 * has x.opcode has_v
-    most_kind = at_limit (row + 3) 3 refl (omega arith)
+    most_kind : row.most ≡ 3 * has x.opcode has_v
+    most_kind = ap (λ (l : Limits). l.most) some_row
 
-    some_beyond-r : get_or limits row 0 < x.r → laid_out N B x ≡ false
+    some_beyond-r : row.r < x.r → laid_out N B x ≡ false
     unfolding laid_out
     some_beyond-r h = rw (
       le-leb 1 x.opcode least,
@@ -163,10 +127,10 @@ module _ (N B : ℕ) (limits largest : List ℕ) (L : Limited N B limits largest
       lt-leb x.r (15 * has x.opcode has_r) (omega (arith, most_r)),
     )
 
-    r_tested : x.r ≤ get_or limits row 0 → register (has x.opcode has_r) x.r ≡ true
+    r_tested : x.r ≤ row.r → register (has x.opcode has_r) x.r ≡ true
     r_tested fits = register_limit (has x.opcode has_r) x.r (omega arith) ∙ le-leb x.r (15 * has x.opcode has_r) (omega (arith, most_r))
 
-    some_beyond-s : x.r ≤ get_or limits row 0 → get_or limits (row + 1) 0 < x.s → laid_out N B x ≡ false
+    some_beyond-s : x.r ≤ row.r → row.s < x.s → laid_out N B x ≡ false
     unfolding laid_out
     some_beyond-s fits h = rw (
       le-leb 1 x.opcode least,
@@ -176,10 +140,10 @@ module _ (N B : ℕ) (limits largest : List ℕ) (L : Limited N B limits largest
       lt-leb x.s (15 * has x.opcode has_s) (omega (arith, most_s)),
     )
 
-    s_tested : x.s ≤ get_or limits (row + 1) 0 → register (has x.opcode has_s) x.s ≡ true
+    s_tested : x.s ≤ row.s → register (has x.opcode has_s) x.s ≡ true
     s_tested fits = register_limit (has x.opcode has_s) x.s (omega arith) ∙ le-leb x.s (15 * has x.opcode has_s) (omega (arith, most_s))
 
-    operand-left : x.r ≤ get_or limits row 0 → x.s ≤ get_or limits (row + 1) 0 → laid_out N B x ≡ operand_fits B (has x.opcode has_v) x.kind x.operand
+    operand-left : x.r ≤ row.r → x.s ≤ row.s → laid_out N B x ≡ operand_fits B (has x.opcode has_v) x.kind x.operand
     unfolding laid_out
     operand-left r s = rw (le-leb 1 x.opcode least, le-leb x.opcode N most, r_tested r, s_tested s)
 
@@ -188,42 +152,38 @@ module _ (N B : ℕ) (limits largest : List ℕ) (L : Limited N B limits largest
   by-opcode : {A : Type 0} → (x.opcode < 1 → A) → (1 ≤ x.opcode → A) → A
   by-opcode none some = by-below x.opcode 1 none some
 
-  pub beyond-r : get_or limits row 0 < x.r → laid_out N B x ≡ false
+  pub beyond-r : row.r < x.r → laid_out N B x ≡ false
   beyond-r h = by-opcode (no-opcode N B x) (λ least. some_beyond-r least h)
 
-  module _ (r-fits : x.r ≤ get_or limits row 0) where
-    pub beyond-s : get_or limits (row + 1) 0 < x.s → laid_out N B x ≡ false
+  module _ (r-fits : x.r ≤ row.r) where
+    pub beyond-s : row.s < x.s → laid_out N B x ≡ false
     beyond-s h = by-opcode (no-opcode N B x) (λ least. some_beyond-s least r-fits h)
 
-    module _ (s_fits : x.s ≤ get_or limits (row + 1) 0) where
-      pub below-kind : x.kind < get_or limits (row + 2) 0 → laid_out N B x ≡ false
+    module _ (s_fits : x.s ≤ row.s) where
+      pub below-kind : x.kind < row.least → laid_out N B x ≡ false
       below-kind h = by-opcode (no-opcode N B x) (λ least. operand-left least r-fits s_fits
           ∙ kind-below B (has x.opcode has_v) x.kind x.operand (omega arith) (omega (arith, least-kind least)))
 
-      pub beyond-kind : get_or limits (row + 3) 0 < x.kind → laid_out N B x ≡ false
+      pub beyond-kind : row.most < x.kind → laid_out N B x ≡ false
       beyond-kind h = by-opcode (no-opcode N B x) (λ least. operand-left least r-fits s_fits
           ∙ kind-beyond B (has x.opcode has_v) x.kind x.operand (omega arith) (omega (arith, most_kind least)))
 
-      pub operand-decides : get_or limits (row + 2) 0 ≤ x.kind → x.kind ≤ get_or limits (row + 3) 0 → x.operand ≤ 18446744073709551615
+      pub operand-decides : row.least ≤ x.kind → x.kind ≤ row.most → x.operand ≤ 18446744073709551615
           → laid_out N B x ≡ leb x.operand (get_or largest x.kind 0)
       operand-decides h k w = by-opcode (λ none. absurd (omega (arith, no_kind none))) (λ least. operand-left least r-fits s_fits
           ∙ operand_limit B (has x.opcode has_v) x.kind x.operand L.some_block w (omega arith) (omega (arith, least-kind least)) (omega (arith, most_kind least))
           ∙ ap (λ (l : List ℕ). leb x.operand (get_or l x.kind 0)) (sym L.largest_are))
 
-  pub kind_known : x.kind ≤ get_or limits (row + 3) 0 → x.kind < 4
+  pub kind_known : x.kind ≤ row.most → x.kind < 4
   kind_known h = by-opcode (λ none. omega (arith, no_kind none)) (λ least. omega (arith, most_kind least))
 
 -- ---- an instruction asked with lent limits and marks
 
-pub limited_by : (opcodes blocks : ℕ) (limits largest : List ℕ) → Limited opcodes blocks limits largest → Limited opcodes (blocks_by largest) limits largest
-limited_by opcodes blocks limits largest L = subst (λ (n : ℕ). Limited opcodes n limits largest) (sym (blocks_told opcodes blocks limits largest L)) L
-
-pub asked_by : (cells marks : List ℕ) (opcodes blocks : ℕ) (limits largest : List ℕ) → Limited opcodes blocks limits largest → Ended cells marks
+pub asked_by : (cells : List ℕ) (marks : List Bool) (opcodes blocks : ℕ) (largest : List ℕ) → Limited opcodes blocks largest → Ended cells marks
     → (i : ℕ) → i < instruction_count cells → (x : Instruction)
-    → instruction_record_no opcodes (blocks_by largest) (eqb (get_or marks (i + 1) 0) 1) x ≡ instruction_record_no opcodes blocks (last_in_block (program_of cells) i) x
-asked_by cells marks opcodes blocks limits largest L E i h x =
-    ap₂ (λ (n : ℕ) (t : Bool). instruction_record_no opcodes n t x) (blocks_told opcodes blocks limits largest L)
-    (mark_told (last_in_block (program_of cells) i) (get_or marks (i + 1) 0) (E.ended i h)).0
+    → instruction_record_no opcodes (blocks_by largest) (get_or marks (i + 1) false) x ≡ instruction_record_no opcodes blocks (last_in_block (program_of cells) i) x
+asked_by cells marks opcodes blocks largest L E i h x =
+    ap₂ (λ (n : ℕ) (t : Bool). instruction_record_no opcodes n t x) (blocks_told opcodes blocks largest L) (E.ended i h)
 
 -- one that the buffer has
 pub asked-held : (cells : List ℕ) (opcodes i : ℕ) → opcodes ≡ last_opcode (version_of cells) → instruction_cell i + 5 ≤ length cells

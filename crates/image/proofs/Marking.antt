@@ -10,14 +10,14 @@ use lib.Seq.{get_or-set_same, get_or-set_other}
 use lib.Dec.{eqb}
 use borrow.Author.Tests.{eq-eqb, ne_eqb, eqb-true, eqb-false}
 use Rattle.image.specs.Layout.{block_count, instruction_count, block_of, program_of}
-use Rattle.image.specs.Questions.{starts_at, last_in_block, same}
-use Rattle.image.specs.Marks.{flag, Marked, Ended}
+use Rattle.image.specs.Questions.{starts_at, last_in_block}
+use Rattle.image.specs.Marks.{Marked, Ended}
 
 -- ---- the marks
 
-pub marked_none : (cells : List ℕ) → Marked cells 0 (replicate 1025 0)
+pub marked_none : (cells : List ℕ) → Marked cells 0 (replicate 1025 false)
 unfolding starts_at
-marked_none cells = record { sized = length-replicate {A = ℕ} 1025 0; marked = λ i h. get_or-replicate {A = ℕ} 1025 i 0 0 h }
+marked_none cells = record { sized = length-replicate {A = Bool} 1025 false; marked = λ i h. get_or-replicate {A = Bool} 1025 i false false h }
 
 starts-here : (cells : List ℕ) (n i : ℕ) → (block_of cells n).first ≡ i → starts_at (program_of cells) (suc n) i ≡ true
 unfolding starts_at
@@ -27,57 +27,37 @@ starts_elsewhere : (cells : List ℕ) (n i : ℕ) → ((block_of cells n).first 
 unfolding starts_at
 starts_elsewhere cells n i e = rw (ne_eqb (block_of cells n).first i e)
 
-module _ (cells : List ℕ) (n : ℕ) (marks : List ℕ) (m : Marked cells n marks) (below : (block_of cells n).first < 1025) where
+module _ (cells : List ℕ) (n : ℕ) (marks : List Bool) (m : Marked cells n marks) (below : (block_of cells n).first < 1025) where
   mark-at : (i : ℕ) → i < 1025 → (t : Bool) → eqb (block_of cells n).first i ≡ t
-      → get_or (set marks (block_of cells n).first 1) i 0 ≡ flag (starts_at (program_of cells) (suc n) i)
+      → get_or (set marks (block_of cells n).first true) i false ≡ starts_at (program_of cells) (suc n) i
   mark-at i h true e =
       let k : (block_of cells n).first ≡ i = eqb-true _ i e in
-      ap (λ (j : ℕ). get_or (set marks (block_of cells n).first 1) j 0) (sym k)
-      ∙ get_or-set_same marks (block_of cells n).first 1 0 (omega (arith, m.sized)) ∙ ap flag (sym (starts-here cells n i k))
+      ap (λ (j : ℕ). get_or (set marks (block_of cells n).first true) j false) (sym k)
+      ∙ get_or-set_same marks (block_of cells n).first true false (omega (arith, m.sized)) ∙ sym (starts-here cells n i k)
   mark-at i h false e =
       let k : (block_of cells n).first ≡ i → ⊥ = eqb-false _ i e in
-      get_or-set_other marks (block_of cells n).first i 1 0 (λ z. k (sym z)) ∙ m.marked i h ∙ ap flag (sym (starts_elsewhere cells n i k))
+      get_or-set_other marks (block_of cells n).first i true false (λ z. k (sym z)) ∙ m.marked i h ∙ sym (starts_elsewhere cells n i k)
 
-  pub marked_more : Marked cells (n + 1) (set marks (block_of cells n).first 1)
-  marked_more = rw (add-one n) (record { sized = length-set marks (block_of cells n).first 1 ∙ m.sized; marked = λ i h. mark-at i h (eqb (block_of cells n).first i) refl })
+  pub marked_more : Marked cells (n + 1) (set marks (block_of cells n).first true)
+  marked_more = rw (add-one n) (record { sized = length-set marks (block_of cells n).first true ∙ m.sized; marked = λ i h. mark-at i h (eqb (block_of cells n).first i) refl })
 
 -- ---- the last instruction of a block
 
-module _ (cells marks : List ℕ) (m : Marked cells (block_count cells) marks) (few : instruction_count cells ≤ 1024) where
+module _ (cells : List ℕ) (marks : List Bool) (m : Marked cells (block_count cells) marks) (few : instruction_count cells ≤ 1024) where
   abbrev I : ℕ
   I = instruction_count cells
 
   -- the program's end, marked behind the starts of its blocks
-  mark_of : (i : ℕ) → i < I → (t : Bool) → eqb (i + 1) I ≡ t → get_or (set marks I 1) (i + 1) 0 ≡ flag (last_in_block (program_of cells) i)
+  mark_of : (i : ℕ) → i < I → (t : Bool) → eqb (i + 1) I ≡ t → get_or (set marks I true) (i + 1) false ≡ last_in_block (program_of cells) i
   unfolding last_in_block
   mark_of i h true e =
       let k : i + 1 ≡ I = eqb-true (i + 1) I e in
-      ap (λ (j : ℕ). get_or (set marks I 1) j 0) k ∙ get_or-set_same marks I 1 0 (omega (arith, m.sized))
-      ∙ ap (λ (t : Bool). flag (t || starts_at (program_of cells) (block_count cells) (i + 1))) (sym e)
+      ap (λ (j : ℕ). get_or (set marks I true) j false) k ∙ get_or-set_same marks I true false (omega (arith, m.sized))
+      ∙ ap (λ (t : Bool). t || starts_at (program_of cells) (block_count cells) (i + 1)) (sym e)
   mark_of i h false e =
       let k : i + 1 ≡ I → ⊥ = eqb-false (i + 1) I e in
-      get_or-set_other marks I (i + 1) 1 0 k ∙ m.marked (i + 1) (omega arith)
-      ∙ ap (λ (t : Bool). flag (t || starts_at (program_of cells) (block_count cells) (i + 1))) (sym e)
+      get_or-set_other marks I (i + 1) true false k ∙ m.marked (i + 1) (omega arith)
+      ∙ ap (λ (t : Bool). t || starts_at (program_of cells) (block_count cells) (i + 1)) (sym e)
 
-  pub ended : Ended cells (set marks I 1)
-  ended = record { sized = length-set marks I 1 ∙ m.sized; ended = λ i h. mark_of i h (eqb (i + 1) I) refl }
-
--- a mark is told by whether it is 1
-pub mark_told : (t : Bool) (m : ℕ) → m ≡ flag t → (eqb m 1 ≡ t) × (m ≡ flag (eqb m 1))
-mark_told true m e = (eq-eqb m 1 e, e ∙ ap flag (sym (eq-eqb m 1 e)))
-mark_told false m e =
-    let n : eqb m 1 ≡ false = ne_eqb m 1 (λ z. (omega (arith, e))) in
-    (n, e ∙ ap flag (sym n))
-
--- question 9 by marks
-pub marks_differ : (a b : Bool) (m n : ℕ) → m ≡ flag a → n ≡ flag b → (m ≡ n → ⊥) → same a b ≡ false
-marks_differ true true m n p q h = absurd (h (p ∙ sym q))
-marks_differ true false m n p q h = refl
-marks_differ false true m n p q h = refl
-marks_differ false false m n p q h = absurd (h (p ∙ sym q))
-
-pub marks_agree : (a b : Bool) (m n : ℕ) → m ≡ flag a → n ≡ flag b → m ≡ n → same a b ≡ true
-marks_agree true true m n p q h = refl
-marks_agree true false m n p q h = absurd (omega arith)
-marks_agree false true m n p q h = absurd (omega arith)
-marks_agree false false m n p q h = refl
+  pub ended : Ended cells (set marks I true)
+  ended = record { sized = length-set marks I true ∙ m.sized; ended = λ i h. mark_of i h (eqb (i + 1) I) refl }

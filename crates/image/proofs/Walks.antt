@@ -1,6 +1,6 @@
 -- The reader's walk over an image's blocks and then its instructions: what holds when it comes to a record, and that each record keeps it.
 use mathlib.Core.Path.{◌≡◌, refl, sym, ap, ◌∙◌, subst}
-use mathlib.Core.Bool.{Bool, cond}
+use mathlib.Core.Bool.{Bool, true, cond}
 use mathlib.Core.List.{List}
 use Prim.Native.Nat.{ℕ, ◌+◌, ◌-◌, ◌<◌, ◌≤◌}
 use native.Mathlib.Omega.{arith}
@@ -23,7 +23,7 @@ use Rattle.image.proofs.Offset.{blocks_offset_lem, instructions_offset_lem}
 use Rattle.image.proofs.Walking.{Walking, walk_begins, walk_goes-on, walk_stops, walk_ends, passed_all, laid_none, laid_more, laid_length}
 
 -- at block b: the offset is its place
-pub record AtBlock (bytes : List ℕ) (lays : Bool) (lent marks cells : List ℕ) (at to before b : ℕ) : Type 0 where
+pub record AtBlock (bytes : List ℕ) (lays : Bool) (lent : List ℕ) (marks : List Bool) (cells : List ℕ) (at to before b : ℕ) : Type 0 where
   pub below : b ≤ blocks_in bytes
   pub offset : at ≡ block_place (version_in bytes) b
   pub target : to ≡ block_cell b
@@ -72,16 +72,16 @@ module _ (bytes : List ℕ) (ok : header_no bytes ≡ 0) where
       omega (arith, below, same, cells_in_instructions bytes)
 
   -- all blocks passed: with the program's end marked behind their starts
-  pub end_marked : (marks : List ℕ) (end : ℕ) → first_no (block_no (cells_in bytes)) B 0 ≡ 0 → Marked (cells_in bytes) (blocks_passed bytes) marks
-      → end ≡ I → Ended (cells_in bytes) (set marks end 1)
+  pub end_marked : (marks : List Bool) (end : ℕ) → first_no (block_no (cells_in bytes)) B 0 ≡ 0 → Marked (cells_in bytes) (blocks_passed bytes) marks
+      → end ≡ I → Ended (cells_in bytes) (set marks end true)
   end_marked marks end all m e =
       let n = cells_in_instructions bytes in
       let every = passed_all (block_no (cells_in bytes)) B all ∙ sym (cells_in_blocks bytes) in
-      subst (λ (i : ℕ). Ended (cells_in bytes) (set marks i 1)) (n ∙ sym e)
+      subst (λ (i : ℕ). Ended (cells_in bytes) (set marks i true)) (n ∙ sym e)
       (ended (cells_in bytes) marks (subst (λ (b : ℕ). Marked (cells_in bytes) b marks) every m) (omega (arith, n, count.instructions_fit)))
 
   module _ (lays : Bool) (lent : List ℕ) where
-    pub blocks-begin : (marks : List ℕ) → Marked (cells_in bytes) 0 marks → AtBlock bytes lays lent marks lent 8 (block_cell 0) 0 0
+    pub blocks-begin : (marks : List Bool) → Marked (cells_in bytes) 0 marks → AtBlock bytes lays lent marks lent 8 (block_cell 0) 0 0
     blocks-begin marks m = record {
       below = omega arith;
       offset = omega arith;
@@ -92,11 +92,11 @@ module _ (bytes : List ℕ) (ok : header_no bytes ≡ 0) where
       laid = laid_none (λ b. block_cells (block_in Ver bytes (block_place Ver b))) 6 (λ b. refl) lays lent (block_cell 0);
     }
 
-    module _ (marks cells : List ℕ) (at to before b : ℕ) (w : AtBlock bytes lays lent marks cells at to before b) where
+    module _ (marks : List Bool) (cells : List ℕ) (at to before b : ℕ) (w : AtBlock bytes lays lent marks cells at to before b) where
       -- the block after an accepted one
       pub next_block : (after : List ℕ) (k : Block) (next : ℕ) → b < B → block_no (cells_in bytes) b ≡ 0 → k ≡ block_in Ver bytes (block_place Ver b)
           → after ≡ cond lays (sets cells to (block_cells k)) cells → next ≡ at + block_size Ver
-          → AtBlock bytes lays lent (set marks k.first 1) after next (to + 6) k.first (b + 1)
+          → AtBlock bytes lays lent (set marks k.first true) after next (to + 6) k.first (b + 1)
       next_block after k next q e here stored on =
           let starts : k.first ≡ (block_in Ver bytes (block_place Ver b)).first = ap (λ (k : Block). k.first) here in
           let held : (block_of (cells_in bytes) b).first ≡ k.first = ap (λ (k : Block). k.first) (block_read bytes h b q) ∙ sym starts in
@@ -107,7 +107,7 @@ module _ (bytes : List ℕ) (ok : header_no bytes ≡ 0) where
             target = omega (arith, w.target);
             walking = walk_goes-on (block_no (cells_in bytes)) B b w.walking q e;
             predecessor = λ _. starts ∙ ap (λ (n : ℕ). (block_in Ver bytes (block_place Ver n)).first) (sym back);
-            marking = subst (λ (n : ℕ). Marked (cells_in bytes) (b + 1) (set marks n 1)) held
+            marking = subst (λ (n : ℕ). Marked (cells_in bytes) (b + 1) (set marks n true)) held
                 (marked_more (cells_in bytes) b marks w.marking (omega (arith, held, starts, first_below b q e, count.instructions_fit)));
             laid = laid_more (λ b. block_cells (block_in Ver bytes (block_place Ver b))) 6 (λ b. refl) lays lent cells after (block_cell 0) to b w.laid
                 (stored ∙ ap (λ (k : Block). cond lays (sets cells to (block_cells k)) cells) here) w.target;
@@ -138,9 +138,6 @@ module _ (bytes : List ℕ) (ok : header_no bytes ≡ 0) where
       blocks_end q =
           let s = walk_ends (block_no (cells_in bytes)) B b w.walking q in
           (s.0, blocks-stopped s.1)
-
-      pub block_length : length cells ≡ length lent
-      block_length = laid_length lays lent cells (block_cells_in bytes b) (block_cell 0) w.laid
 
     -- ---- instructions
 

@@ -1,4 +1,5 @@
 pub mod Program
+pub mod Refusals
 pub mod Layout
 pub mod Questions
 pub mod Records

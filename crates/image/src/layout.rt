@@ -148,10 +148,11 @@ pub fn put_instruction(cells: &mut [u64], at: usize, x: Instruction)
     cells[at + 4] = x.operand;
 }
 
+// For crates above that widen a byte; this crate calls `u64::from`.
 pub fn wide(x: u8) -> u64
     ensures { result ≡ x }
 {
-    x as u64
+    u64::from(x)
 }
 
 // How many bytes a block record of the version has. Reader and writer work it out once.
@@ -190,10 +191,10 @@ pub fn block_in(version: u64, image: &[u8], at: usize) -> Block
 {
     let first = int64::read_u16(image, at);
     let packed = pairs_in(version, image, at + 6);
-    let annotation = wide(image[at + 2]);
-    let policy = wide(image[at + 3]);
-    let label = wide(image[at + 4]);
-    let pairs = wide(image[at + 5]);
+    let annotation = u64::from(image[at + 2]);
+    let policy = u64::from(image[at + 3]);
+    let label = u64::from(image[at + 4]);
+    let pairs = u64::from(image[at + 5]);
     Block {
         first,
         annotation,
@@ -210,10 +211,10 @@ pub fn instruction_in(image: &[u8], at: usize) -> Instruction
     ensures { result ≡ instruction_in image.now at }
 {
     let operand = int64::read_u64(image, at + 4);
-    let opcode = wide(image[at]);
-    let r = wide(image[at + 1]);
-    let s = wide(image[at + 2]);
-    let kind = wide(image[at + 3]);
+    let opcode = u64::from(image[at]);
+    let r = u64::from(image[at + 1]);
+    let s = u64::from(image[at + 2]);
+    let kind = u64::from(image[at + 3]);
     Instruction {
         opcode,
         r,

@@ -3,15 +3,22 @@
 
 ghost use Rattle.std.specs.Prelude.{◌≡◌, length};
 ghost use Rattle.image.specs.Doors.{rewrite_no, unless_refused};
+ghost use Rattle.image.specs.Refusals.{no_of};
+
+use refusal::Refusal;
 
 pub mod layout;
 pub mod questions;
 pub mod reader;
+pub mod refusal;
 mod walk;
 pub mod writer;
 
+// A block record and an instruction record have the numbers that stand in an image or a buffer. Opcode, kind, annotation and policy are no
+// enums: the questions are put to any numbers (`laid_out`, `annotated`), and the cells are C's.
+
 // A block record. `packed` has the pair bytes, four or eight by the version, the first in its low eight bits.
-#[derive(Clone, Copy)]
+#[derive(Clone, Copy, Debug, PartialEq, Eq)]
 pub struct Block {
     pub first: u64,
     pub annotation: u64,
@@ -22,7 +29,7 @@ pub struct Block {
 }
 
 // An instruction record. By its kind the operand is a register's number, a label or an integer's 64 bits.
-#[derive(Clone, Copy)]
+#[derive(Clone, Copy, Debug, PartialEq, Eq)]
 pub struct Instruction {
     pub opcode: u64,
     pub r: u64,
@@ -32,18 +39,15 @@ pub struct Instruction {
 }
 
 // Reads an image and writes its program back: an accepted image comes back byte for byte.
-pub fn rewrite(image: &[u8], out: &mut [u8]) -> u8
-    ensures value { result ≡ rewrite_no image.now (length out.old) }
-    ensures out_after { out.new ≡ unless_refused result image.now out.old }
+pub fn rewrite(image: &[u8], out: &mut [u8]) -> Result<(), Refusal>
+    ensures value { no_of result ≡ rewrite_no image.now (length out.old) }
+    ensures out_after { out.new ≡ unless_refused (no_of result) image.now out.old }
 {
     let mut cells = [0u64; layout::PROGRAM_CELLS];
-    let no = reader::scan(image, &mut cells);
-    if no != 0 {
-        return no;
-    }
+    reader::scan(image, &mut cells)?;
     if out.len() != image.len() {
-        return 15;
+        return Err(Refusal::Buffer);
     }
     writer::encode(&cells, out);
-    0
+    Ok(())
 }

@@ -1,73 +1,104 @@
 // The questions put to a program. Each function of a record is shared by the reader, the writer and every later door.
-ghost use Rattle.std.specs.Prelude.{◌≡◌, ℕ, ◌+◌, ◌-◌, ◌*◌, ◌<◌, ◌≤◌, eqb, length};
-ghost use Rattle.std.proofs.lemmas.List.Edits.{sets};
-ghost use Rattle.image.specs.Layout.{rows, most_pairs, version_of, block_count, instruction_count, block_cell, instruction_cell, block_of};
+ghost use Rattle.std.specs.Prelude.{◌≡◌, ℕ, ◌+◌, ◌-◌, ◌<◌, ◌≤◌, length};
+ghost use Rattle.image.specs.Layout.{most_pairs, version_of, block_count, instruction_count, block_cell, instruction_cell, block_of};
 ghost use Rattle.image.specs.Questions.{version_no, most_blocks, most_instructions, counts_no, in_order, rising, unjoined, joined, annotated, block_no, first_no};
-ghost use Rattle.image.specs.Questions.{last_opcode, ends_block, fields, laid_out, instruction_no, records_no, program_no};
+ghost use Rattle.image.specs.Questions.{last_opcode, ends_block, laid_out, instruction_no, records_no, program_no};
 ghost use Rattle.image.specs.Records.{block_record_no, instruction_record_no};
-ghost use Rattle.image.specs.Marks.{flag, Marked, Ended};
-ghost use Rattle.image.specs.Limits.{limit_row, limits_at, limit_rows, largest_of, Limited, blocks_by};
+ghost use Rattle.image.specs.Marks.{Marked, Ended};
+ghost use Rattle.image.specs.Refusals.{no_of};
+ghost use Rattle.image.specs.Limits.{flags_of, limit_row, limits_of, largest_of, Limited, blocks_by};
 
+use crate::refusal::Refusal;
 use crate::{Block, Instruction, layout};
 
-// The flags of the table's rows: an opcode has r, s, v.
-const R: u8 = 4;
+// Which fields an opcode has.
+#[derive(Clone, Copy, Debug, PartialEq, Eq)]
+pub struct Fields {
+    pub r: bool,
+    pub s: bool,
+    pub v: bool,
+}
 
-const S: u8 = 2;
+const NONE: Fields = Fields {
+    r: false,
+    s: false,
+    v: false,
+};
 
-const V: u8 = 1;
+const R: Fields = Fields { r: true, ..NONE };
 
-// Which fields each opcode has.
-const FIELDS: [u8; 17] = [
-    R + V, // 1 r := v
-    R + S + V, // 2 r := s + v
-    R + S + V, // 3 r := s - v
-    R + S + V, // 4 r := s * v
-    R + S + V, // 5 r := s / v
-    R + S + V, // 6 r := s % v
-    R + S + V, // 7 r := s < v
-    R + S + V, // 8 r := s = v
-    R + V, // 9 r := word v
-    S + V, // 10 if-jump s, v
-    R + V, // 11 r := jralloc v
-    S + V, // 12 fork s, v
+const V: Fields = Fields { v: true, ..NONE };
+
+const RV: Fields = Fields { r: true, ..V };
+
+const SV: Fields = Fields { s: true, ..V };
+
+const RSV: Fields = Fields { r: true, ..SV };
+
+static FIELDS: [Fields; 17] = [
+    RV, // 1 r := v
+    RSV, // 2 r := s + v
+    RSV, // 3 r := s - v
+    RSV, // 4 r := s * v
+    RSV, // 5 r := s / v
+    RSV, // 6 r := s % v
+    RSV, // 7 r := s < v
+    RSV, // 8 r := s = v
+    RV, // 9 r := word v
+    SV, // 10 if-jump s, v
+    RV, // 11 r := jralloc v
+    SV, // 12 fork s, v
     V, // 13 jump v
-    0, // 14 halt
+    NONE, // 14 halt
     V, // 15 join v
     V, // 16 push v
     R, // 17 pop r
 ];
 
+// What the fields of an opcode's instructions are compared with: the largest r and s, the least and the largest kind.
+#[derive(Clone, Copy, Debug, PartialEq, Eq)]
+pub struct Limits {
+    pub r: u64,
+    pub s: u64,
+    pub least: u64,
+    pub most: u64,
+}
+
+const LAST_REGISTER: u64 = 15;
+
+const LAST_KIND: u64 = 3;
+
+// 0 is no opcode: no kind fits, since the least is above the largest.
+const NO_OPCODE: Limits = Limits {
+    r: 0,
+    s: 0,
+    least: 1,
+    most: 0,
+};
+
 // Question 3.
-pub fn ask_version(version: u64) -> u8
-    ensures { result ≡ version_no version }
+#[tactic(auto, unfolding(crate::specs::Questions::version_no))]
+pub fn ask_version(version: u64) -> Result<(), Refusal>
+    ensures { no_of result ≡ version_no version }
 {
-    if version < 1 {
-        return 3;
+    match version {
+        1..=2 => Ok(()),
+        _ => Err(Refusal::Version),
     }
-    if 2 < version {
-        return 3;
-    }
-    0
 }
 
 // Question 4.
-pub fn ask_counts(blocks: u64, instructions: u64) -> u8
-    ensures { result ≡ counts_no blocks instructions }
+#[tactic(auto, unfolding(crate::specs::Questions::counts_no))]
+pub fn ask_counts(blocks: u64, instructions: u64) -> Result<(), Refusal>
+    ensures { no_of result ≡ counts_no blocks instructions }
 {
-    if blocks < 1 {
-        return 4;
+    if blocks < 1 || layout::MOST_BLOCKS < blocks {
+        return Err(Refusal::Counts);
     }
-    if layout::MOST_BLOCKS < blocks {
-        return 4;
+    if instructions < 1 || layout::MOST_INSTRUCTIONS < instructions {
+        return Err(Refusal::Counts);
     }
-    if instructions < 1 {
-        return 4;
-    }
-    if layout::MOST_INSTRUCTIONS < instructions {
-        return 4;
-    }
-    0
+    Ok(())
 }
 
 // Question 6 of a block that starts at `first`, its predecessor at `before`.
@@ -87,31 +118,24 @@ fn starts_in_order(instructions: u64, b: usize, before: u64, first: u64) -> bool
 fn is_rising(pairs: u64, packed: u64) -> bool
     ensures { result ≡ rising pairs packed }
 {
-    let mut n = pairs;
     let mut rest = packed;
-    while 1 < n {
+    for _pair in 1..pairs {
         if rest / 256 % 16 <= rest % 16 {
             return false;
         }
-        rest = rest / 256;
-        n = n - 1;
+        rest /= 256;
     }
-    if n == 0 {
+    if pairs == 0 {
         return rest == 0;
     }
     rest < 256
 }
 
+#[tactic(auto, unfolding(crate::specs::Questions::unjoined))]
 fn is_unjoined(k: Block) -> bool
     ensures { result ≡ unjoined k }
 {
-    if k.policy != 0 {
-        return false;
-    }
-    if k.pairs != 0 {
-        return false;
-    }
-    k.packed == 0
+    k.policy == 0 && k.pairs == 0 && k.packed == 0
 }
 
 // How many pairs a block of the version has at most.
@@ -124,38 +148,24 @@ fn most_pairs(version: u64) -> u64
     4
 }
 
+#[tactic(auto, unfolding(crate::specs::Questions::joined))]
 fn is_joined(version: u64, k: Block) -> bool
     ensures { result ≡ joined version k }
 {
-    if 1 < k.policy {
-        return false;
-    }
-    if most_pairs(version) < k.pairs {
-        return false;
-    }
-    is_rising(k.pairs, k.packed)
+    k.policy <= 1 && k.pairs <= most_pairs(version) && is_rising(k.pairs, k.packed)
 }
 
 // Question 7.
+#[tactic(auto, unfolding(crate::specs::Questions::annotated))]
 fn is_annotated(version: u64, blocks: u64, k: Block) -> bool
     ensures { result ≡ annotated version blocks k }
 {
-    if k.annotation == 0 {
-        if k.label != 0 {
-            return false;
-        }
-        return is_unjoined(k);
+    match k.annotation {
+        0 => k.label == 0 && is_unjoined(k),
+        1 => k.label < blocks && is_unjoined(k),
+        2 => k.label < blocks && is_joined(version, k),
+        _ => false,
     }
-    if blocks <= k.label {
-        return false;
-    }
-    if k.annotation == 1 {
-        return is_unjoined(k);
-    }
-    if k.annotation != 2 {
-        return false;
-    }
-    is_joined(version, k)
 }
 
 // Questions 6 and 7 of a block's record, wherever it stands.
@@ -166,16 +176,16 @@ pub fn ask_block_record(
     b: usize,
     before: u64,
     k: Block,
-) -> u8
-    ensures { result ≡ block_record_no version blocks instructions b before k }
+) -> Result<(), Refusal>
+    ensures { no_of result ≡ block_record_no version blocks instructions b before k }
 {
     if !starts_in_order(instructions, b, before, k.first) {
-        return 6;
+        return Err(Refusal::BlockStart);
     }
     if !is_annotated(version, blocks, k) {
-        return 7;
+        return Err(Refusal::Annotation);
     }
-    0
+    Ok(())
 }
 
 // Where the block before block b starts, which the buffer has; of block 0, which has none, where it starts itself.
@@ -190,12 +200,12 @@ fn first_before(cells: &[u64], b: usize) -> u64
 }
 
 // Questions 6 and 7 of block b.
-fn ask_block(cells: &[u64], b: usize) -> u8
+fn ask_block(cells: &[u64], b: usize) -> Result<(), Refusal>
     requires { b < most_blocks }
-    ensures { result ≡ block_no cells.now b }
+    ensures { no_of result ≡ block_no cells.now b }
 {
     if cells.len() < layout::FIRST_BLOCK + layout::BLOCK_CELLS * b + layout::BLOCK_CELLS {
-        return 6;
+        return Err(Refusal::BlockStart);
     }
     let before = first_before(cells, b);
     let k = layout::block_of(cells, b);
@@ -209,43 +219,29 @@ fn ask_block(cells: &[u64], b: usize) -> u8
     )
 }
 
-// The limits of an opcode's fields, by its flags: the largest r and s, the least and the largest kind.
-fn put_limits(limits: &mut [u64], at: usize, flags: u8)
-    requires { at + 4 ≤ length limits.old }
-    ensures { limits.new ≡ sets limits.old at (limit_row flags) }
-{
-    let r = layout::wide(flags / R % 2);
-    let s = layout::wide(flags / S % 2);
-    let v = layout::wide(flags / V % 2);
-    limits[at] = 15 * r;
-    limits[at + 1] = 15 * s;
-    limits[at + 2] = v;
-    limits[at + 3] = 3 * v;
-}
-
-// The limits of the opcodes 1 to 17, behind the row of 0. The table is lent, since a constant is built anew where it is used.
-fn fill_limits(table: &[u8], limits: &mut [u64])
-    requires { (table.now ≡ fields) × (length limits.old ≡ 72) }
-    ensures { limits.new ≡ sets limits.old 4 (rows limits_at 17) }
-{
-    let mut row = 0;
-    while row < 17 {
-        put_limits(limits, 4 + 4 * row, table[row]);
-        row = row + 1;
+impl Fields {
+    // A field that the opcode does not have is 0.
+    fn limits(self) -> Limits
+        ensures { result ≡ limit_row (flags_of self) }
+    {
+        Limits {
+            r: LAST_REGISTER * u64::from(self.r),
+            s: LAST_REGISTER * u64::from(self.s),
+            least: u64::from(self.v),
+            most: LAST_KIND * u64::from(self.v),
+        }
     }
 }
 
-// The limits of all opcodes, by the table: four numbers for each of 0, which is none, to 17. The crate itself calls it.
-pub fn all_limits(limits: &mut [u64])
-    requires { length limits.old ≡ 72 }
-    ensures { limits.new ≡ limit_rows }
+// The limits of the opcodes 1 to 17, by the table, and of 0, which is none.
+fn limits_of(opcode: u64) -> Limits
+    requires { opcode ≤ 17 }
+    ensures { result ≡ limits_of opcode }
 {
-    limits[0] = 0;
-    limits[1] = 0;
-    limits[2] = 1;
-    limits[3] = 0;
-    let table = FIELDS;
-    fill_limits(&table, limits);
+    if opcode == 0 {
+        return NO_OPCODE;
+    }
+    FIELDS[opcode as usize - 1].limits()
 }
 
 // The largest operand of each kind: absent, register, label, integer. The crate itself calls it, for a program that has a block.
@@ -266,85 +262,85 @@ pub fn last_opcode(version: u64) -> u64
     15
 }
 
-// Question 8 where there are this many opcodes, by comparing each field with its limit: no branch depends on which opcode it is, and 0, which
-// is none, has limits that nothing meets.
-fn is_laid_out(opcodes: u64, limits: &[u64], largest: &[u64], x: Instruction) -> bool
-    requires { Limited opcodes (blocks_by largest.now) limits.now largest.now }
-    ensures { result ≡ laid_out opcodes (blocks_by largest.now) x }
+// What holds an instruction's fields in, the same for all instructions of a program: how many opcodes there are, and the largest operand of
+// each kind.
+#[derive(Clone, Copy, Debug, PartialEq, Eq)]
+pub struct Bounds {
+    pub opcodes: u64,
+    pub largest: [u64; 4],
+}
+
+// The bounds of a program of the version that has these blocks, one or more. `ask_records` and the walk call it, after question 4.
+pub(crate) fn bounds_of(version: u64, blocks: u64) -> Bounds
+    requires { 1 ≤ blocks }
+    ensures opcodes { result.opcodes ≡ last_opcode version }
+    ensures limited { Limited result.opcodes blocks result.largest }
 {
-    let opcode = x.opcode;
-    if opcodes < opcode {
+    Bounds {
+        opcodes: last_opcode(version),
+        largest: largest_operands(blocks),
+    }
+}
+
+// Question 8, by comparing each field with its limit: no branch depends on which opcode it is, and 0, which
+// is none, has limits that nothing meets.
+fn is_laid_out(bounds: &Bounds, x: Instruction) -> bool
+    requires { Limited bounds.now.opcodes (blocks_by bounds.now.largest) bounds.now.largest }
+    ensures { result ≡ laid_out bounds.now.opcodes (blocks_by bounds.now.largest) x }
+{
+    if bounds.opcodes < x.opcode {
         return false;
     }
-    let row = 4 * opcode as usize;
-    if limits[row] < x.r {
+    let limits = limits_of(x.opcode);
+    if limits.r < x.r {
         return false;
     }
-    if limits[row + 1] < x.s {
+    if limits.s < x.s {
         return false;
     }
-    let kind = x.kind;
-    if kind < limits[row + 2] {
+    if x.kind < limits.least {
         return false;
     }
-    if limits[row + 3] < kind {
+    if limits.most < x.kind {
         return false;
     }
-    x.operand <= largest[kind as usize]
+    x.operand <= bounds.largest[x.kind as usize]
 }
 
 // Questions 6 and 7 of all blocks. Where all are answered with yes, marks the instructions that start a block.
-fn ask_blocks(cells: &[u64], marks: &mut [u8]) -> u8
+fn ask_blocks(cells: &[u64], marks: &mut [bool]) -> Result<(), Refusal>
     requires { (2 < length cells.now) × (block_count cells.now ≤ most_blocks) × (instruction_count cells.now ≤ most_instructions) × Marked cells.now 0 marks.old }
-    ensures value { result ≡ first_no (block_no cells.now) (block_count cells.now) 0 }
-    ensures marked { result ≡ 0 → Marked cells.now (block_count cells.now) marks.new }
+    ensures value { no_of result ≡ first_no (block_no cells.now) (block_count cells.now) 0 }
+    ensures marked { no_of result ≡ 0 → Marked cells.now (block_count cells.now) marks.new }
 {
     let blocks = cells[layout::BLOCK_COUNT] as usize;
-    let mut b = 0;
-    while b < blocks {
-        let no = ask_block(cells, b);
-        if no != 0 {
-            return no;
-        }
+    for b in 0..blocks {
+        ask_block(cells, b)?;
         let first = cells[layout::FIRST_BLOCK + layout::BLOCK_CELLS * b] as usize;
-        marks[first] = 1;
-        b = b + 1;
+        marks[first] = true;
     }
-    0
+    Ok(())
 }
 
-// Whether an opcode ends a block, as a mark.
-fn end_mark(opcode: u64) -> u8
-    ensures { result ≡ flag (ends_block opcode) }
+fn ends_block(opcode: u64) -> bool
+    ensures { result ≡ ends_block opcode }
 {
-    if opcode < 13 {
-        return 0;
-    }
-    if 15 < opcode {
-        return 0;
-    }
-    1
+    13 <= opcode && opcode <= 15
 }
 
-// Questions 8 and 9 of an instruction's record, wherever it stands; `last` marks the last of a block. The crate itself calls it, with the
-// limits of a program that has a block.
-pub fn ask_instruction(
-    opcodes: u64,
-    limits: &[u64],
-    largest: &[u64],
-    x: Instruction,
-    last: u8,
-) -> u8
-    requires { Limited opcodes (blocks_by largest.now) limits.now largest.now × (last ≡ flag (eqb last 1)) }
-    ensures { result ≡ instruction_record_no opcodes (blocks_by largest.now) (eqb last 1) x }
+// Questions 8 and 9 of an instruction's record, wherever it stands, the last of a block or not. The crate itself calls it, for a program that
+// has a block.
+pub fn ask_instruction(bounds: &Bounds, x: Instruction, last: bool) -> Result<(), Refusal>
+    requires { Limited bounds.now.opcodes (blocks_by bounds.now.largest) bounds.now.largest }
+    ensures { no_of result ≡ instruction_record_no bounds.now.opcodes (blocks_by bounds.now.largest) last x }
 {
-    if !is_laid_out(opcodes, limits, largest, x) {
-        return 8;
+    if !is_laid_out(bounds, x) {
+        return Err(Refusal::Fields);
     }
-    if end_mark(x.opcode) != last {
-        return 9;
+    if ends_block(x.opcode) != last {
+        return Err(Refusal::LastInBlock);
     }
-    0
+    Ok(())
 }
 
 // How many of its instructions the buffer has, so that the loop need not ask at each.
@@ -364,69 +360,46 @@ fn instructions_held(cells: &[u64]) -> usize
 }
 
 // Questions 8 and 9 of all instructions.
-fn ask_instructions(
-    opcodes: u64,
-    limits: &[u64],
-    largest: &[u64],
-    cells: &[u64],
-    marks: &[u8],
-) -> u8
-    requires { (opcodes ≡ last_opcode (version_of cells.now)) × Limited opcodes (block_count cells.now) limits.now largest.now
+fn ask_instructions(bounds: &Bounds, cells: &[u64], marks: &[bool]) -> Result<(), Refusal>
+    requires { (bounds.now.opcodes ≡ last_opcode (version_of cells.now)) × Limited bounds.now.opcodes (block_count cells.now) bounds.now.largest
         × (2 < length cells.now) × (instruction_count cells.now ≤ most_instructions) × Ended cells.now marks.now }
-    ensures { result ≡ first_no (instruction_no cells.now) (instruction_count cells.now) 0 }
+    ensures { no_of result ≡ first_no (instruction_no cells.now) (instruction_count cells.now) 0 }
 {
     let held = instructions_held(cells);
-    let mut i = 0;
-    while i < held {
+    for i in 0..held {
         let x = layout::instruction_of(cells, i);
-        let no = ask_instruction(opcodes, limits, largest, x, marks[i + 1]);
-        if no != 0 {
-            return no;
-        }
-        i = i + 1;
+        ask_instruction(bounds, x, marks[i + 1])?;
     }
     if held < cells[layout::INSTRUCTION_COUNT] as usize {
-        return 8;
+        return Err(Refusal::Fields);
     }
-    0
+    Ok(())
 }
 
 // Questions 6 to 9. This crate alone calls it, after question 4.
-pub fn ask_records(cells: &[u64]) -> u8
+pub fn ask_records(cells: &[u64]) -> Result<(), Refusal>
     requires { counts_no (block_count cells.now) (instruction_count cells.now) ≡ 0 }
-    ensures { result ≡ records_no cells.now }
+    ensures { no_of result ≡ records_no cells.now }
 {
-    let mut marks = [0u8; 1025];
-    let no = ask_blocks(cells, &mut marks);
-    if no != 0 {
-        return no;
-    }
+    let mut marks = [false; 1025];
+    ask_blocks(cells, &mut marks)?;
     let end = cells[layout::INSTRUCTION_COUNT] as usize;
-    marks[end] = 1;
-    let mut limits = [0u64; 72];
-    all_limits(&mut limits);
-    let largest = largest_operands(cells[layout::BLOCK_COUNT]);
-    let opcodes = last_opcode(cells[layout::VERSION]);
-    ask_instructions(opcodes, &limits, &largest, cells, &marks)
+    marks[end] = true;
+    let bounds = bounds_of(cells[layout::VERSION], cells[layout::BLOCK_COUNT]);
+    ask_instructions(&bounds, cells, &marks)
 }
 
 // Questions 3, 4 and 6 to 9: what the writer, start, pick and run put to their program.
-pub fn ask_program(cells: &[u64]) -> u8
-    ensures { result ≡ program_no cells.now }
+pub fn ask_program(cells: &[u64]) -> Result<(), Refusal>
+    ensures { no_of result ≡ program_no cells.now }
 {
     if cells.len() < 1 {
-        return 3;
+        return Err(Refusal::Version);
     }
-    let unknown = ask_version(cells[layout::VERSION]);
-    if unknown != 0 {
-        return unknown;
-    }
+    ask_version(cells[layout::VERSION])?;
     if cells.len() < 3 {
-        return 4;
+        return Err(Refusal::Counts);
     }
-    let no = ask_counts(cells[layout::BLOCK_COUNT], cells[layout::INSTRUCTION_COUNT]);
-    if no != 0 {
-        return no;
-    }
+    ask_counts(cells[layout::BLOCK_COUNT], cells[layout::INSTRUCTION_COUNT])?;
     ask_records(cells)
 }

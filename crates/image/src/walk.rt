@@ -1,5 +1,7 @@
 // The walk over an image's records, blocks and then instructions, with one offset that each record moves on. Reader and image check both
 // take it: it puts the questions to each record and, where `lays` says that cells are wanted, lays the record into a program buffer.
+// Tried with an `Option<&mut [u64]>` in place of flag and cells: after the call only the length of what was lent in it is known, so the
+// proof of `cells_after` didn't close.
 ghost use Rattle.std.specs.Prelude.{◌≡◌, true, cond, [], ◌∷◌, ◌+◌, ◌-◌, ◌<◌, ◌≤◌, length};
 ghost use Rattle.std.proofs.lemmas.List.Edits.{sets};
 ghost use Rattle.image.specs.Layout.{block_place, instruction_place, version_in, blocks_in, instructions_in, program_cells};
@@ -9,25 +11,36 @@ ghost use Rattle.image.specs.Marks.{Marked, Ended};
 ghost use Rattle.image.specs.Limits.{Limited};
 ghost use Rattle.image.specs.Doors.{header_no};
 ghost use Rattle.image.specs.Offset.{blocks_passed, blocks_offset, instructions_offset, offset_in};
-ghost use Rattle.image.specs.Walked.{blocks_walked, instructions_walked, records_walked};
+ghost use Rattle.image.specs.Refusals.{no_of};
+ghost use Rattle.image.specs.Walked.{walked_no, walked_to, blocks_walked, instructions_walked, records_walked};
 
+use crate::questions::Bounds;
+use crate::refusal::Refusal;
 use crate::{Block, layout, questions};
 
-// What the walk came to: the first no, or 0, and the offset there.
-#[derive(Clone, Copy)]
-pub struct Walked {
-    pub no: u8,
+// Where the walk stopped: the first no, and the offset of what was refused.
+#[derive(Clone, Copy, Debug, PartialEq, Eq)]
+pub struct Stopped {
+    pub refusal: Refusal,
     pub at: usize,
 }
 
+impl From<Stopped> for Refusal {
+    ghost from_gives = { λ stopped refusal. refusal ≡ stopped.refusal };
+
+    fn from(stopped: Stopped) -> Refusal {
+        stopped.refusal
+    }
+}
+
 // Questions 6 and 7 of block b, whose record was read; its predecessor starts at `before`.
-fn ask_block_in(version: u64, image: &[u8], b: usize, before: u64, k: Block) -> u8
+fn ask_block_in(version: u64, image: &[u8], b: usize, before: u64, k: Block) -> Result<(), Refusal>
     requires { (header_no image.now ≡ 0) × (version ≡ version_in image.now) × (b < blocks_in image.now)
         × (k ≡ block_in (version_in image.now) image.now (block_place (version_in image.now) b))
         × (0 < b → before ≡ (block_in (version_in image.now) image.now (block_place (version_in image.now) (b - 1))).first) }
-    ensures { result ≡ block_no (cells_in image.now) b }
+    ensures { no_of result ≡ block_no (cells_in image.now) b }
 {
-    let blocks = layout::wide(image[5]);
+    let blocks = u64::from(image[5]);
     let instructions = int64::read_u16(image, 6);
     questions::ask_block_record(version, blocks, instructions, b, before, k)
 }
@@ -43,52 +56,52 @@ fn lay_block(lays: bool, cells: &mut [u64], to: usize, k: Block)
 }
 
 // Questions 6 and 7 of all blocks. Marks the instructions that start a block, and lays the blocks, up to the first that is refused.
-fn walk_blocks(image: &[u8], marks: &mut [u8], lays: bool, cells: &mut [u64]) -> Walked
+fn walk_blocks(
+    image: &[u8],
+    marks: &mut [bool],
+    lays: bool,
+    cells: &mut [u64],
+) -> Result<usize, Stopped>
     requires { (header_no image.now ≡ 0) × Marked (cells_in image.now) 0 marks.old × (lays ≡ true → length cells.old ≡ program_cells) }
-    ensures no_value { result.no ≡ first_no (block_no (cells_in image.now)) (blocks_in image.now) 0 }
-    ensures at_value { result.at ≡ blocks_offset image.now }
+    ensures no_value { walked_no result ≡ first_no (block_no (cells_in image.now)) (blocks_in image.now) 0 }
+    ensures at_value { walked_to result ≡ blocks_offset image.now }
     ensures marked { Marked (cells_in image.now) (blocks_passed image.now) marks.new }
     ensures cells_after { cells.new ≡ cond lays (blocks_walked image.now cells.old) cells.old }
 {
     let version = int64::read_u16(image, 3);
     let size = layout::block_size(version);
-    let blocks = layout::wide(image[5]) as usize;
+    let blocks = usize::from(image[5]);
     let mut at = 8;
     let mut to = layout::FIRST_BLOCK;
     let mut before = 0;
-    let mut b = 0;
-    while b < blocks {
+    for b in 0..blocks {
         let k = layout::block_in(version, image, at);
-        let no = ask_block_in(version, image, b, before, k);
-        if no != 0 {
-            return Walked { no, at };
+        if let Err(refusal) = ask_block_in(version, image, b, before, k) {
+            return Err(Stopped { refusal, at });
         }
         before = k.first;
-        marks[before as usize] = 1;
+        marks[before as usize] = true;
         lay_block(lays, cells, to, k);
-        at = at + size;
-        to = to + 6;
-        b = b + 1;
+        at += size;
+        to += layout::BLOCK_CELLS;
     }
-    Walked { no: 0, at }
+    Ok(at)
 }
 
 // Questions 8 and 9 of instruction i, whose record is at `at`.
 fn ask_instruction_in(
-    opcodes: u64,
-    limits: &[u64],
-    largest: &[u64],
+    bounds: &Bounds,
     image: &[u8],
-    marks: &[u8],
+    marks: &[bool],
     i: usize,
     at: usize,
-) -> u8
-    requires { (header_no image.now ≡ 0) × (opcodes ≡ last_opcode (version_in image.now)) × Limited opcodes (blocks_in image.now) limits.now largest.now
+) -> Result<(), Refusal>
+    requires { (header_no image.now ≡ 0) × (bounds.now.opcodes ≡ last_opcode (version_in image.now)) × Limited bounds.now.opcodes (blocks_in image.now) bounds.now.largest
         × Ended (cells_in image.now) marks.now × (i < instructions_in image.now) × (at ≡ instruction_place (version_in image.now) (blocks_in image.now) i) }
-    ensures { result ≡ instruction_no (cells_in image.now) i }
+    ensures { no_of result ≡ instruction_no (cells_in image.now) i }
 {
     let x = layout::instruction_in(image, at);
-    questions::ask_instruction(opcodes, limits, largest, x, marks[i + 1])
+    questions::ask_instruction(bounds, x, marks[i + 1])
 }
 
 // Lays the instruction record at `at` into the cells from `to` on.
@@ -104,59 +117,46 @@ fn lay_instruction(image: &[u8], at: usize, lays: bool, cells: &mut [u64], to: u
 
 // Questions 8 and 9 of all instructions, whose records begin at `start`, the last block's end.
 fn walk_instructions(
-    opcodes: u64,
-    limits: &[u64],
-    largest: &[u64],
+    bounds: &Bounds,
     image: &[u8],
-    marks: &[u8],
+    marks: &[bool],
     start: usize,
     lays: bool,
     cells: &mut [u64],
-) -> Walked
-    requires { (header_no image.now ≡ 0) × (opcodes ≡ last_opcode (version_in image.now)) × Limited opcodes (blocks_in image.now) limits.now largest.now
+) -> Result<usize, Stopped>
+    requires { (header_no image.now ≡ 0) × (bounds.now.opcodes ≡ last_opcode (version_in image.now)) × Limited bounds.now.opcodes (blocks_in image.now) bounds.now.largest
         × Ended (cells_in image.now) marks.now × (start ≡ block_place (version_in image.now) (blocks_in image.now)) × (lays ≡ true → length cells.old ≡ program_cells) }
-    ensures no_value { result.no ≡ first_no (instruction_no (cells_in image.now)) (instructions_in image.now) 0 }
-    ensures at_value { result.at ≡ instructions_offset image.now }
+    ensures no_value { walked_no result ≡ first_no (instruction_no (cells_in image.now)) (instructions_in image.now) 0 }
+    ensures at_value { walked_to result ≡ instructions_offset image.now }
     ensures cells_after { cells.new ≡ cond lays (instructions_walked image.now cells.old) cells.old }
 {
     let instructions = int64::read_u16(image, 6) as usize;
     let mut at = start;
     let mut to = layout::FIRST_INSTRUCTION;
-    let mut i = 0;
-    while i < instructions {
-        let no = ask_instruction_in(opcodes, limits, largest, image, marks, i, at);
-        if no != 0 {
-            return Walked { no, at };
+    for i in 0..instructions {
+        if let Err(refusal) = ask_instruction_in(bounds, image, marks, i, at) {
+            return Err(Stopped { refusal, at });
         }
         lay_instruction(image, at, lays, cells, to);
-        at = at + 12;
-        to = to + 5;
-        i = i + 1;
+        at += 12;
+        to += layout::INSTRUCTION_CELLS;
     }
-    Walked { no: 0, at }
+    Ok(at)
 }
 
 // Questions 6 to 9. The reader alone calls it, after the header's questions.
-pub fn walk_records(image: &[u8], lays: bool, cells: &mut [u64]) -> Walked
+pub fn walk_records(image: &[u8], lays: bool, cells: &mut [u64]) -> Result<usize, Stopped>
     requires { (header_no image.now ≡ 0) × (lays ≡ true → length cells.old ≡ program_cells) }
-    ensures no_value { result.no ≡ records_no (cells_in image.now) }
-    ensures at_value { result.at ≡ offset_in image.now }
+    ensures no_value { walked_no result ≡ records_no (cells_in image.now) }
+    ensures at_value { walked_to result ≡ offset_in image.now }
     ensures cells_after { cells.new ≡ cond lays (records_walked image.now cells.old) cells.old }
 {
-    let mut marks = [0u8; 1025];
-    let walked = walk_blocks(image, &mut marks, lays, cells);
-    if walked.no != 0 {
-        return walked;
-    }
+    let mut marks = [false; 1025];
+    let start = walk_blocks(image, &mut marks, lays, cells)?;
     let end = int64::read_u16(image, 6) as usize;
-    marks[end] = 1;
-    let mut limits = [0u64; 72];
-    questions::all_limits(&mut limits);
-    let largest = questions::largest_operands(layout::wide(image[5]));
-    let opcodes = questions::last_opcode(int64::read_u16(image, 3));
-    walk_instructions(
-        opcodes, &limits, &largest, image, &marks, walked.at, lays, cells,
-    )
+    marks[end] = true;
+    let bounds = questions::bounds_of(int64::read_u16(image, 3), u64::from(image[5]));
+    walk_instructions(&bounds, image, &marks, start, lays, cells)
 }
 
 // Lays the version and the two counts into the first cells. The reader alone calls it, with an image that has a header.
@@ -167,7 +167,7 @@ pub fn lay_head(image: &[u8], lays: bool, cells: &mut [u64])
 {
     if lays {
         cells[layout::VERSION] = int64::read_u16(image, 3);
-        cells[layout::BLOCK_COUNT] = layout::wide(image[5]);
+        cells[layout::BLOCK_COUNT] = u64::from(image[5]);
         cells[layout::INSTRUCTION_COUNT] = int64::read_u16(image, 6);
     }
 }

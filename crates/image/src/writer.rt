@@ -5,7 +5,9 @@ ghost use Rattle.image.specs.Layout.{rows, block_place, image_length, program_ce
 ghost use Rattle.image.specs.Layout.{block_bytes, instruction_bytes, header_of, image_of};
 ghost use Rattle.image.specs.Questions.{most_blocks, most_instructions, counts_no};
 ghost use Rattle.image.specs.Doors.{write_no, unless_refused};
+ghost use Rattle.image.specs.Refusals.{no_of};
 
+use crate::refusal::Refusal;
 use crate::{layout, questions};
 
 // The mark, the version and the two counts.
@@ -13,10 +15,7 @@ fn encode_header(cells: &[u64], image: &mut [u8])
     requires { (2 < length cells.now) × (8 ≤ length image.old) }
     ensures { image.new ≡ sets image.old 0 (header_of cells.now) }
 {
-    let mark = b"TPB";
-    image[0] = mark[0];
-    image[1] = mark[1];
-    image[2] = mark[2];
+    image[..3].copy_from_slice(b"TPB");
     int64::write_u16(image, 3, cells[layout::VERSION]);
     image[5] = (cells[layout::BLOCK_COUNT] % 256) as u8;
     int64::write_u16(image, 6, cells[layout::INSTRUCTION_COUNT]);
@@ -35,13 +34,11 @@ fn encode_blocks(cells: &[u64], image: &mut [u8]) -> usize
     let blocks = cells[layout::BLOCK_COUNT];
     let mut at = 8;
     let mut from = layout::FIRST_BLOCK;
-    let mut b = 0;
-    while b < blocks {
+    for _b in 0..blocks {
         let k = layout::block_from(cells, from);
         layout::put_block_bytes(version, image, at, k);
-        at = at + size;
-        from = from + 6;
-        b = b + 1;
+        at += size;
+        from += layout::BLOCK_CELLS;
     }
     at
 }
@@ -57,13 +54,11 @@ fn encode_instructions(cells: &[u64], start: usize, image: &mut [u8]) -> usize
     let instructions = cells[layout::INSTRUCTION_COUNT];
     let mut at = start;
     let mut from = layout::FIRST_INSTRUCTION;
-    let mut i = 0;
-    while i < instructions {
+    for _i in 0..instructions {
         let x = layout::instruction_from(cells, from);
         layout::put_instruction_bytes(image, at, x);
-        at = at + 12;
-        from = from + 5;
-        i = i + 1;
+        at += 12;
+        from += layout::INSTRUCTION_CELLS;
     }
     at
 }
@@ -80,16 +75,13 @@ pub fn encode(cells: &[u64], image: &mut [u8])
 }
 
 // Writes a program to the lent image buffer, the whole of it; a refusal leaves the buffer as it was.
-pub fn write(cells: &[u64], image: &mut [u8]) -> u8
-    ensures value { result ≡ write_no cells.now (length image.old) }
-    ensures image_after { image.new ≡ unless_refused result (image_of cells.now) image.old }
+pub fn write(cells: &[u64], image: &mut [u8]) -> Result<(), Refusal>
+    ensures value { no_of result ≡ write_no cells.now (length image.old) }
+    ensures image_after { image.new ≡ unless_refused (no_of result) (image_of cells.now) image.old }
 {
-    let no = questions::ask_program(cells);
-    if no != 0 {
-        return no;
-    }
+    questions::ask_program(cells)?;
     if cells.len() != layout::PROGRAM_CELLS {
-        return 15;
+        return Err(Refusal::Buffer);
     }
     let size = layout::image_length(
         cells[layout::VERSION],
@@ -97,8 +89,8 @@ pub fn write(cells: &[u64], image: &mut [u8]) -> u8
         cells[layout::INSTRUCTION_COUNT],
     );
     if image.len() as u64 != size {
-        return 15;
+        return Err(Refusal::Buffer);
     }
     encode(cells, image);
-    0
+    Ok(())
 }

@@ -1,6 +1,8 @@
 -- `residue z` is below 2 ^ 64 and differs from z by a multiple of 2 ^ 64; `wrapped z` fits 64 bits, has z's residue, and is z where z fits.
-use Rattle.std.proofs.Common.{◌≡◌, ℕ, zero, suc, ◌+◌, ◌-◌, ◌*◌, ◌/◌, ◌%◌, ◌^◌, ◌<◌, ℤ, pos, negsuc, ◌+ℤ◌, ◌*ℤ◌, neg_ℤ, ap, ◌∙◌, arith, w64, SFits, to_z, of_z, lt-ltb}
+use Rattle.std.proofs.Common.{◌≡◌, ℕ, zero, suc, ◌+◌, ◌-◌, ◌*◌, ◌/◌, ◌%◌, ◌^◌, ◌<◌, ℤ, pos, negsuc, ◌+ℤ◌, ◌*ℤ◌, neg_ℤ, refl, ap, ◌∙◌, arith, w64, SFits, to_z, of_z, lt-ltb}
 use mir.ValLaws.{to_z-of_z, to_z-Fits, of_z-to_z}
+use Rattle.std.specs.Int.{int_wrap, int_rem_euclid}
+use Rattle.std.specs.Int.RustNames.{unsigned_abs}
 use Rattle.int64.specs.Wrapped.{residue, wrapped}
 
 pub residue-below : (z : ℤ) → residue z < 2 ^ 64
@@ -34,3 +36,12 @@ wrapped-fits z = to_z-Fits w64 (residue z) (record { fits = residue-below z })
 
 pub wrapped-residue : (z : ℤ) → residue (wrapped z) ≡ residue z
 wrapped-residue z = residue_bits (wrapped z) (wrapped-fits z) ∙ of_z-to_z w64 (residue z) (record { fits = residue-below z })
+
+-- the library's word for the same
+wrapped_cases : (z : ℤ) → unsigned_abs (int_rem_euclid z (pos (2 ^ 64))) ≡ residue z
+wrapped_cases (pos n) = refl
+wrapped_cases (negsuc n) = refl
+
+pub wrapped_is : (z : ℤ) → int_wrap w64 z ≡ wrapped z
+unfolding int_wrap
+wrapped_is z = ap (to_z w64) (wrapped_cases z)

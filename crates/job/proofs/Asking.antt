@@ -8,7 +8,10 @@ use borrow.Author.Tests.{eq-eqb, ne_eqb}
 use Rattle.image.specs.Layout.{program_cells, cells_in}
 use Rattle.image.specs.Doors.{image_no, write_no, unless_refused}
 use Rattle.image.specs.Walked.{scanned}
-use Rattle.image.proofs.Asked.{ask_yes, or_else_no, or_else_yes, or_else_both}
+use Rattle.image.specs.declared.refusal.Refusal.{Refusal}
+use Rattle.image.specs.Refusals.{number}
+use Rattle.image.proofs.Refusals.{no_decides}
+use Rattle.image.proofs.Asked.{ask_yes, or_else_yes, or_else_both}
 use Rattle.image.specs.Questions.{or_else, program_no}
 use Rattle.image.proofs.RoundTrip.{read_writes}
 use Rattle.image.proofs.Walked.{scanned-accepted}
@@ -49,18 +52,17 @@ module _ (bytes : List ℕ) where
       let p = or_else_both (length_no bytes) (or_else (image_no (job_image bytes)) start) e in
       scanned-image p.0 ∙ scanned-accepted (job_image bytes) (or_else_both (image_no (job_image bytes)) start p.1).0
 
-  pub refused-by-length : (r : ℕ) → r ≡ length_no bytes → (r ≡ 0 → ⊥) → r ≡ job_no bytes
+  pub refused_by_length : (r : Refusal) → number r ≡ length_no bytes → number r ≡ job_no bytes
   unfolding job_no
-  refused-by-length r e h = e ∙ sym (or_else_no (length_no bytes) (or_else (image_no (job_image bytes)) start) (λ z. h (e ∙ z)))
+  refused_by_length r e = sym (no_decides r (length_no bytes) (or_else (image_no (job_image bytes)) start) e)
 
   module _ (fits : length_no bytes ≡ 0) where
-    pub refused-by-image : (r : ℕ) → r ≡ image_no (job_image bytes) → (r ≡ 0 → ⊥) → r ≡ job_no bytes
+    pub refused_by_image : (r : Refusal) → number r ≡ image_no (job_image bytes) → number r ≡ job_no bytes
     unfolding job_no
-    refused-by-image r e h =
-        e
-        ∙ sym
+    refused_by_image r e =
+        sym
         (or_else_yes (length_no bytes) (or_else (image_no (job_image bytes)) start) fits
-        ∙ or_else_no (image_no (job_image bytes)) start (λ z. h (e ∙ z)))
+        ∙ no_decides r (image_no (job_image bytes)) start e)
 
     pub answered-by-start : (cells : List ℕ) (places interval words r : ℕ) → image_no (job_image bytes) ≡ 0
         → cells ≡ cells_in (job_image bytes) → places ≡ job_places bytes → interval ≡ job_interval bytes → words ≡ word_count bytes

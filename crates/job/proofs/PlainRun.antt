@@ -19,6 +19,8 @@ use Rattle.image.specs.Questions.{program_no}
 use Rattle.image.proofs.Accepted.{accepted}
 use Rattle.agreement.specs.Plain.{Ran, out, ran, eval}
 use Rattle.serial.specs.Serial.{Outcome, spent, done, within_budget}
+use Rattle.task.specs.declared.Status.{Status}
+use Rattle.task.specs.declared.Status.TheVariants.{Vacant, Running, Waiting, Halted, Faulted}
 use Rattle.task.specs.declared.Value.{Value}
 use Rattle.task.specs.declared.Value.TheVariants.{Int}
 use Rattle.task.specs.declared.Register.{Register}
@@ -132,7 +134,6 @@ module _ (cells code : List ℕ) (lent places n : ℕ) (registers : List ℤ) (c
       limited = can.limited;
     };
     all_places = rank_power places can.its_places_allowed;
-    first_sized = (bits.same_length ∙ can.sixteen, refl);
     values_fit = λ i. ap (λ l. value_fits (program_of cells) (in_register i l)) first-registers ∙ integers-fit (program_of cells) registers i;
   }
 
@@ -155,21 +156,23 @@ left-within n (ran e w) = by (leb w n)
     by true = omega arith
     by false = omega arith
 
-left_by : (w places span left : ℕ) (u : Stacked) (l : List Register) (n : ℕ) (x : Ran Frame) → (w ≡ 0 → left ≡ 0)
-    → outcome_from w places span left u l ≡ within_budget n x → left ≤ n
-left_by zero places span left u l n x z e = omega (arith, z refl)
-left_by (suc w) places span left u l n x z e =
-    let q : left ≡ left_in (within_budget n x) = ap left_in e in
-    omega (arith, q, left-within n x)
+left_by : (s : Status) (places span left : ℕ) (u : Stacked) (l : List Register) (n : ℕ) (x : Ran Frame) → (s ≡ Running → left ≡ 0)
+    → outcome_from s places span left u l ≡ within_budget n x → left ≤ n
+left_by Running places span left u l n x z e = omega (arith, z refl)
+left_by Vacant places span left u l n x z e = let q : left ≡ left_in (within_budget n x) = ap left_in e in omega (arith, q, left-within n x)
+left_by Waiting places span left u l n x z e = let q : left ≡ left_in (within_budget n x) = ap left_in e in omega (arith, q, left-within n x)
+left_by Halted places span left u l n x z e = let q : left ≡ left_in (within_budget n x) = ap left_in e in omega (arith, q, left-within n x)
+left_by (Faulted f) places span left u l n x z e = let q : left ≡ left_in (within_budget n x) = ap left_in e in omega (arith, q, left-within n x)
 
 pub can_report : (cells : List ℕ) (n : ℕ) (z : Finished) (u : Stacked) (nums kinds : List ℕ) (x : Ran Frame) → program_no cells ≡ 0 → n ≤ work_limit
-    → finished_of z u nums kinds ≡ within_budget n x → (z.what ≡ 0 → z.left ≡ 0) → Closes cells z nums kinds → CanReport n z nums kinds
+    → finished_of z u nums kinds ≡ within_budget n x → (z.status ≡ Running → z.left ≡ 0) → Closes cells z nums kinds → CanReport n z nums kinds
 can_report cells n z u nums kinds x ok limited e none closes = record {
   sized = closes.last_sized;
   limited = limited;
-  left_most = left_by z.what z.places z.span z.left u (registers_of nums kinds) n x none e;
+  left_most = left_by z.status z.places z.span z.left u (registers_of nums kinds) n x none e;
   span_most = closes.span_most;
   its_fault_listed = closes.its_fault_listed;
+  at_end = closes.at_end;
   labels_fit = λ h i l k.
       let f : ltb (get_or nums i 0) (program_of cells).blocks ≡ true = ap (value_fits (program_of cells)) (sym (label_at nums kinds i closes.last_sized l k)) ∙ closes.last_fit h i in
       omega (arith, ltb-true (get_or nums i 0) (program_of cells).blocks f, (accepted cells ok).few_blocks);
@@ -178,29 +181,22 @@ can_report cells n z u nums kinds x ok limited e none closes = record {
 -- ---- The report
 
 module _ (n : ℕ) (z : Finished) (nums kinds : List ℕ) (u : Stacked) where
-  abbrev by_what : ℕ → Report
-  by_what w = report_from n (outcome_from w z.places z.span z.left u (registers_of nums kinds))
+  abbrev by_status : Status → Report
+  by_status s = report_from n (outcome_from s z.places z.span z.left u (registers_of nums kinds))
 
-  pub reports_halt : z.what ≡ 1 → {l : List Register} → l ≡ registers_of nums kinds
+  pub reports_halt : z.status ≡ Halted → {l : List Register} → l ≡ registers_of nums kinds
       → ◌≡◌ {A = Report} (record { end = Halt; picks = n - z.left; work = n - z.left; span = z.span; registers = l }) (report_from n (finished_of z u nums kinds))
   reports_halt e q =
-      (λ i. record { end = Halt; picks = n - z.left; work = n - z.left; span = z.span; registers = q i }) ∙ ap by_what (sym e)
+      (λ i. record { end = Halt; picks = n - z.left; work = n - z.left; span = z.span; registers = q i }) ∙ ap by_status (sym e)
 
-  pub reports_spent : z.what ≡ 0
+  pub reports_spent : z.status ≡ Running
       → ◌≡◌ {A = Report} (record { end = NotEnded; picks = n; work = n; span = 0; registers = zeros }) (report_from n (finished_of z u nums kinds))
-  reports_spent e = ap by_what (sym e)
+  reports_spent e = ap by_status (sym e)
 
-  fault_by : (w : ℕ) → 31 ≤ w
-      → ◌≡◌ {A = Report} (record { end = Fault w; picks = n - z.left; work = n - z.left; span = z.span; registers = zeros }) (by_what w)
-  fault_by zero h = absurd (omega arith)
-  fault_by (suc zero) h = absurd (omega arith)
-  fault_by (suc (suc zero)) h = absurd (omega arith)
-  fault_by (suc (suc (suc w))) h = refl
-
-  pub reports_fault : 31 ≤ z.what
-      → ◌≡◌ {A = Report} (record { end = Fault z.what; picks = n - z.left; work = n - z.left; span = z.span; registers = zeros })
+  pub reports_fault : (f : ℕ) → z.status ≡ Faulted f
+      → ◌≡◌ {A = Report} (record { end = Fault f; picks = n - z.left; work = n - z.left; span = z.span; registers = zeros })
       (report_from n (finished_of z u nums kinds))
-  reports_fault h = fault_by z.what h
+  reports_fault f e = ap by_status (sym e)
 
 -- ---- An accepted job
 

@@ -9,16 +9,19 @@ use lib.Seq.{sets}
 use borrow.Author.Tests.{eq-eqb, ne_eqb}
 use Rattle.image.specs.Layout.{cells_in}
 use Rattle.drive.specs.declared.State.{State}
-use Rattle.machine.specs.declared.Dispatched.{Dispatched}
 use Rattle.machine.specs.Dispatching.{lanes_allowed, dispatched}
 use Rattle.machine.proofs.DispatchLaws.{passed-dispatch, dispatch-accepted}
 use Rattle.machine.specs.Starting.{fresh, empty}
+use native.Mathlib.Omega.{arith}
+use Rattle.image.specs.declared.refusal.Refusal.{Refusal}
+use Rattle.image.specs.Refusals.{number}
+use Rattle.image.proofs.Refusals.{number_positive}
+use Rattle.drive.specs.Ending.{job_ended}
 use Rattle.drive.proofs.Intervals.{interval_fits}
 use Rattle.drive.proofs.ShapeLaws.{Fits, fits-shape}
 use Rattle.machine.proofs.StartLaws.{StartAccepted, start_accepted, started-fresh, fresh-fits}
 use Rattle.orders.specs.Demand.{Job, start_on}
 use Rattle.report.specs.declared.Report.{Report}
-use Rattle.report.specs.Report.{report_of}
 use Rattle.report.specs.Text.{text_of, refused_text, text_room}
 use Rattle.job.specs.Job.{job_image, job_places, job_interval, job_registers, job_words, job_no}
 use Rattle.job.specs.Replay.{job_in}
@@ -42,15 +45,15 @@ module _ (bytes : List ℕ) (accepted : job_no bytes ≡ 0) where
     its_state = e ∙ (λ i. fresh (q i) (r i) (s i))
 
     -- in rounds: none of the dispatcher's questions is answered with no
-    pub rounds-agree : {words : List ℤ} (t : words ≡ job_words bytes) (lanes budget : ℕ) → lanes_allowed lanes ≡ true → {d : Dispatched} {report : Report}
-        → d ≡ dispatched cells words m lanes budget → report ≡ report_of d.machine.state d.picks
-        → let o = rounds_in bytes lanes budget in (report ≡ report_of o.state o.picks) × (d.rounds ≡ o.kept.done)
-    rounds-agree t lanes budget allows f g =
+    pub rounds_agree : {words : List ℤ} (t : words ≡ job_words bytes) (lanes budget : ℕ) → lanes_allowed lanes ≡ true
+        → let o = rounds_in bytes lanes budget in
+        dispatched cells words m lanes budget
+        ≡ record { no = 0; ended = job_ended o.state; rounds = o.kept.done; picks = o.picks; machine = record { state = o.state } }
+    rounds_agree t lanes budget allows =
         let first : m ≡ start_on j (empty 0 0) = its_state ∙ sym (started-fresh (empty 0 0) j.cells j.places j.interval j.registers j.words (start-agrees bytes accepted)) in
         let x : Fits j.cells j.interval j.places (start_on j (empty 0 0)) = subst (Fits j.cells j.interval j.places) (sym its_state ∙ first) (fresh-fits start) in
         let passes = passed-dispatch j.cells j.words lanes (start_on j (empty 0 0)) (record { program = start.allowed.program; lent = start.lent }) allows (fits-shape start.allowed _ x) in
-        let same = f ∙ (λ i. dispatched (p i) (t i) (first i) lanes budget) ∙ dispatch-accepted j.cells j.words lanes (start_on j (empty 0 0)) budget passes in
-        (g ∙ ap (λ (o : Dispatched). report_of o.machine.state o.picks) same, ap (λ (o : Dispatched). o.rounds) same)
+        (λ i. dispatched (p i) (t i) (first i) lanes budget) ∙ dispatch-accepted j.cells j.words lanes (start_on j (empty 0 0)) budget passes
 
 -- ---- the text
 
@@ -67,10 +70,10 @@ module _ (bytes : List ℕ) (budget : ℕ) (out : List ℕ) (room : length out �
   given text e p q =
       (rw (eq-eqb (length out) text_room room) (p ∙ ap length (sym e)), rw (eq-eqb (length out) text_room room) (q ∙ ap (sets out 0) (sym e)))
 
-  pub refusal-given : (refusal : ℕ) → refusal ≡ job_no bytes → (refusal ≡ 0 → ⊥) → n ≡ length (refused_text refusal) → stored ≡ sets out 0 (refused_text refusal)
+  pub refusal_given : (r : Refusal) → number r ≡ job_no bytes → n ≡ length (refused_text (number r)) → stored ≡ sets out 0 (refused_text (number r))
       → (n ≡ text_length bytes budget (length out)) × (stored ≡ text_stored bytes budget out)
   unfolding text_in
-  refusal-given refusal e some = given (refused_text refusal) (rw (← e, ne_eqb refusal 0 some))
+  refusal_given r e = given (refused_text (number r)) (rw (← e, ne_eqb (number r) 0 (λ z. omega (arith, number_positive r))))
 
   pub report_given : (r : Report) → job_no bytes ≡ 0 → r ≡ report_in bytes budget → n ≡ length (text_of r) → stored ≡ sets out 0 (text_of r)
       → (n ≡ text_length bytes budget (length out)) × (stored ≡ text_stored bytes budget out)

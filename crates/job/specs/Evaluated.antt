@@ -5,6 +5,7 @@ use Rattle.std.proofs.Common.{to_z}
 use Rattle.image.specs.Layout.{instruction_count}
 use Rattle.image.specs.Questions.{program_no}
 use Rattle.task.specs.Frames.{work_limit}
+use Rattle.task.specs.declared.Status.TheVariants.{Vacant, Waiting, Halted, Faulted}
 use Rattle.evaluator.specs.declared.Finished.{Finished}
 use Rattle.arms.specs.Registers.{Sized}
 use Rattle.drive.specs.Settings.{places_allowed}
@@ -24,8 +25,9 @@ pub record CanReport (n : ℕ) (z : Finished) (nums kinds : List ℕ) : Type 0 w
   pub limited : n ≤ work_limit
   pub left_most : z.left ≤ n
   pub span_most : z.span ≤ work_limit
-  pub its_fault_listed : (z.what ≡ 0 → ⊥) → (z.what ≡ 1 → ⊥) → (31 ≤ z.what) × (z.what ≤ 43)
-  pub labels_fit : z.what ≡ 1 → LabelsFit nums kinds
+  pub its_fault_listed : (f : ℕ) → z.status ≡ Faulted f → (31 ≤ f) × (f ≤ 43)
+  pub at_end : (z.status ≡ Vacant → ⊥) × (z.status ≡ Waiting → ⊥)
+  pub labels_fit : z.status ≡ Halted → LabelsFit nums kinds
 
 -- what the evaluation of a job within n instructions rests on, with this room for the decoded program
 pub record CanRun (cells : List ℕ) (lent places n : ℕ) (registers : List ℤ) : Type 0 where

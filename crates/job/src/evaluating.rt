@@ -12,22 +12,24 @@ ghost use Rattle.orders.specs.Demand.{evaluation_of};
 ghost use Rattle.outcomes.specs.Outcomes.{allowance, report_from};
 ghost use Rattle.job.specs.Evaluated.{BitsOf, LabelsFit, CanReport, CanRun};
 
+use arms::{Code, Registers};
 use drive::End;
 use evaluator::Finished;
 use report::Report;
-use task::{Register, Value};
+use task::{Register, Status, Value};
 
 // The most work that a state can show.
 const WORK_LIMIT: u64 = 4294967295;
+
+const ZERO: Register = Register {
+    value: Value::Int(0),
+};
 
 // The instructions that a budget allows.
 pub fn allowance_of(budget: u64) -> u64
     ensures { result ≡ allowance budget }
 {
-    if WORK_LIMIT < budget {
-        return WORK_LIMIT;
-    }
-    budget
+    budget.min(WORK_LIMIT)
 }
 
 // The integers as their bits. This crate alone calls it, with room for as many.
@@ -35,67 +37,55 @@ fn bits_of(registers: &[i64], nums: &mut [u64])
     requires { length nums.old ≡ length registers.now }
     ensures { BitsOf registers.now nums.new }
 {
-    let mut i = 0usize;
-    while i < registers.len() {
-        nums[i] = int64::bits(registers[i]);
-        i += 1;
+    for (i, &z) in registers.iter().enumerate() {
+        nums[i] = int64::bits(z);
     }
 }
 
 // The registers that two rows hold. `report_from` alone calls it, for a task that has halted: its labels are numbers of blocks.
-fn registers_of(nums: &[u64], kinds: &[u8]) -> [Register; 16]
-    requires { Sized nums.now kinds.now × LabelsFit nums.now kinds.now }
-    ensures { result ≡ registers_of nums.now kinds.now }
+fn registers_of(rows: &Registers) -> [Register; 16]
+    requires { Sized rows.now.nums rows.now.kinds × LabelsFit rows.now.nums rows.now.kinds }
+    ensures { result ≡ registers_of rows.now.nums rows.now.kinds }
 {
-    let mut out = [Register {
-        value: Value::Int(0),
-    }; 16];
-    let mut i = 0usize;
-    while i < 16 {
-        let value = arms::rows::value_of(kinds[i], nums[i]);
-        out[i] = Register { value };
-        i += 1;
+    let mut out = [ZERO; 16];
+    for (i, r) in out.iter_mut().enumerate() {
+        let value = arms::rows::value_of(rows.kinds[i], rows.nums[i]);
+        *r = Register { value };
     }
     out
 }
 
 // The report of what an evaluation came to within n instructions, whatever the last task's stack. `evaluate_job` alone calls it.
-fn report_from(n: u64, z: Finished, nums: &[u64], kinds: &[u8]) -> Report
-    requires { CanReport n z nums.now kinds.now }
-    ensures { (u : Stacked) → result ≡ report_from n (finished_of z u nums.now kinds.now) }
+fn report_from(n: u64, z: Finished, rows: &Registers) -> Report
+    requires { CanReport n z rows.now.nums rows.now.kinds }
+    ensures { (u : Stacked) → result ≡ report_from n (finished_of z u rows.now.nums rows.now.kinds) }
 {
-    if z.what == 0 {
-        return Report {
+    let done = n - z.left;
+    match z.status {
+        Status::Halted => {
+            let registers = registers_of(rows);
+            Report {
+                end: End::Halt,
+                picks: done,
+                work: done as u32,
+                span: z.span as u32,
+                registers,
+            }
+        }
+        Status::Faulted(fault) => Report {
+            end: End::Fault(fault),
+            picks: done,
+            work: done as u32,
+            span: z.span as u32,
+            registers: [ZERO; 16],
+        },
+        _ => Report {
             end: End::NotEnded,
             picks: n,
             work: n as u32,
             span: 0,
-            registers: [Register {
-                value: Value::Int(0),
-            }; 16],
-        };
-    }
-    let done = n - z.left;
-    let work = done as u32;
-    let span = z.span as u32;
-    if z.what == 1 {
-        let registers = registers_of(nums, kinds);
-        return Report {
-            end: End::Halt,
-            picks: done,
-            work,
-            span,
-            registers,
-        };
-    }
-    Report {
-        end: End::Fault(z.what as u8),
-        picks: done,
-        work,
-        span,
-        registers: [Register {
-            value: Value::Int(0),
-        }; 16],
+            registers: [ZERO; 16],
+        },
     }
 }
 
@@ -113,11 +103,17 @@ pub fn evaluate_job(
     ensures { result ≡ report_from n (within_budget n (evaluation_of (program_of cells.now) (chosen interval) places registers.now words.now work_limit)) }
 {
     arms::decoding::decode(cells, code);
-    let mut nums = [0u64; 16];
-    let mut kinds = [0u8; 16];
-    bits_of(registers, &mut nums);
-    let z = evaluator::flat::evaluate(
-        cells, code, words, interval, places, n, &mut nums, &mut kinds,
-    );
-    report_from(n, z, &nums, &kinds)
+    let mut rows = Registers {
+        nums: [0; 16],
+        kinds: [0; 16],
+    };
+    bits_of(registers, &mut rows.nums);
+    let job = Code {
+        cells,
+        code,
+        words,
+        interval,
+    };
+    let z = evaluator::flat::evaluate(&job, places, n, &mut rows);
+    report_from(n, z, &rows)
 }

@@ -10,22 +10,21 @@ use task::running::is_running;
 
 // Where a round stands: the slot that it looks at next, and the lanes that are left. The tasks taken are the lanes gone, and have no count of
 // their own.
-#[derive(Clone, Copy)]
+#[derive(Clone, Copy, Debug, PartialEq, Eq)]
 pub struct Look {
     pub at: usize,
     pub lanes: u64,
 }
 
 // One look, at the record t of slot from.at. With no lane left it goes to the end, so that the walk stops.
-fn look_at(from: Look, t: Task, end: usize) -> Look
+fn look_at(from: Look, t: &Task, end: usize) -> Look
     requires { from.at < end }
-    ensures { (result ≡ looked from t end) × (from.at < result.at) }
+    ensures { (result ≡ looked from t.now end) × (from.at < result.at) }
 {
     if from.lanes == 0 {
         return Look { at: end, lanes: 0 };
     }
-    let status = t.status;
-    if is_running(status) {
+    if is_running(t.status) {
         return Look {
             at: from.at + 1,
             lanes: from.lanes - 1,
@@ -33,32 +32,25 @@ fn look_at(from: Look, t: Task, end: usize) -> Look
     }
     Look {
         at: from.at + 1,
-        lanes: from.lanes,
+        ..from
     }
 }
 
-// The looks of a round, over records that are lent.
+// The looks of a round, over records that are lent. No `for`: the slot is the look's own, and a look may go to the end.
 pub fn walk(tasks: &[Task], from: Look) -> Look
     ensures { result ≡ walked tasks.now from }
 {
     let mut l = from;
-    while l.at < tasks.len() {
-        l = look_at(l, tasks[l.at], tasks.len());
+    while let Some(t) = tasks.get(l.at) {
+        l = look_at(l, t, tasks.len());
     }
     l
-}
-
-// The same over an array that is passed by value and lent here.
-pub fn walk_array(tasks: [Task; 64], from: Look) -> Look
-    ensures { result ≡ walked tasks from }
-{
-    walk(&tasks, from)
 }
 
 // How many tasks a round with so many lanes takes.
 pub fn lanes_used(tasks: [Task; 64], lanes: u64) -> u64
     ensures { result ≡ tasks_taken tasks lanes }
 {
-    let last = walk_array(tasks, Look { at: 0, lanes });
+    let last = walk(&tasks, Look { at: 0, lanes });
     lanes - last.lanes
 }

@@ -1,6 +1,6 @@
 -- What a dispatcher that is not refused is like, and what each way through it hands back.
 use mathlib.Core.Path.{◌≡◌}
-use mathlib.Core.Bool.{Bool, true, false}
+use mathlib.Core.Bool.{true, false}
 use mathlib.Core.List.{List, []}
 use Prim.Native.Nat.{ℕ, ◌-◌, ◌<◌, ◌≤◌}
 use native.Mathlib.Omega.{arith}
@@ -14,7 +14,6 @@ use Rattle.image.specs.Questions.{or_else}
 use Rattle.image.proofs.Asked.{ask_yes, or_else_both}
 use Rattle.turns.specs.declared.course.Course.TheVariants.{Rounds}
 use Rattle.drive.specs.declared.State.{State}
-use Rattle.drive.specs.declared.Driven.{Driven}
 use Rattle.drive.specs.Ending.{job_ended}
 use Rattle.drive.specs.Shape.{shape}
 use Rattle.drive.specs.Slots.{Sized}
@@ -76,7 +75,7 @@ module _ (cells : List ℕ) (words : List ℤ) (lanes : ℕ) (m : State) where
 
     -- no task was taken: none runs, so the job has ended, and no round begins
     pub dispatch-idle : dispatch_no cells words lanes m ≡ 0 → Sized m → tasks_taken m.tasks lanes ≡ 0
-        → record { no = 0; ended = true; rounds = 0; picks = 0; machine = record { state = m } } ≡ dispatched cells words m lanes budget
+        → record { no = 0; ended = job_ended m; rounds = 0; picks = 0; machine = record { state = m } } ≡ dispatched cells words m lanes budget
     unfolding dispatched
     dispatch-idle passes sized none =
         let x = dispatch-passed passes in
@@ -85,10 +84,9 @@ module _ (cells : List ℕ) (words : List ℤ) (lanes : ℕ) (m : State) where
         (λ k b. taken_none m.tasks lanes x.some_lanes none k) in
         let still = stays cells words (rounds lanes) (work_limit - m.work) (begun m (record { slots = []; done = 0; budget = budget }))
         (rounds_stop lanes m _ (rw over)) in
-        rw (passes, still, over)
+        rw (passes, still)
 
-    pub dispatch-answered : dispatch_no cells words lanes m ≡ 0 → (order : List ℕ) (d : Driven) (z : Bool) → d ≡ driven cells words m order (Rounds lanes budget)
-        → z ≡ job_ended d.state
-        → record { no = 0; ended = z; rounds = d.rounds; picks = d.picks; machine = record { state = d.state } } ≡ dispatched cells words m lanes budget
+    pub dispatch-answered : dispatch_no cells words lanes m ≡ 0 → (order : List ℕ) → let d = driven cells words m order (Rounds lanes budget) in
+        record { no = 0; ended = job_ended d.state; rounds = d.rounds; picks = d.picks; machine = record { state = d.state } } ≡ dispatched cells words m lanes budget
     unfolding dispatched
-    dispatch-answered passes order d z e f = rw (passes, f, e)
+    dispatch-answered passes order = rw passes

@@ -1,24 +1,18 @@
 -- What a pick or a run that is not refused is like, and that the loop carries it out.
-use mathlib.Core.Path.{◌≡◌, refl, sym, ap, ◌∙◌}
-use mathlib.Core.Bool.{Bool, true, false, cond}
+use mathlib.Core.Path.{◌≡◌, sym, ap, ◌∙◌}
+use mathlib.Core.Bool.{true, false, cond}
 use mathlib.Core.List.{List}
-use Prim.Native.Nat.{ℕ, zero, suc, ◌<◌}
-use native.Mathlib.Omega.{arith}
+use Prim.Native.Nat.{ℕ, ◌<◌}
 use lib.Dec.{eqb}
 use lib.IntN.{ℤ}
-use lib.ListN.{length}
 use borrow.Author.Tests.{lt-ltb, ne_eqb}
-use Rattle.image.specs.Layout.{program_of}
-use Rattle.image.specs.Questions.{ask, or_else}
 use Rattle.image.specs.Doors.{unless_refused}
-use Rattle.image.proofs.Asked.{Numbered, or_else_no, or_else_yes, or_else_both}
+use Rattle.image.proofs.Asked.{or_else_both}
 use Rattle.drive.specs.declared.State.{State}
-use Rattle.drive.specs.declared.Driven.{Driven}
 use Rattle.drive.specs.Slots.{Sized}
 use Rattle.drive.specs.Ending.{job_ended}
-use Rattle.drive.specs.Shape.{shape}
 use Rattle.drive.specs.Issue.{slot_no, issued}
-use Rattle.machine.specs.Picking.{call_no, state_no_by, state_no, pick_no, picked}
+use Rattle.machine.specs.Picking.{state_no, pick_no, picked}
 use Rattle.turns.specs.declared.course.Course.TheVariants.{Passes}
 use Rattle.machine.specs.Running.{outcome}
 use Rattle.drive.specs.Driving.{starts_in, driven}
@@ -47,34 +41,6 @@ picked-one cells words m k sized e order =
     let one = one_pick (shape_allowed cells m a.passed.program a.shaped) words m (shape-fits cells m sized a.shaped) k b.below b.runs b.below_limit in
     ap (λ (r : Run ℕ). r.state) one ∙ sym (picked-issued cells words m k e)
 
--- ---- the number of a pick's refusal, question by question
-
-ask_or_else : (t : Bool) (n after : ℕ) → Numbered n → or_else (ask t n 0) after ≡ ask t n after
-ask_or_else true n after k = or_else_yes 0 after refl
-ask_or_else false n after k = or_else_no n after (numbered n k)
-  where
-    numbered : (n : ℕ) → Numbered n → n ≡ 0 → ⊥
-    numbered zero k e = k
-    numbered (suc n) k e = absurd (omega arith)
-
-module _ (cells : List ℕ) (words : List ℤ) (m : State) (k : ℕ) where
-  -- a question about the call is answered with no
-  pub call_decides : (call_no cells (length words) ≡ 0 → ⊥) → pick_no cells words m k ≡ call_no cells (length words)
-  unfolding state_no_by
-  call_decides some =
-      let first = or_else_no (call_no cells (length words)) (ask (shape (program_of cells) m) 20 0) some in
-      or_else_no (state_no cells words m) (slot_no m k) (λ e. some (sym first ∙ e)) ∙ first
-
-  -- none is: the shape test decides, then the slot's questions
-  pub issue_decides : call_no cells (length words) ≡ 0 → (met : Bool) (n : ℕ) → met ≡ shape (program_of cells) m → n ≡ ask met 20 (slot_no m k)
-      → n ≡ pick_no cells words m k
-  unfolding state_no_by
-  issue_decides none met n shaped e =
-      let passes = or_else_yes (call_no cells (length words)) (ask (shape (program_of cells) m) 20 0) none in
-      e
-      ∙ ap (λ (t : Bool). ask t 20 (slot_no m k)) shaped
-      ∙ sym (ap (λ (a : ℕ). or_else a (slot_no m k)) passes ∙ ask_or_else (shape (program_of cells) m) 20 (slot_no m k) tt)
-
 -- a stretch from a slot of the state
 pub starts_in_lem : (m : State) (k budget : ℕ) → k < m.places → starts_in (Passes k budget) m ≡ true
 starts_in_lem m k budget below = lt-ltb k m.places below
@@ -91,7 +57,7 @@ module _ (cells : List ℕ) (words : List ℤ) (m : State) where
     unfolding outcome
     run-refused n e some = rw (← e, ne_eqb n 0 some)
 
-    pub run-answered : state_no cells words m ≡ 0 → (order : List ℕ) (d : Driven) (z : Bool) → d ≡ driven cells words m order (Passes 0 budget) → z ≡ job_ended d.state
-        → record { no = 0; ended = z; picks = d.picks; machine = record { state = d.state } } ≡ outcome cells words m budget
+    pub run-answered : state_no cells words m ≡ 0 → (order : List ℕ) → let d = driven cells words m order (Passes 0 budget) in
+        record { no = 0; ended = job_ended d.state; picks = d.picks; machine = record { state = d.state } } ≡ outcome cells words m budget
     unfolding outcome
-    run-answered passes order d z e f = rw (passes, f, e)
+    run-answered passes order = rw passes

@@ -7,7 +7,7 @@ use Rattle.drive.specs.Ending.{job_ended}
 use Rattle.drive.specs.Shape.{shape}
 use Rattle.drive.specs.Courses.{Run}
 use Rattle.drive.specs.Rounds.{Rounding, rounds_from}
-use Rattle.machine.specs.declared.Dispatched.{Dispatched}
+use Rattle.machine.specs.Dispatched.{Dispatched}
 use Rattle.machine.specs.Picking.{call_no}
 
 abbrev pub lanes_allowed : ℕ → Bool

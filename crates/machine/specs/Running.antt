@@ -1,7 +1,7 @@
 -- The budgeted run: passes over the slots, from slot 0 on.
 use Rattle.std.specs.Prelude.{false, cond, List, ℕ, eqb, ℤ}
 use Rattle.drive.specs.declared.State.{State}
-use Rattle.machine.specs.declared.Outcome.{Outcome}
+use Rattle.machine.specs.Outcome.{Outcome}
 use Rattle.drive.specs.Ending.{job_ended}
 use Rattle.machine.specs.Picking.{state_no}
 use Rattle.drive.specs.Courses.{Run}

@@ -1,146 +1,125 @@
 // Pick: its questions, and one instruction issued.
-ghost use Rattle.std.specs.Prelude.{◌≡◌, ◌%◌, length, get_or};
+ghost use Rattle.std.specs.Prelude.{◌≡◌, length, OnOk};
 ghost use Rattle.image.specs.Layout.{program_cells, program_of};
-ghost use Rattle.image.specs.Questions.{ask, program_no};
-ghost use Rattle.task.specs.Frames.{no_task};
+ghost use Rattle.image.specs.Questions.{or_else, program_no};
+ghost use Rattle.image.specs.Refusals.{no_of};
+ghost use Rattle.drive.specs.Ending.{job_ended};
+ghost use Rattle.drive.specs.Slots.{Sized};
 ghost use Rattle.drive.specs.Shape.{shape};
 ghost use Rattle.drive.specs.Issue.{slot_no};
 ghost use Rattle.machine.specs.Picking.{call_no, state_no_by, pick_no, picked};
 
-use crate::{Answered, Machine, start};
+use crate::{Machine, start};
 use drive::{State, ending, picks};
+use image::refusal::Refusal;
 use shape::{registers, slots, stacks, tasks, tiling};
-use task::Task;
 use task::running::is_running;
 use turns::course::Course;
 
-// Questions 21 to 24; t is the task at slot % 64. A state of the shape has at most 64 places.
+// Whether the job has ended: read off slot 0. With the record that it reads of a lent state, the lengths of the arrays are known.
+pub(crate) fn has_ended(m: &State) -> bool
+    ensures value { result ≡ job_ended m.now }
+    ensures sized { Sized m.now }
+{
+    ending::has_ended(ending::end_at(m.tasks[0].depth, m.tasks[0].status))
+}
+
+// Questions 21 to 24. A state of the shape has at most 64 places.
 #[tactic(auto, unfolding(drive::specs::Issue::slot_no))]
-fn ask_slot(m: State, t: Task, slot: u64) -> u8
-    requires { t ≡ get_or m.tasks (slot % 64) no_task }
-    ensures { result ≡ slot_no m slot }
+fn ask_slot(m: &State, slot: u64) -> Result<(), Refusal>
+    ensures value { no_of result ≡ slot_no m.now slot }
+    ensures sized { Sized m.now }
 {
     if m.places <= slot {
-        return 21;
+        return Err(Refusal::Slot);
     }
-    let first = m.tasks[0];
-    let end = first.status;
-    if ending::has_ended(ending::end_at(first.depth, end)) {
-        return 22;
+    if has_ended(m) {
+        return Err(Refusal::Ended);
     }
     if 64 <= slot {
-        return 23;
+        return Err(Refusal::NotRunning);
     }
-    let status = t.status;
-    if !is_running(status) {
-        return 23;
+    if !is_running(m.tasks[slot as usize].status) {
+        return Err(Refusal::NotRunning);
     }
     if task::WORK_LIMIT <= m.work {
-        return 24;
+        return Err(Refusal::Work);
     }
-    0
+    Ok(())
 }
 
 // Question 20. The caller has put the program's questions, and the one on the buffer's length.
-pub fn meets_shape(cells: &[u64], m: State) -> bool
+pub fn meets_shape(cells: &[u64], m: &State) -> bool
     requires { (program_no cells.now ≡ 0) × (length cells.now ≡ program_cells) }
-    ensures { result ≡ shape (program_of cells.now) m }
+    ensures { result ≡ shape (program_of cells.now) m.now }
 {
-    let rank = start::rank_of(m.places);
-    if 6 < rank {
+    let Some(rank) = start::rank_of(m.places) else {
+        return false;
+    };
+    if !start::allows_interval(u64::from(m.interval)) {
         return false;
     }
-    if !start::allows_interval(m.interval as u64) {
-        return false;
-    }
-    let bank = m.bank;
-    let grades = registers::grade_slots(cells, bank);
-    let entries = m.stacks;
-    let reaches = stacks::reach_slots(cells, entries);
-    let tasks = m.tasks;
+    let grades = registers::grade_slots(cells, m.bank);
+    let reaches = stacks::reach_slots(cells, m.stacks);
     let version = image::layout::version_of(cells);
-    let codes = slots::code_slots(cells, version, rank, tasks, grades, reaches);
+    let codes = slots::code_slots(cells, version, rank, m.tasks, grades, reaches);
     if !tiling::is_tree(&codes, rank) {
         return false;
     }
-    tasks::counts_fit(m.work, tasks)
+    tasks::counts_fit(m.work, m.tasks)
 }
 
 // The questions about program and words that every call on a state puts. Of the words only their number counts.
 #[tactic(auto, unfolding(image::specs::Questions::or_else))]
-pub fn ask_call(cells: &[u64], words: usize) -> u8
-    ensures { result ≡ call_no cells.now words }
+pub fn ask_call(cells: &[u64], words: usize) -> Result<(), Refusal>
+    ensures { no_of result ≡ call_no cells.now words }
 {
-    let no = image::questions::ask_program(cells);
-    if no != 0 {
-        return no;
-    }
+    image::questions::ask_program(cells)?;
     if start::MOST_WORDS < words {
-        return 14;
+        return Err(Refusal::Words);
     }
     if cells.len() != image::layout::PROGRAM_CELLS {
-        return 15;
+        return Err(Refusal::Buffer);
     }
-    0
+    Ok(())
 }
 
 // The questions of pick and run about program, words and state.
 #[tactic(auto, using(crate::proofs::PickLaws::call_lent), unfolding(crate::specs::Picking::state_no_by, image::specs::Questions::or_else))]
-pub fn ask_state(cells: &[u64], words: usize, m: State) -> u8
-    ensures { result ≡ state_no_by cells.now words m }
+pub fn ask_state(cells: &[u64], words: usize, m: &State) -> Result<(), Refusal>
+    ensures { no_of result ≡ state_no_by cells.now words m.now }
 {
-    let no = ask_call(cells, words);
-    if no != 0 {
-        return no;
-    }
+    ask_call(cells, words)?;
     if !meets_shape(cells, m) {
-        return 20;
+        return Err(Refusal::Shape);
     }
-    0
+    Ok(())
 }
 
-// Questions 20 to 24, where those before them are answered; t is the task at slot % 64, and `met` says whether the state meets the shape test.
-fn ask_issue(met: bool, m: State, t: Task, slot: u64) -> u8
-    requires { t ≡ get_or m.tasks (slot % 64) no_task }
-    ensures { result ≡ ask met 20 (slot_no m slot) }
+// All questions of pick.
+#[tactic(auto, unfolding(image::specs::Questions::or_else))]
+fn ask_pick(cells: &[u64], words: usize, slot: u64, m: &State) -> Result<(), Refusal>
+    ensures value { no_of result ≡ or_else (state_no_by cells.now words m.now) (slot_no m.now slot) }
+    ensures sized { OnOk result (Sized m.now) }
 {
-    if !met {
-        return 20;
-    }
-    ask_slot(m, t, slot)
+    ask_state(cells, words, m)?;
+    ask_slot(m, slot)
 }
 
 impl Machine {
-    // One instruction of the slot's task; a refused pick hands back the old state.
-    pub fn pick(self, cells: &[u64], words: &[i64], slot: u64) -> Answered
-        ensures { (result.no ≡ pick_no cells.now words.now self.state slot) × (result.machine.state ≡ picked cells.now words.now self.state slot) }
+    // One instruction of the slot's task.
+    pub fn pick_in_place(&mut self, cells: &[u64], words: &[i64], slot: u64) -> Result<(), Refusal>
+        ensures value { no_of result ≡ pick_no cells.now words.now self.old.state slot }
+        ensures state_after { self.new.state ≡ picked cells.now words.now self.old.state slot }
     {
-        let old = self.state;
-        let call = ask_call(cells, words.len());
-        if call != 0 {
-            return Answered {
-                no: call,
-                machine: self,
-            };
-        }
-        // asked here, where the state stands: a function between would copy it
-        let met = meets_shape(cells, old);
-        let t = old.tasks[(slot % 64) as usize];
-        let no = ask_issue(met, old, t, slot);
-        if no != 0 {
-            return Answered { no, machine: self };
-        }
-        let driven = picks::drive(
+        ask_pick(cells, words.len(), slot, &self.state)?;
+        picks::drive(
             cells,
             words,
-            old,
+            &mut self.state,
             &picks::NO_ORDER,
             Course::Passes(slot as usize, 1),
         );
-        let state = driven.state;
-        Answered {
-            no: 0,
-            machine: Machine { state },
-        }
+        Ok(())
     }
 }

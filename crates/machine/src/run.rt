@@ -1,40 +1,37 @@
 // The budgeted run: its questions, put once, and the loop over the slots.
-ghost use Rattle.std.specs.Prelude.{◌≡◌};
+ghost use Rattle.std.specs.Prelude.{◌≡◌, IfOk};
+ghost use Rattle.image.specs.Refusals.{no_of};
 ghost use Rattle.machine.specs.Running.{outcome};
 
-use crate::{Machine, Outcome, pick};
-use drive::{ending, picks};
+use crate::{Machine, Ran, pick};
+use drive::picks;
+use image::refusal::Refusal;
 use turns::course::Course;
 
 impl Machine {
-    // Passes over the slots until the job has ended, the budget's picks are carried out, or the work stands at its limit; a refused run
-    // hands back the old state.
-    pub fn run(self, cells: &[u64], words: &[i64], budget: u64) -> Outcome
-        ensures { result ≡ outcome cells.now words.now self.state budget }
+    // Passes over the slots until the job has ended, the budget's picks are carried out, or the work stands at its limit.
+    pub fn run_in_place(
+        &mut self,
+        cells: &[u64],
+        words: &[i64],
+        budget: u64,
+    ) -> Result<Ran, Refusal>
+        ensures value { no_of result ≡ (outcome cells.now words.now self.old.state budget).no }
+        ensures state_after { self.new ≡ (outcome cells.now words.now self.old.state budget).machine }
+        ensures ran { IfOk result (λ r. (r.picks ≡ (outcome cells.now words.now self.old.state budget).picks)
+            × (r.ended ≡ (outcome cells.now words.now self.old.state budget).ended)) }
     {
-        let no = pick::ask_state(cells, words.len(), self.state);
-        if no != 0 {
-            return Outcome {
-                no,
-                ended: false,
-                picks: 0,
-                machine: self,
-            };
-        }
-        let driven = picks::drive(
+        pick::ask_state(cells, words.len(), &self.state)?;
+        let counts = picks::drive(
             cells,
             words,
-            self.state,
+            &mut self.state,
             &picks::NO_ORDER,
             Course::Passes(0, budget),
         );
-        let state = driven.state;
-        let ended = ending::has_ended(ending::end_of(state));
-        Outcome {
-            no: 0,
-            ended,
-            picks: driven.picks,
-            machine: Machine { state },
-        }
+        Ok(Ran {
+            picks: counts.picks,
+            ended: pick::has_ended(&self.state),
+        })
     }
 }

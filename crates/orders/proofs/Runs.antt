@@ -9,7 +9,7 @@ use borrow.Author.Tests.{ltb-false}
 use Rattle.facts.proofs.Tests.{clash, by-test}
 use Rattle.task.specs.Frames.{work_limit}
 use Rattle.drive.specs.declared.State.{State}
-use Rattle.machine.specs.declared.Outcome.{Outcome}
+use Rattle.machine.specs.Outcome.{Outcome}
 use Rattle.drive.specs.Ending.{job_ended}
 use Rattle.machine.specs.Picking.{state_no}
 use Rattle.drive.specs.Courses.{over, turn, Run}

@@ -7,7 +7,7 @@ use Rattle.agreement.specs.Picks.{once}
 use Rattle.image.specs.Questions.{program_no}
 use Rattle.task.specs.Frames.{running, work_limit}
 use Rattle.drive.specs.declared.State.{State}
-use Rattle.machine.specs.declared.Outcome.{Outcome}
+use Rattle.machine.specs.Outcome.{Outcome}
 use Rattle.drive.specs.Slots.{at, Sized}
 use Rattle.drive.specs.Ending.{job_ended}
 use Rattle.drive.specs.Issue.{slot_no}

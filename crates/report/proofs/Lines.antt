@@ -1,31 +1,20 @@
 -- The lines of a report's text, as the code comes by them.
 use mathlib.Core.Path.{◌≡◌, refl, sym, ap, ◌∙◌}
 use mathlib.Core.Bool.{Bool, true, false}
-use mathlib.Core.List.{List, [], ◌∷◌, ◌++◌, append-nil}
+use mathlib.Core.List.{List, ◌++◌, append-nil}
 use Prim.Native.Nat.{ℕ, ◌+◌, ◌*◌}
 use native.Mathlib.Omega.{arith}
 use native.Mathlib.Numerals.{add-one}
-use mir.Syntax.{w64}
-use mir.Val.{of_z, to_z, SFits}
-use mir.ValLaws.{to_z-of_z}
-use lib.IntN.{ℤ}
 use lib.ListN.{length, get_or}
 use lib.Seq.{sets}
 use Rattle.image.specs.Layout.{rows}
-use Rattle.task.specs.declared.Value.{Value}
-use Rattle.task.specs.declared.Value.TheVariants.{Int}
 use Rattle.task.specs.declared.Register.{Register}
 use Rattle.task.specs.Frames.{zero_register}
 use Rattle.drive.specs.Ending.{is_end}
 use Rattle.report.specs.declared.Report.{Report}
-use Rattle.report.specs.Words.{Written, signed}
-use Rattle.report.specs.Text.{end_line, work_line, span_line, value_text, register_line, register_lines, result_lines, text_of}
+use Rattle.report.specs.Words.{Written}
+use Rattle.report.specs.Text.{end_line, work_line, span_line, register_line, register_lines, result_lines, text_of}
 use Rattle.report.proofs.Writing.{written_then, written_as}
-
--- a signed value that goes to a call is the number of its bits
-pub int_text : (v : Value) (z : ℤ) → v ≡ Int z → SFits w64 z
-    → (32 ∷ 105 ∷ 110 ∷ 116 ∷ 32 ∷ []) ++ signed (to_z w64 (of_z w64 z)) ≡ value_text v
-int_text v z e f = ap (λ (y : ℤ). value_text (Int y)) (to_z-of_z w64 z f) ∙ ap value_text (sym e)
 
 -- ---- the registers' lines
 

@@ -1,11 +1,11 @@
 -- Texts written one after the other.
-use mathlib.Core.Path.{◌≡◌, sym, ap, ap₂, ◌∙◌}
-use mathlib.Core.List.{List, [], ◌∷◌, ◌++◌}
-use Prim.Native.Nat.{ℕ, ◌+◌, ◌<◌, ◌≤◌}
+use mathlib.Core.Path.{◌≡◌, refl, ap, ap₂, ◌∙◌}
+use mathlib.Core.List.{List, ◌++◌, append_assoc}
+use Prim.Native.Nat.{ℕ, ◌+◌, ◌-◌, ◌≤◌}
 use native.Mathlib.Omega.{arith}
-use native.Mathlib.Numerals.{add-one}
-use lib.ListN.{length, get_or, set, take, length-append}
-use lib.Seq.{sets, length-take-le, take-suc}
+use lib.ListN.{length, length-append}
+use lib.Seq.{sets, sets-eq, drop-drop}
+use borrow.Rule.Slice.PartMut.{put_mid}
 use Rattle.int64.proofs.Stores.{sets-append}
 use Rattle.report.specs.Words.{Written}
 
@@ -26,12 +26,12 @@ written_as {l = l} {at = at} k ys a e h = record {
   short = omega (arith, a.short);
 }
 
--- one byte more of a word
-pub byte_more : (l l₁ word : List ℕ) (at i : ℕ) → l₁ ≡ sets l at (take i word) → i < length word
-    → set l₁ (at + i) (get_or word i 0) ≡ sets l at (take (i + 1) word)
-byte_more l l₁ word at i e h =
-    let x : ℕ = get_or word i 0 in
-    ap (λ (t : List ℕ). set t (at + i) x) e
-    ∙ ap (λ (k : ℕ). set (sets l at (take i word)) (at + k) x) (sym (length-take-le i word (omega arith)))
-    ∙ sets-append l at (take i word) (x ∷ [])
-    ∙ ap (sets l at) (sym (take-suc word i 0 h) ∙ ap (λ (k : ℕ). take k word) (sym (add-one i)))
+-- a word copied to its place
+pub word_written : (l ys word : List ℕ) (at e : ℕ) → e ≡ at + length word → e ≤ length l → ys ≡ word → Written (length word) l at word (put_mid at (e - at) l ys) e
+word_written l ys word at e p h q =
+    let size : e - at ≡ length word = omega arith in
+    record {
+      stored = rw (q, size, sets-eq word l at (omega arith), drop-drop, append_assoc) refl;
+      ends = p;
+      short = omega arith;
+    }

@@ -5,8 +5,8 @@ pub mod bytes;
 pub mod text;
 mod words;
 
-ghost use Rattle.std.specs.Prelude.{◌≡◌, true};
-ghost use Rattle.report.specs.Report.{report_by, report_of};
+ghost use Rattle.std.specs.Prelude.{◌≡◌};
+ghost use Rattle.report.specs.Report.{report_of};
 
 use drive::ending::end_of;
 use drive::slots::frame_at;
@@ -30,41 +30,29 @@ pub struct Report {
     pub registers: [Register; 16],
 }
 
-fn ended_report(m: State, picks: u64) -> Report
-    ensures { result ≡ report_by true m picks }
-{
-    let end = end_of(m);
-    let f = frame_at(m, 0);
-    let t = f.task;
-    let registers = f.registers;
-    Report {
-        end,
-        picks,
-        work: m.work,
-        span: t.span,
-        registers,
-    }
-}
-
 // The report of the state after a run that carried out so many picks.
 pub fn report_of(m: State, picks: u64) -> Report
     ensures { result ≡ report_of m picks }
 {
     let end = end_of(m);
-    match end {
+    let (span, registers) = match end {
         End::NotEnded => {
-            let registers = [Register {
+            let zeros = [Register {
                 value: Value::Int(0),
             }; 16];
-            Report {
-                end,
-                picks,
-                work: m.work,
-                span: 0,
-                registers,
-            }
+            (0, zeros)
         }
-        End::Halt => ended_report(m, picks),
-        End::Fault(_) => ended_report(m, picks),
+        End::Halt | End::Fault(_) => {
+            let f = frame_at(m, 0);
+            let registers = f.registers;
+            (f.task.span, registers)
+        }
+    };
+    Report {
+        end,
+        picks,
+        work: m.work,
+        span,
+        registers,
     }
 }

@@ -59,33 +59,29 @@ fn write_register(out: &mut [u8], at: usize, i: u64, r: Register) -> usize
     requires { (at + 50 ≤ length out.old) × (i < 16) }
     ensures { Written 50 out.old at (register_line i r.value) out.new result }
 {
-    let v = r.value;
     let index = write_word(out, at, b"r");
     let value = write_index(out, index, i);
-    let end = write_value(out, value, v);
+    let end = write_value(out, value, r.value);
     write_word(out, end, b"\n")
 }
 
-fn write_registers(out: &mut [u8], at: usize, registers: [Register; 16]) -> usize
+fn write_registers(out: &mut [u8], at: usize, registers: &[Register; 16]) -> usize
     requires { at + 800 ≤ length out.old }
-    ensures { Written 800 out.old at (register_lines registers 16) out.new result }
+    ensures { Written 800 out.old at (register_lines registers.now 16) out.new result }
 {
     let mut next = at;
-    let mut i = 0;
-    while i < 16 {
-        let r = registers[i];
-        next = write_register(out, next, i as u64, r);
-        i = i + 1;
+    for (i, r) in registers.iter().enumerate() {
+        next = write_register(out, next, i as u64, *r);
     }
     next
 }
 
-fn write_results(out: &mut [u8], at: usize, span: u32, registers: [Register; 16]) -> usize
+fn write_results(out: &mut [u8], at: usize, r: &Report) -> usize
     requires { at + 826 ≤ length out.old }
-    ensures { Written 826 out.old at (span_line span ++ register_lines registers 16) out.new result }
+    ensures { Written 826 out.old at (span_line r.now.span ++ register_lines r.now.registers 16) out.new result }
 {
-    let next = write_line(out, at, b"span ", span as u64);
-    write_registers(out, next, registers)
+    let next = write_line(out, at, b"span ", r.span as u64);
+    write_registers(out, next, &r.registers)
 }
 
 // Answers the text's length; the bytes after it stay as they were. `job` calls it, with a buffer that it has found to have 1,024 bytes.
@@ -93,14 +89,11 @@ pub fn write_text(r: Report, out: &mut [u8]) -> usize
     requires { length out.old ≡ text_room }
     ensures { (result ≡ length (text_of r)) × (out.new ≡ sets out.old 0 (text_of r)) }
 {
-    let end = r.end;
-    let registers = r.registers;
-    let work = write_end(out, 0, end);
+    let work = write_end(out, 0, r.end);
     let next = write_line(out, work, b"work ", r.work as u64);
-    match end {
+    match r.end {
         End::NotEnded => next,
-        End::Halt => write_results(out, next, r.span, registers),
-        End::Fault(_) => write_results(out, next, r.span, registers),
+        End::Halt | End::Fault(_) => write_results(out, next, &r),
     }
 }
 

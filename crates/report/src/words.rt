@@ -1,4 +1,5 @@
 // Words and decimals. Each function answers the place after what it has written. `text` alone calls them, with room for it.
+// By hand: `Display` says what it writes where it answers Ok alone, and `write_text` and `write_refused`, which cannot fail, need it always.
 ghost use Rattle.std.specs.Prelude.{[], ◌∷◌, ◌+◌, ◌≤◌, length};
 ghost use Rattle.report.specs.Words.{Written, digit, digits, decimal, signed, line};
 
@@ -7,12 +8,9 @@ pub fn write_word(out: &mut [u8], at: usize, word: &[u8]) -> usize
     requires { at + length word.now ≤ length out.old }
     ensures { Written (length word.now) out.old at word.now out.new result }
 {
-    let mut i = 0;
-    while i < word.len() {
-        out[at + i] = word[i];
-        i = i + 1;
-    }
-    at + i
+    let end = at + word.len();
+    out[at..end].copy_from_slice(word);
+    end
 }
 
 fn write_digit(out: &mut [u8], at: usize, n: u64) -> usize
@@ -46,17 +44,16 @@ pub fn write_decimal(out: &mut [u8], at: usize, n: u64) -> usize
     write_digits(out, at, n, 19)
 }
 
-// By its bits: the least integer has a magnitude that no i64 holds. `text` alone calls it, with room for a sign and twenty digits.
+// `text` alone calls it, with room for a sign and twenty digits.
 pub fn write_signed(out: &mut [u8], at: usize, z: i64) -> usize
     requires { at + 21 ≤ length out.old }
     ensures { Written 21 out.old at (signed z) out.new result }
 {
-    let u = int64::bits(z);
-    if u < 0x8000_0000_0000_0000 {
-        return write_decimal(out, at, u);
+    if z < 0 {
+        let next = write_word(out, at, b"-");
+        return write_decimal(out, next, z.unsigned_abs());
     }
-    let next = write_word(out, at, b"-");
-    write_decimal(out, next, u64::MAX - u + 1)
+    write_decimal(out, at, z.unsigned_abs())
 }
 
 // A word, a number and the end of the line. `text` alone calls it, with room for all three.

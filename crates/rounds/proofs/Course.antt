@@ -9,12 +9,11 @@ use lib.Dec.{ltb}
 use borrow.Author.Tests.{le-ltb}
 use Rattle.facts.proofs.Tests.{clash, by-test, by-below}
 use Rattle.agreement.specs.Picks.{Model, can_pick, pick, play}
-use Rattle.agreement.specs.Picks as model
 use Rattle.agreement.proofs.PickLaws.{pick-refused, play_work}
 use Rattle.task.specs.declared.Frame.{Frame}
 use Rattle.task.specs.Frames.{running, work_limit}
 use Rattle.drive.specs.declared.State.{State}
-use Rattle.drive.specs.declared.Driven.{Driven}
+use Rattle.drive.specs.Driven.{Driven}
 use Rattle.drive.specs.Slots.{at}
 use Rattle.drive.specs.Settings.{rank}
 use Rattle.drive.specs.Ending.{job_ended}

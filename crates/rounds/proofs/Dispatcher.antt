@@ -1,6 +1,6 @@
 -- The dispatcher of every accepted job.
 use Prim.Native.Nat.{ℕ, ◌+◌, ◌<◌}
-use mathlib.Core.Path.{◌≡◌, sym, ap, ◌∙◌, subst, subst⁻¹}
+use mathlib.Core.Path.{◌≡◌, sym, ap, ◌∙◌, subst⁻¹}
 use mathlib.Core.Bool.{true}
 use mathlib.Core.List.{List, []}
 use native.Mathlib.Omega.{arith}
@@ -12,7 +12,7 @@ use Rattle.drive.specs.Ending.{job_ended}
 use Rattle.drive.specs.Courses.{Run}
 use Rattle.drive.specs.Rounds.{Rounding, rounds_from}
 use Rattle.drive.proofs.ShapeLaws.{fits-shape}
-use Rattle.machine.specs.declared.Dispatched.{Dispatched}
+use Rattle.machine.specs.Dispatched.{Dispatched}
 use Rattle.machine.specs.Dispatching.{lanes_allowed}
 use Rattle.machine.proofs.PickLaws.{Passed}
 use Rattle.machine.proofs.StartLaws.{fresh-fits}

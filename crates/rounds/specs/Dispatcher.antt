@@ -2,7 +2,7 @@
 use Rattle.std.specs.Prelude.{◌≡◌, true, List, ℕ, ◌+◌}
 use Rattle.drive.specs.declared.State.{State}
 use Rattle.drive.specs.Ending.{job_ended}
-use Rattle.machine.specs.declared.Dispatched.{Dispatched}
+use Rattle.machine.specs.Dispatched.{Dispatched}
 use Rattle.machine.specs.Dispatching.{lanes_allowed, dispatched}
 use Rattle.orders.specs.Demand.{Job, Accepted, start_on, played}
 use Rattle.rounds.specs.Jobs.{JobOnLanes}

@@ -16,9 +16,9 @@ use Rattle.task.specs.Frames.{zero_register}
 use Rattle.task.specs.Formed.{every, value_fits, is_zero}
 use Rattle.task.proofs.EveryLaws.{every-at, every_from}
 use Rattle.task.specs.Stretches.{reads}
-use Rattle.shape.specs.Codes.{grade, grade_of, Graded, GradedSlots}
+use Rattle.shape.specs.Codes.{Largest, LargestSlots, grade, grade_of, Graded, GradedSlots}
 use Rattle.task.proofs.StretchLaws.{length-reads, get_d_reads}
-use Rattle.shape.proofs.Largest.{Largest, LargestSlots, largest_each, each_largest}
+use Rattle.shape.proofs.Largest.{largest_each, each_largest}
 
 zero_grade : (z f : Bool) → z ≡ true → grade z f ≤ 0
 zero_grade z f e = rw e (omega arith)

@@ -3,17 +3,10 @@ use Prim.Native.Nat.{ℕ, ◌+◌, ◌-◌, ◌≤◌, ◌<◌}
 use mathlib.Core.Path.{◌≡◌, refl, sym, ◌∙◌}
 use mathlib.Core.List.{List}
 use native.Mathlib.Omega.{arith}
-use lib.ListN.{length, get_or, set, replicate, length-set, get_or-replicate}
+use lib.ListN.{get_or, set, replicate, length-set, get_or-replicate}
 use lib.Seq.{get_or-set_same, get_or-set_other}
 use Rattle.facts.proofs.Tests.{by_order}
-
--- of those of slot k's numbers g j that stand before i, c is the largest, or 0 where there is none
-pub record Largest (slot g : ℕ → ℕ) (i k c : ℕ) : Type 0 where
-  pub above : (j : ℕ) → slot j ≡ k → j < i → g j ≤ c
-  pub least : (n : ℕ) → ((j : ℕ) → slot j ≡ k → j < i → g j ≤ n) → c ≤ n
-
-abbrev pub LargestSlots : (ℕ → ℕ) → (ℕ → ℕ) → ℕ → List ℕ → Type 0
-LargestSlots slot g i cs = (length cs ≡ 64) × ((k : ℕ) → k < 64 → Largest slot g i k (get_or cs k 0))
+use Rattle.shape.specs.Codes.{Largest, LargestSlots}
 
 -- ---- the pass
 

@@ -1,3 +1,4 @@
+pub mod AllLaws
 pub mod Largest
 pub mod GradeLaws
 pub mod ReachLaws

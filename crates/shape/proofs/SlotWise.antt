@@ -1,34 +1,24 @@
 -- One slot's tests by what the code knows of it: its task record, the grade of its registers, and the reach of its stack.
-use Prim.Native.Nat.{ℕ, ◌+◌, ◌-◌, ◌^◌, ◌<◌}
+use Prim.Native.Nat.{ℕ, ◌+◌, ◌^◌, ◌<◌}
 use mathlib.Core.Path.{◌≡◌, sym, ap, ◌∙◌}
 use mathlib.Core.Bool.{Bool, true, false, ◌&&◌}
 use mathlib.Core.List.{List}
 use native.Mathlib.Omega.{arith}
 use lib.Dec.{eqb, ltb, leb}
-use lib.ListN.{length, get_or, set}
-use lib.Seq.{get_or-set_same, get_or-set_other}
+use lib.ListN.{length, get_or}
 use borrow.Author.Tests.{eq-eqb, lt-ltb, le-ltb}
-use Rattle.facts.proofs.Tests.{by_order, never}
+use Rattle.facts.proofs.Tests.{never}
 use Rattle.image.specs.Program.{Program}
 use Rattle.task.specs.declared.Register.{Register}
 use Rattle.task.specs.declared.Task.{Task}
 use Rattle.task.specs.declared.Frame.{Frame}
-use Rattle.task.specs.Frames.{zero_fork, vacant, running}
+use Rattle.task.specs.Frames.{zero_fork, vacant}
 use Rattle.task.specs.Formed.{every, is_zero_fork, fork_fits, at_rest, is_vacant_status, status_fits, formed, is_vacant}
 use Rattle.task.proofs.Formation.{Formed, forks_fit, formed_is}
 use Rattle.task.proofs.Vacancy.{vacant_is}
-use Rattle.shape.specs.Codes.{Graded, Reached, framed, code, code_of}
+use Rattle.shape.specs.Codes.{Graded, Reached, framed}
 use Rattle.task.proofs.EveryLaws.{every-alike}
 use Rattle.shape.proofs.ReachLaws.{reach-fits}
-
--- what holds of each element before k, and of the one stored at k, holds before k + 1
-pub below_set : (P : ℕ → ℕ → Type 0) (l : List ℕ) (k v : ℕ) → k < length l → ((j : ℕ) → j < k → P j (get_or l j 0)) → P k v
-    → (j : ℕ) → j < k + 1 → P j (get_or (set l k v) j 0)
-below_set P l k v inside before here j h =
-    by_order j k
-    (λ (b : j < k). rw (get_or-set_other l k j v 0 (λ e. omega arith)) (before j b))
-    (λ (e : j ≡ k). rw (e, get_or-set_same l k v 0 inside) here)
-    (λ (a : k < j). absurd (omega arith))
 
 -- at depth 0 no entry is in use
 closed : (program : Program) (t : Task) → t.depth ≡ 0 → forks_fit program t ≡ every (λ i. is_zero_fork (get_or t.forks i zero_fork)) 6 0
@@ -76,10 +66,6 @@ module _ (program : Program) (t : Task) (registers stack : List Register) (n m :
         g.all_zero,
         r.all_zero,
       )
-
-pub code_is : (program : Program) (D : ℕ) (f : Frame) (v l r : Bool) (h : ℕ) → is_vacant f ≡ v → D - f.task.depth ≡ h → formed program D h f ≡ l
-    → running f ≡ r → code_of program D f ≡ code v l r h
-code_is program D f v l r h p q s u = rw (p, q, s, u)
 
 -- the code's test of a status, by a version that is the program's
 pub status_told : (program : Program) (version : ℕ) (f : Frame) (r b : Bool) → version ≡ program.version

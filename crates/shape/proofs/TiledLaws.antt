@@ -8,7 +8,7 @@ use lib.Dec.{eqb}
 use lib.Pow.{pow_mono}
 use lib.ListN.{get_or}
 use borrow.Author.Tests.{eq-eqb, ne_eqb}
-use Rattle.shape.specs.Codes.{stands, clear, not_both_ended, tiled, tree}
+use Rattle.shape.specs.Codes.{stands, clear, not_both_ended, tiled}
 
 pub tiled-whole : (codes : List ℕ) (h b : ℕ) → stands (get_or codes b 0) h ≡ true → tiled codes h b ≡ clear codes (2 ^ h - 1) (b + 1)
 unfolding tiled
@@ -79,10 +79,3 @@ module _ (codes : List ℕ) (h b c : ℕ) (read : c ≡ get_or codes b 0) where
 -- at most 64 places
 pub power_small : (h : ℕ) → h ≤ 6 → 2 ^ h ≤ 64
 power_small h p = pow_mono {i = h} {j = 6} p
-
-module _ (codes : List ℕ) (D : ℕ) where
-  pub untiled_way : tiled codes D 0 ≡ false → false ≡ tree codes D
-  untiled_way t = rw t
-
-  pub tiled_way : tiled codes D 0 ≡ true → (p : ℕ) → p ≡ 2 ^ D → clear codes (64 - p) p ≡ tree codes D
-  tiled_way t p e = rw (t, e)

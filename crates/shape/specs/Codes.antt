@@ -15,6 +15,16 @@ use Rattle.task.specs.Stretches.{reads}
 abbrev pub Stored : List ℕ → Type 0
 Stored cells = (block_count cells ≤ 128) × (length cells ≡ program_cells)
 
+-- ---- The largest mark of each slot
+
+-- of the marks g j of slot k's values that stand before i, c is the largest, or 0 where there is none
+pub record Largest (slot g : ℕ → ℕ) (i k c : ℕ) : Type 0 where
+  pub above : (j : ℕ) → slot j ≡ k → j < i → g j ≤ c
+  pub least : (n : ℕ) → ((j : ℕ) → slot j ≡ k → j < i → g j ≤ n) → c ≤ n
+
+abbrev pub LargestSlots : (ℕ → ℕ) → (ℕ → ℕ) → ℕ → List ℕ → Type 0
+LargestSlots slot g i cs = (length cs ≡ 64) × ((k : ℕ) → k < 64 → Largest slot g i k (get_or cs k 0))
+
 -- ---- Registers
 
 -- a value's grade: 0 the integer 0, 1 another value that fits the program, 2 one that does not

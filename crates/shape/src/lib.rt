@@ -2,6 +2,7 @@
 // code, and the codes are tested for a tree.
 #![tactic(auto)]
 
+mod marks;
 pub mod registers;
 pub mod slots;
 pub mod stacks;

@@ -1,22 +1,21 @@
 // The registers of each slot, in one pass over the bank: whether all are 0, and whether all fit the program.
-ghost use Rattle.std.specs.Prelude.{◌≡◌, ℕ, ◌≤◌};
+ghost use Rattle.std.specs.Prelude.{◌≡◌};
 ghost use Rattle.image.specs.Layout.{program_of};
 ghost use Rattle.task.specs.Formed.{is_target, value_fits, is_zero};
 ghost use Rattle.shape.specs.Codes.{Stored, grade_of, GradedSlots};
 
+use crate::marks::largest;
 use image::layout;
 use task::{Register, Value};
 
 // Whether block b is a join target. The annotation of a block below B is in the buffer: `machine` alone calls this crate, in the shape
 // test, and has put the program's questions and the one on the buffer's length, which ensure `Stored`.
+#[tactic(auto, unfolding(task::specs::Formed::is_target))]
 pub fn is_target(cells: &[u64], b: u32) -> bool
     requires { Stored cells.now }
     ensures { result ≡ is_target (program_of cells.now) b }
 {
-    if layout::block_count(cells) <= b as u64 {
-        return false;
-    }
-    layout::annotation_of(cells, b as usize) == 2
+    u64::from(b) < layout::block_count(cells) && layout::annotation_of(cells, b as usize) == 2
 }
 
 // Every label below B, every record's continuation a join target. This crate alone calls it; `Stored`: as above.
@@ -26,7 +25,7 @@ pub fn value_fits(cells: &[u64], v: Value) -> bool
 {
     match v {
         Value::Int(_) => true,
-        Value::Label(b) => (b as u64) < layout::block_count(cells),
+        Value::Label(b) => u64::from(b) < layout::block_count(cells),
         Value::Record(b, _) => is_target(cells, b),
     }
 }
@@ -34,14 +33,11 @@ pub fn value_fits(cells: &[u64], v: Value) -> bool
 pub fn is_zero(v: Value) -> bool
     ensures { result ≡ is_zero v }
 {
-    match v {
-        Value::Int(z) => int64::equal(z, 0),
-        Value::Label(_) => false,
-        Value::Record(_, _) => false,
-    }
+    v == Value::Int(0)
 }
 
-// 0 the integer 0, 1 another value that fits, 2 one that does not.
+// 0 the integer 0, 1 another value that fits, 2 one that does not. A number and no enum: `Graded` (specs/Codes.antt), which may not change,
+// compares it.
 fn grade_of(cells: &[u64], v: Value) -> u8
     requires { Stored cells.now }
     ensures { result ≡ grade_of (program_of cells.now) v }
@@ -55,34 +51,10 @@ fn grade_of(cells: &[u64], v: Value) -> u8
     2
 }
 
-pub fn larger(a: u8, b: u8) -> u8
-    ensures { (a ≤ result) × (b ≤ result) × ((n : ℕ) → a ≤ n → b ≤ n → result ≤ n) }
-{
-    if a < b {
-        return b;
-    }
-    a
-}
-
 // The worst grade of each slot's 16 registers. `machine` alone calls it, in the shape test; `Stored`: as above.
 pub fn grade_slots(cells: &[u64], bank: [Register; task::BANK]) -> [u8; 64]
     requires { Stored cells.now }
     ensures { GradedSlots (program_of cells.now) bank result }
 {
-    let mut grades = [0u8; 64];
-    let mut i: usize = 0;
-    while i < task::BANK {
-        let register = bank[i];
-        let v = register.value;
-        let grade = grade_of(cells, v);
-        // Most registers are 0 and leave their slot's grade as it is.
-        if grade == 0 {
-            i = i + 1;
-            continue;
-        }
-        let k = i / 16;
-        grades[k] = larger(grades[k], grade);
-        i = i + 1;
-    }
-    grades
+    largest::<16, _>(&bank, |v, _| grade_of(cells, v))
 }

@@ -3,11 +3,8 @@ use mathlib.Core.Path.{◌≡◌, refl, sym, ap, ◌∙◌}
 use mathlib.Core.List.{List, [], ◌∷◌, ◌++◌, append-nil, append_assoc}
 use Prim.Native.Nat.{ℕ, zero, suc, ◌+◌, ◌*◌, ◌<◌, ◌≤◌}
 use native.Mathlib.Omega.{arith}
-use mir.Syntax.{w64}
-use mir.Val.{of_z, to_z, SFits}
-use mir.ValLaws.{to_z-of_z}
-use lib.IntN.{ℤ}
-use lib.ListN.{length, length-append, drop_of_length-le}
+use lib.ListN.{length, get_or, take, length-append, drop_of_length-le}
+use Rattle.std.proofs.lemmas.List.{length-take-le, take_more}
 use lib.Seq.{sets, sets-eq, length-sets}
 use Rattle.int64.specs.Little.{bytes_of}
 use Rattle.int64.proofs.Little.{length_bytes_of}
@@ -45,6 +42,20 @@ pub one_number : (x : ℕ) → bytes_of 8 x ≡ in_bytes (x ∷ [])
 unfolding in_bytes bytes_of
 one_number x = refl
 
+-- numbers written one by one: none so far, and one more
+pub none_written : (l : List ℕ) (at : ℕ) → l ≡ sets l at (in_bytes [])
+unfolding in_bytes
+none_written l at = refl
+
+pub number_more : (l l₁ l₂ : List ℕ) (at i : ℕ) (xs : List ℕ) → i < length xs → l₁ ≡ sets l at (in_bytes (take i xs))
+    → l₂ ≡ sets l₁ (at + 8 * i) (bytes_of 8 (get_or xs i 0)) → l₂ ≡ sets l at (in_bytes (take (i + 1) xs))
+number_more l l₁ l₂ at i xs h p q =
+    let n : length (take i xs) ≡ i = length-take-le i xs (omega arith) in
+    numbers-placed l l₁ l₂ at (at + 8 * i) (take i xs) (get_or xs i 0 ∷ []) p
+    (q ∙ ap (sets l₁ (at + 8 * i)) (one_number (get_or xs i 0)))
+    (omega arith)
+    ∙ ap (λ (t : List ℕ). sets l at (in_bytes t)) (sym (take_more xs i 0 h))
+
 -- a list that is overwritten whole
 pub sets-whole : {A : Type 0} (l xs : List A) → length xs ≡ length l → sets l 0 xs ≡ xs
 sets-whole {A} l xs e =
@@ -61,14 +72,6 @@ length-value (Record c d) = refl
 
 pub value-width : (v : Value) → length (in_bytes (value_numbers v)) ≡ 24
 value-width v = length-in_bytes (value_numbers v) ∙ ap (λ (n : ℕ). 8 * n) (length-value v)
-
--- a signed value that goes to a call is the number of its bits
-pub int_placed : (v : Value) (z : ℤ) (l l₁ : List ℕ) (at u : ℕ) → v ≡ Int z → SFits w64 z → u ≡ of_z w64 (to_z w64 (of_z w64 z))
-    → l₁ ≡ sets l at (in_bytes (0 ∷ u ∷ 0 ∷ [])) → l₁ ≡ sets l at (in_bytes (value_numbers v))
-int_placed v z l l₁ at u e f b p =
-    p
-    ∙ ap (λ (n : ℕ). sets l at (in_bytes (0 ∷ n ∷ 0 ∷ []))) (b ∙ ap (of_z w64) (to_z-of_z w64 z f))
-    ∙ ap (λ (w : Value). sets l at (in_bytes (value_numbers w))) (sym e)
 
 -- ---- rows laid one by one
 

@@ -4,6 +4,7 @@ pub mod StateLaws
 pub mod Tables
 pub mod Rooms
 pub mod Filling
+pub mod SlotsRead
 pub mod Zeros
 pub mod NumbersAt
 pub mod Alternatives

@@ -1,52 +1,24 @@
 -- What the tests of a value, a status, a fork, a task record, a slot and a state say of their numbers: each has room in its field.
-use mathlib.Core.Path.{◌≡◌, refl}
-use mathlib.Core.Bool.{Bool, true, false, ◌&&◌}
+use mathlib.Core.Path.{◌≡◌, ap}
+use Rattle.std.specs.Prelude.{Option, Some, None, cond, is_some}
+use mathlib.Core.Bool.{Bool, true, false}
 use mathlib.Core.List.{List}
-use Prim.Native.Nat.{ℕ, zero, suc, ◌+◌, ◌*◌, ◌/◌, ◌%◌, ◌^◌, ◌<◌}
+use Prim.Native.Nat.{ℕ, ◌+◌, ◌*◌, ◌/◌, ◌%◌, ◌^◌, ◌<◌}
 use native.Mathlib.Omega.{arith}
-use lib.Dec.{eqb, ltb}
+use lib.Dec.{eqb}
 use lib.ListN.{length}
-use borrow.Author.Tests.{eq-eqb, ne_eqb, ltb-true, eqb-true}
+use borrow.Author.Tests.{ltb-true, eqb-true}
 use Rattle.facts.proofs.Tests.{both_true}
 use Rattle.task.specs.Formed.{every}
 use Rattle.task.proofs.EveryLaws.{every-at}
 use Rattle.state.specs.State.{state_length}
 use Rattle.state.specs.Places.{registers_at, height_at, stack_at, slot_place, register_place, entry_place}
-use Rattle.state.specs.Reading.{number_at, in16, in32, is_value, is_status, stands_value, stands_values, stands_fork, stands_task, stands_slot, stands_state}
+use Rattle.state.specs.Reading.{number_at, in16, in32, is_status, stands_value, stands_values, stands_fork, stands_task, stands_slot, stands_state}
 
-module _ (kind a b : ℕ) (h : is_value kind a b ≡ true) (no-integer : kind ≡ 0 → ⊥) where
-  pub label-room : kind ≡ 1 → a < 2 ^ 32
-  unfolding is_value
-  label-room e =
-      let p : (in32 a && eqb b 0) ≡ true = rw (ne_eqb kind 0 no-integer, eq-eqb kind 1 e) at h in
-      ltb-true a (2 ^ 32) (both_true (in32 a) (eqb b 0) p).0
-
-  pub record_room : (kind ≡ 1 → ⊥) → (a < 2 ^ 32) × (b < 2 ^ 32)
-  unfolding is_value
-  record_room n =
-      let p : (eqb kind 2 && (in32 a && in32 b)) ≡ true = rw (ne_eqb kind 0 no-integer, ne_eqb kind 1 n) at h in
-      let q = both_true (in32 a) (in32 b) (both_true (eqb kind 2) _ p).1 in
-      (ltb-true a (2 ^ 32) q.0, ltb-true b (2 ^ 32) q.1)
-
--- a number below 4 is one of these
-below-four : (n : ℕ) → n < 4 → (n ≡ 0 → ⊥) → (n ≡ 1 → ⊥) → (n ≡ 2 → ⊥) → (n ≡ 3 → ⊥) → ⊥
-below-four zero h a b c d = a refl
-below-four (suc zero) h a b c d = b refl
-below-four (suc (suc zero)) h a b c d = c refl
-below-four (suc (suc (suc zero))) h a b c d = d refl
-below-four (suc (suc (suc (suc n)))) h a b c d = omega (arith, h)
-
--- a status beyond the first four is a fault's
-module _ (status fault : ℕ) (h : is_status status fault ≡ true) where
-  pub fault_room : (status ≡ 0 → ⊥) → (status ≡ 1 → ⊥) → (status ≡ 2 → ⊥) → (status ≡ 3 → ⊥) → fault < 256
-  unfolding is_status
-  fault_room a b c d = go (eqb status 4) refl
-    where
-      go : (t : Bool) → eqb status 4 ≡ t → fault < 256
-      go true e = ltb-true fault 256 (rw e at h)
-      go false e =
-          let p : (ltb status 4 && eqb fault 0) ≡ true = rw e at h in
-          absurd (below-four status (ltb-true status 4 (both_true (ltb status 4) (eqb fault 0) p).0) a b c d)
+-- what is read where the test answers yes, and nothing else, is there just then
+pub some_if : {A : Type 0} (test : Bool) (x : A) (read : Option A) → read ≡ cond test (Some x) None → is_some read ≡ test
+some_if true x read e = ap is_some e
+some_if false x read e = ap is_some e
 
 pub fork_room : (bytes : List ℕ) (at : ℕ) → stands_fork bytes at ≡ true → (number_at bytes at < 2 ^ 32) × (number_at bytes (at + 8) < 2 ^ 32)
 fork_room bytes at h =

@@ -1,13 +1,14 @@
 -- The state's bytes: how long its parts are, and that the parts put together are the whole.
 use mathlib.Core.Path.{◌≡◌, refl, sym, ap, ap₂, ◌∙◌}
 use mathlib.Core.List.{List, [], ◌∷◌, ◌++◌, append_assoc}
-use Prim.Native.Nat.{ℕ, ◌+◌, ◌*◌}
+use Prim.Native.Nat.{ℕ, ◌+◌, ◌-◌, ◌*◌, ◌≤◌}
 use native.Mathlib.Omega.{arith}
-use lib.ListN.{length, get_or, length-append}
+use lib.ListN.{length, get_or, take, drop, length-append, length-drop}
+use Rattle.std.proofs.lemmas.List.{length-take-le, get_or-take, get_or-drop}
 use lib.Seq.{sets}
 use Rattle.int64.specs.Little.{bytes_of}
 use Rattle.image.specs.Layout.{rows}
-use Rattle.image.proofs.Rows.{length-rows}
+use Rattle.image.proofs.Rows.{length-rows, rows_same}
 use Rattle.task.specs.declared.Register.{Register}
 use Rattle.task.specs.declared.Task.{Task}
 use Rattle.task.specs.Frames.{zero_fork, zero_register, no_task}
@@ -15,7 +16,7 @@ use Rattle.drive.specs.declared.State.{State}
 use Rattle.state.specs.Numbers.{value_numbers, in_bytes}
 use Rattle.state.specs.State.{status_number, fault_number, fork_numbers, task_numbers, values_from, slot_numbers, state_numbers, state_length, state_bytes}
 use Rattle.state.specs.Places.{registers_at, height_at, stack_at, slot_bytes}
-use Rattle.state.proofs.Laying.{length-value, value-width, length-in_bytes, in_bytes-rows, numbers-placed, one_number, sets-whole}
+use Rattle.state.proofs.Laying.{length-value, length-in_bytes, in_bytes-rows, numbers-placed, one_number, sets-whole}
 
 -- ---- lengths
 
@@ -68,8 +69,15 @@ task-placed t l l₁ l₂ l₃ l₄ at s f hs hf p q r u =
 abbrev pub value_bytes : List Register → ℕ → ℕ → List ℕ
 value_bytes values first i = in_bytes (value_numbers (get_or values (first + i) zero_register).value)
 
-pub value_bytes_lem : (values : List Register) (first i : ℕ) → length (value_bytes values first i) ≡ 24
-value_bytes_lem values first i = value-width (get_or values (first + i) zero_register).value
+-- those of a part of an array are those of the array
+pub part_rows : (values : List Register) (first n e : ℕ) → first + n ≤ length values → e ≡ first + n
+    → rows (λ i. in_bytes (value_numbers (get_or (take (e - first) (drop first values)) i zero_register).value)) (length (take (e - first) (drop first values)))
+    ≡ rows (value_bytes values first) n
+part_rows values first n e h p =
+    let size : e - first ≡ n = omega arith in
+    let enough : n ≤ length (drop first values) = omega (arith, length-drop first values) in
+    rw (size, length-take-le n (drop first values) enough)
+    (rows_same _ _ n (λ i q. ap (λ (r : Register). in_bytes (value_numbers r.value)) (get_or-take n (drop first values) i zero_register q ∙ get_or-drop first values i zero_register)))
 
 values-placed : (values : List Register) (first n : ℕ) (l l₁ l₂ : List ℕ) (at b : ℕ) (xs : List ℕ) → l₁ ≡ sets l at (in_bytes xs)
     → l₂ ≡ sets l₁ b (rows (value_bytes values first) n) → b ≡ at + 8 * length xs → l₂ ≡ sets l at (in_bytes (xs ++ values_from values first n))

@@ -2,18 +2,17 @@
 use mathlib.Core.Path.{◌≡◌, refl, sym, ap, ◌∙◌}
 use mathlib.Core.Bool.{Bool, true, false, ◌&&◌}
 use mathlib.Core.List.{List}
-use Prim.Native.Nat.{ℕ, zero, suc, ◌+◌, ◌*◌, ◌-◌, ◌%◌, ◌<◌, ◌≤◌}
+use Prim.Native.Nat.{ℕ, zero, suc, ◌+◌, ◌*◌, ◌-◌, ◌<◌, ◌≤◌}
 use native.Mathlib.Omega.{arith}
 use lib.Dec.{eqb}
-use lib.ListN.{get_or}
+use lib.ListN.{get_or, replicate, length-replicate, get_or-replicate}
 use borrow.Author.Tests.{eqb-true}
-use Rattle.facts.proofs.Tests.{both_true}
 use Rattle.int64.specs.Little.{little}
 use Rattle.task.specs.Frames.{zero_register}
 use Rattle.task.specs.Formed.{every}
 use Rattle.task.proofs.EveryLaws.{every-at, every_from, every-goes-on, every-stops, every-ends}
-use Rattle.state.specs.Places.{register_place, entry_place}
-use Rattle.state.specs.Reading.{number_at, is_clear, is_value, value_of, stands_value, stands_values, register_in}
+use Rattle.state.specs.Reading.{table, number_at, is_clear, is_value, value_of, stands_value, stands_values, register_in}
+use Rattle.state.proofs.Tables.{list_table}
 
 -- ---- a test of all, one after the other, that goes on after a no
 
@@ -31,9 +30,6 @@ and_true true = refl
 and_true false = refl
 
 module _ (test : ℕ → Bool) (n : ℕ) where
-  pub tested_none : Tested test n 0 true
-  tested_none = record { at_most = omega arith; all = ap (λ (k : ℕ). every test k 0) {x = n} {y = n - 0} (omega arith) }
-
   module _ (i : ℕ) (passed : Bool) (x : Tested test n i passed) where
     pub tested_yes : i < n → test i ≡ true → Tested test n (i + 1) passed
     tested_yes h e = record { at_most = omega arith; all = x.all ∙ ap (λ (b : Bool). passed && b) (every-goes-on test n i h e) }
@@ -77,19 +73,11 @@ pub values_zero : (bytes : List ℕ) (at n : ℕ) → is_clear bytes at (24 * n)
 values_zero bytes at n h =
     every_from (λ i. stands_value bytes (at + 24 * i)) n 0 (λ i p q. (value_zero bytes at (24 * n) h (at + 24 * i) (omega arith) (omega arith)).0)
 
--- ---- a slot's registers, its stack's entries, where the first of them stands there and all are 0
-
-module _ (bytes : List ℕ) (at i : ℕ) where
-  pub registers_zero_lem : at ≡ register_place i → eqb (i % 16) 0 && is_clear bytes at 384 ≡ true
-      → (i % 16 ≡ 0) × ((j : ℕ) → i ≤ j → j < i + 16 → register_in bytes (register_place j) ≡ zero_register)
-  registers_zero_lem e h =
-      let t = both_true (eqb (i % 16) 0) (is_clear bytes at 384) h in
-      let first = eqb-true (i % 16) 0 t.0 in
-      (first, λ j p q. (value_zero bytes at 384 t.1 (register_place j) (omega arith) (omega arith)).1)
-
-  pub entries_zero : at ≡ entry_place i → eqb (i % 32) 0 && is_clear bytes at 768 ≡ true
-      → (i % 32 ≡ 0) × ((j : ℕ) → i ≤ j → j < i + 32 → register_in bytes (entry_place j) ≡ zero_register)
-  entries_zero e h =
-      let t = both_true (eqb (i % 32) 0) (is_clear bytes at 768) h in
-      let first = eqb-true (i % 32) 0 t.0 in
-      (first, λ j p q. (value_zero bytes at 768 t.1 (entry_place j) (omega arith) (omega arith)).1)
+-- and what is read is the integer 0, n times
+pub zeros_table : (bytes : List ℕ) (at n : ℕ) → is_clear bytes at (24 * n) ≡ true → replicate n zero_register ≡ table (λ i. register_in bytes (at + 24 * i)) n
+zeros_table bytes at n h =
+    list_table (replicate n zero_register) (λ i. register_in bytes (at + 24 * i)) n zero_register
+    (length-replicate n zero_register)
+    (λ i q.
+    get_or-replicate n i zero_register zero_register q
+    ∙ sym (value_zero bytes at (24 * n) h (at + 24 * i) (omega arith) (omega arith)).1)

@@ -11,20 +11,22 @@ use Rattle.image.specs.Layout.{program_cells, version_of, block_count, instructi
 use Rattle.image.specs.Questions.{ask, or_else, program_no}
 use Rattle.image.specs.Doors as doors
 use Rattle.image.specs.Doors.{image_no, write_no, unless_refused}
-use Rattle.image.proofs.Asked.{or_else_no, or_else_yes, or_else_none}
+use Rattle.image.specs.declared.refusal.Refusal.{Refusal}
+use Rattle.image.specs.Refusals.{number}
+use Rattle.image.proofs.Refusals.{refused_keeps, no_decides}
+use Rattle.image.proofs.Asked.{or_else_yes, or_else_none}
 use Rattle.state.proofs.Tables.{length-table}
 use Rattle.steps.specs.Buffers.{wholes, is_whole, cells_of, program_bytes}
 use Rattle.steps.specs.Calls.{read_no, written_no, image_after}
 
 -- ---- A call that answers, and leaves a buffer
 
-pub call_refused : {A : Type 0} (N r : ℕ) (new old after : A) → r ≡ N → (r ≡ 0 → ⊥) → after ≡ old → (r ≡ N) × (after ≡ unless_refused N new old)
-unfolding unless_refused
-call_refused N r new old after e n h = (e, rw (ne_eqb N 0 (λ z. n (e ∙ z))) h)
+pub call_refused : {A : Type 0} (r : Refusal) {N : ℕ} (new old : A) → number r ≡ N → old ≡ unless_refused N new old
+call_refused r new old e = sym (refused_keeps r new old) ∙ ap (λ (n : ℕ). unless_refused n new old) e
 
-pub call_accepted : {A : Type 0} (N : ℕ) (new old after : A) → N ≡ 0 → after ≡ new → (0 ≡ N) × (after ≡ unless_refused N new old)
+pub call_accepted : {A : Type 0} {N : ℕ} (new old after : A) → N ≡ 0 → after ≡ new → after ≡ unless_refused N new old
 unfolding unless_refused
-call_accepted N new old after e h = (sym e, rw (eq-eqb N 0 e) h)
+call_accepted {N = N} new old after e h = rw (eq-eqb N 0 e) h
 
 -- what a callee that answered 0 left
 pub left-accepted : {A : Type 0} (r : ℕ) (new old after : A) → r ≡ 0 → after ≡ unless_refused r new old → after ≡ new
@@ -41,22 +43,22 @@ fifteen false u t n = refl
 
 -- ---- Reading an image
 
-module _ (image : List ℕ) (lent r : ℕ) (answer : r ≡ doors.read_no image program_cells) where
-  asked-image : r ≡ image_no image
+pub read_refused : (image : List ℕ) (lent : ℕ) (r : Refusal) → number r ≡ doors.read_no image program_cells → number r ≡ read_no image lent
+unfolding doors.read_no read_no
+read_refused image lent r e = sym (no_decides r (image_no image) _ (e ∙ or_else_none (image_no image)))
+
+module _ (image : List ℕ) (lent : ℕ) (answer : 0 ≡ doors.read_no image program_cells) where
+  asked_image : image_no image ≡ 0
   unfolding doors.read_no
-  asked-image = answer ∙ or_else_none (image_no image)
+  asked_image = sym (answer ∙ or_else_none (image_no image))
 
-  pub read_refused : (r ≡ 0 → ⊥) → r ≡ read_no image lent
+  pub read_too_long : (lent ≡ program_bytes → ⊥) → 15 ≡ read_no image lent
   unfolding read_no
-  read_refused n = asked-image ∙ sym (or_else_no (image_no image) _ (λ z. n (asked-image ∙ z)))
+  read_too_long n = sym (or_else_yes (image_no image) _ asked_image ∙ rw (ne_eqb lent program_bytes n))
 
-  pub read_too_long : r ≡ 0 → (lent ≡ program_bytes → ⊥) → 15 ≡ read_no image lent
+  pub read_accepted : lent ≡ program_bytes → read_no image lent ≡ 0
   unfolding read_no
-  read_too_long e n = sym (or_else_yes (image_no image) _ (sym asked-image ∙ e) ∙ rw (ne_eqb lent program_bytes n))
-
-  pub read_accepted : r ≡ 0 → lent ≡ program_bytes → read_no image lent ≡ 0
-  unfolding read_no
-  read_accepted e h = or_else_yes (image_no image) _ (sym asked-image ∙ e) ∙ rw (eq-eqb lent program_bytes h)
+  read_accepted h = or_else_yes (image_no image) _ asked_image ∙ rw (eq-eqb lent program_bytes h)
 
 -- ---- Writing a program
 
@@ -75,11 +77,9 @@ module _ (program : List ℕ) (lent : ℕ) where
   abbrev image : ℕ
   image = image_length (version_of cells) (block_count cells) (instruction_count cells)
 
-  pub write_refused : (r : ℕ) → r ≡ program_no (cells_of program) → (r ≡ 0 → ⊥) → r ≡ written_no program lent
+  pub write_refused : (r : Refusal) → number r ≡ program_no (cells_of program) → number r ≡ written_no program lent
   unfolding written_no doors.write_no
-  write_refused r e n =
-      let first : write_no cells lent ≡ r = or_else_no (program_no cells) _ (λ z. n (e ∙ z)) ∙ sym e in
-      sym (or_else_no (write_no cells lent) _ (λ z. n (sym first ∙ z)) ∙ first)
+  write_refused r e = sym (no_decides r (write_no cells lent) _ (sym (no_decides r (program_no cells) _ e)))
 
   -- a buffer of another length lacks cells, has more, or has something left over
   pub write_too_long : program_no (cells_of program) ≡ 0 → (length program ≡ program_bytes → ⊥) → 15 ≡ written_no program lent

@@ -10,18 +10,17 @@ use lib.ListN.{length}
 use borrow.Author.Tests.{leb-true, eqb-true, ne_eqb}
 use Rattle.facts.proofs.Tests.{both_true, clash}
 use Rattle.image.specs.Questions.{ask, or_else, program_no}
-use Rattle.image.proofs.Asked.{or_else_no, or_else_both, or_else_none}
+use Rattle.image.proofs.Asked.{or_else_no, or_else_none}
 use Rattle.drive.specs.declared.State.{State}
-use Rattle.machine.specs.declared.Outcome.{Outcome}
 use Rattle.drive.specs.Issue.{slot_no}
-use Rattle.machine.specs.Picking.{state_no_by, state_no, pick_no, picked}
+use Rattle.machine.specs.Picking.{state_no_by, state_no, pick_no}
 use Rattle.machine.specs.Running.{outcome, outcome_by}
 use Rattle.drive.specs.Passes.{run_from}
 use Rattle.report.specs.Report.{report_length}
 use Rattle.state.specs.State.{state_length}
 use Rattle.state.specs.Reading.{stands_state, state_in}
 use Rattle.steps.specs.Buffers.{wholes, is_whole, cells_of, integers_of, program_bytes}
-use Rattle.steps.specs.Calls.{lent_no, picked_no, ran_no, run_outcome}
+use Rattle.steps.specs.Calls.{is_ready, lent_no, picked_no, ran_no, run_outcome}
 
 -- a question asked a second time
 asked_again : (p x y : ℕ) → or_else p (or_else (or_else p x) y) ≡ or_else (or_else p x) y
@@ -53,52 +52,38 @@ module _ (program words state : List ℕ) (others : Bool) where
     -- the program's questions are left
     pub left : lent_no program words others state ≡ program_no (cells_of program)
 
-  -- `fit` and `yes` are what the code has found of them
-  module _ (fit yes : Bool) (at-fit : fit ≡ whole) (at-yes : yes ≡ (fit && (leb (wholes words) 4096 && stands_state state))) where
-    found : yes ≡ (whole && (leb (wholes words) 4096 && stands_state state))
-    found = at-yes ∙ ap (λ (t : Bool). t && (leb (wholes words) 4096 && stands_state state)) at-fit
+  pub when_ready : is_ready program words others state ≡ true → Ready
+  unfolding lent_no
+  when_ready h =
+      let a = both_true whole _ h in
+      let b = both_true (leb (wholes words) 4096) (stands_state state) a.1 in
+      let p = both_true (eqb (length program) program_bytes) _ a.0 in
+      let q = both_true (is_whole words) others p.1 in
+      record {
+        program_length = eqb-true _ program_bytes p.0;
+        words_whole = omega (arith, eqb-true (length words % 8) 0 q.0);
+        words_few = leb-true _ 4096 b.0;
+        stands = b.1;
+        others_fit = q.1;
+        left = rw (b.0, a.0, b.1) (or_else_none (program_no (cells_of program)));
+      }
 
-    pub when_ready : yes ≡ true → Ready
-    unfolding lent_no
-    when_ready h =
-        let a = both_true whole _ (sym found ∙ h) in
-        let b = both_true (leb (wholes words) 4096) (stands_state state) a.1 in
-        let p = both_true (eqb (length program) program_bytes) _ a.0 in
-        let q = both_true (is_whole words) others p.1 in
-        record {
-          program_length = eqb-true _ program_bytes p.0;
-          words_whole = omega (arith, eqb-true (length words % 8) 0 q.0);
-          words_few = leb-true _ 4096 b.0;
-          stands = b.1;
-          others_fit = q.1;
-          left = rw (b.0, a.0, b.1) (or_else_none (program_no (cells_of program)));
-        }
-
-    -- the refusal where it is not
-    pub when_not : (r : ℕ) → yes ≡ false → r ≡ or_else (program_no (cells_of program)) (ask (leb (wholes words) 4096) 14 (ask fit 15 20))
-        → (r ≡ lent_no program words others state) × (r ≡ 0 → ⊥)
-    unfolding lent_no
-    when_not r h e = (
-      e ∙ ap (or_else (program_no (cells_of program))) (ap (λ (t : Bool). ask (leb (wholes words) 4096) 14 (ask t 15 20)) at-fit ∙ same (leb (wholes words) 4096) whole (stands_state state) (sym found ∙ h)),
-      λ z. no (leb (wholes words) 4096) fit (or_else_both (program_no (cells_of program)) _ (sym e ∙ z)).1,
-    )
-      where
-        same : (f w s : Bool) → w && (f && s) ≡ false → ask f 14 (ask w 15 20) ≡ ask f 14 (ask w 15 (ask s 20 0))
-        same false w s e = refl
-        same true false s e = refl
-        same true true true e = clash refl e
-        same true true false e = refl
-
-        no : (f w : Bool) → ask f 14 (ask w 15 20) ≡ 0 → ⊥
-        no false w e = omega arith
-        no true false e = omega arith
-        no true true e = omega arith
+  -- the refusal where it is not; `fit` and `all` are what the code has found
+  pub when_not : (fit all : Bool) → fit ≡ whole → all ≡ (fit && (leb (wholes words) 4096 && stands_state state)) → all ≡ false
+      → or_else (program_no (cells_of program)) (ask (leb (wholes words) 4096) 14 (ask fit 15 20)) ≡ lent_no program words others state
+  unfolding lent_no
+  when_not fit all p q h =
+      ap (or_else (program_no (cells_of program)))
+      (same (leb (wholes words) 4096) fit (stands_state state) (sym q ∙ h)
+      ∙ ap (λ (t : Bool). ask (leb (wholes words) 4096) 14 (ask t 15 (ask (stands_state state) 20 0))) p)
+    where
+      same : (f w s : Bool) → w && (f && s) ≡ false → ask f 14 (ask w 15 20) ≡ ask f 14 (ask w 15 (ask s 20 0))
+      same false w s e = refl
+      same true false s e = refl
+      same true true true e = clash refl e
+      same true true false e = refl
 
 module _ (program words state : List ℕ) (slot : ℕ) where
-  pub pick-not-ready : (r : ℕ) → (r ≡ lent_no program words (eqb (length state) state_length) state) × (r ≡ 0 → ⊥) → r ≡ picked_no program words slot state
-  unfolding picked_no
-  pick-not-ready r h = h.0 ∙ sym (or_else_no _ _ (λ z. h.1 (h.0 ∙ z)))
-
   pub pick-ready : Ready program words state (eqb (length state) state_length)
       → picked_no program words slot state ≡ pick_no (cells_of program) (integers_of words) (state_in state) slot
   unfolding picked_no state_no_by
@@ -115,11 +100,6 @@ outcome-number cells words m budget = go (state_no cells words m)
     go (suc n) = rw (ne_eqb (suc n) 0 (λ z. omega arith))
 
 module _ (program words state : List ℕ) (report : ℕ) where
-  pub run-not-ready : (r : ℕ) → (r ≡ lent_no program words (eqb (length state) state_length && eqb report report_length) state) × (r ≡ 0 → ⊥)
-      → r ≡ ran_no program words state report
-  unfolding ran_no
-  run-not-ready r h = h.0 ∙ sym (or_else_no _ _ (λ z. h.1 (h.0 ∙ z)))
-
   pub run-ready : Ready program words state (eqb (length state) state_length && eqb report report_length)
       → ran_no program words state report ≡ state_no (cells_of program) (integers_of words) (state_in state)
   unfolding ran_no state_no_by
@@ -128,18 +108,6 @@ module _ (program words state : List ℕ) (report : ℕ) where
       ∙ asked_again (program_no (cells_of program)) _ _
 
   -- the outcome's number is the refusal's
-  module _ (budget : ℕ) (r : Ready program words state (eqb (length state) state_length && eqb report report_length)) (answer : ℕ) (e : answer ≡ (run_outcome program words budget state).no) where
-    pub ran_refused : (answer ≡ 0 → ⊥) → answer ≡ ran_no program words state report
-    ran_refused n = e ∙ outcome-number (cells_of program) (integers_of words) (state_in state) budget ∙ sym (run-ready r)
-
-    pub ran_accepted : answer ≡ 0 → ran_no program words state report ≡ 0
-    ran_accepted z = run-ready r ∙ sym (outcome-number (cells_of program) (integers_of words) (state_in state) budget) ∙ sym e ∙ z
-
--- the answers to what was read
-module _ (program words state : List ℕ) (m : State) (cells : List ℕ) (held : List ℤ) (a : m ≡ state_in state) (b : cells ≡ cells_of program) (c : held ≡ integers_of words) where
-  pub pick-answered : (slot answer : ℕ) (after : State) → (answer ≡ pick_no cells held m slot) × (after ≡ picked cells held m slot)
-      → (answer ≡ pick_no (cells_of program) (integers_of words) (state_in state) slot) × (after ≡ picked (cells_of program) (integers_of words) (state_in state) slot)
-  pick-answered slot answer after h = (h.0 ∙ (λ i. pick_no (b i) (c i) (a i) slot), h.1 ∙ (λ i. picked (b i) (c i) (a i) slot))
-
-  pub run-answered : (budget : ℕ) (o : Outcome) → o ≡ outcome cells held m budget → o ≡ run_outcome program words budget state
-  run-answered budget o h = h ∙ (λ i. outcome (b i) (c i) (a i) budget)
+  pub run_number : (budget : ℕ) → Ready program words state (eqb (length state) state_length && eqb report report_length)
+      → (run_outcome program words budget state).no ≡ ran_no program words state report
+  run_number budget r = outcome-number (cells_of program) (integers_of words) (state_in state) budget ∙ sym (run-ready r)

@@ -37,7 +37,7 @@ module _ (program words : List ℕ) (whole : length program ≡ program_bytes) (
     ready =
         let none : length words % 8 ≡ 0 = omega arith in
         let lengths = true_both (eq-eqb _ program_bytes whole) (true_both (eq-eqb _ 0 none) (eq-eqb _ state_length (state_length_lem m))) in
-        when_ready program words (state_bytes m) (eqb (length (state_bytes m)) state_length) _ _ refl refl
+        when_ready program words (state_bytes m) (eqb (length (state_bytes m)) state_length)
         (true_both lengths (true_both (le-leb (wholes words) 4096 few) (round_trip.read_again m fields).0))
 
     pub same_answer : (k : ℕ) → picked_no program words k (state_bytes m) ≡ pick_no (cells_of program) (integers_of words) m k

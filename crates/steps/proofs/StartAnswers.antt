@@ -11,7 +11,10 @@ use borrow.Author.Tests.{eq-eqb, le-leb, leb-true, eqb-true}
 use Rattle.facts.proofs.Tests.{both_true, true_both, clash}
 use Rattle.image.specs.Layout.{program_cells}
 use Rattle.image.specs.Questions.{ask, or_else, program_no}
-use Rattle.image.proofs.Asked.{ask_yes, or_else_no, or_else_yes, or_else_both, or_else_none}
+use Rattle.image.specs.declared.refusal.Refusal.{Refusal}
+use Rattle.image.specs.Refusals.{number}
+use Rattle.image.proofs.Refusals.{no_decides}
+use Rattle.image.proofs.Asked.{ask_yes, or_else_yes, or_else_both, or_else_none}
 use Rattle.drive.specs.declared.State.{State}
 use Rattle.drive.specs.Settings.{places_allowed, interval_allowed}
 use Rattle.machine.specs.Starting.{start_no_by, start_no, started, empty}
@@ -24,7 +27,7 @@ use Rattle.steps.proofs.Answers.{count-cells}
 -- the lengths that the code asks for at once
 abbrev pub fits : ℕ → ℕ → ℕ → ℕ → Bool
 fits program registers words lent =
-    eqb program program_bytes && (eqb registers 128 && (eqb (words % 8) 0 && (leb words 32768 && eqb lent state_length)))
+    eqb program program_bytes && (eqb (words % 8) 0 && (eqb registers 128 && (leb words 32768 && eqb lent state_length)))
 
 -- what they say of buffers
 pub record Fit (program registers words : List ℕ) (lent : ℕ) : Type 0 where
@@ -37,13 +40,13 @@ pub record Fit (program registers words : List ℕ) (lent : ℕ) : Type 0 where
 pub fit : (program registers words : List ℕ) (lent : ℕ) → fits (length program) (length registers) (length words) lent ≡ true → Fit program registers words lent
 fit program registers words lent h =
     let a = both_true (eqb (length program) program_bytes) _ h in
-    let b = both_true (eqb (length registers) 128) _ a.1 in
-    let c = both_true (eqb (length words % 8) 0) _ b.1 in
+    let b = both_true (eqb (length words % 8) 0) _ a.1 in
+    let c = both_true (eqb (length registers) 128) _ b.1 in
     let d = both_true (leb (length words) 32768) _ c.1 in
     record {
       program_length = eqb-true _ program_bytes a.0;
-      registers_length = eqb-true _ 128 b.0;
-      words_whole = omega (arith, eqb-true (length words % 8) 0 c.0);
+      registers_length = eqb-true _ 128 c.0;
+      words_whole = omega (arith, eqb-true (length words % 8) 0 b.0);
       words_few = omega (arith, leb-true (length words) 32768 d.0);
       lent_length = eqb-true lent state_length d.1;
     }
@@ -60,10 +63,10 @@ module _ (program : List ℕ) (places interval : ℕ) (registers words : List �
   counts-asked =
       ap₂ (start_no_by (cells_of program) places interval) (sym (length-integers registers 0 (wholes registers))) (sym (length-integers words 0 (wholes words)))
 
-  pub start-refused : (r : ℕ) → r ≡ start_no (cells_of program) places interval (integers_of registers) (integers_of words) → (r ≡ 0 → ⊥)
-      → r ≡ started_no program places interval registers words lent
+  pub start-refused : (r : Refusal) → number r ≡ start_no (cells_of program) places interval (integers_of registers) (integers_of words)
+      → number r ≡ started_no program places interval registers words lent
   unfolding started_no
-  start-refused r e n = e ∙ sym (or_else_no first _ (λ z. n (e ∙ z)))
+  start-refused r e = sym (no_decides r first _ e)
 
   module _ (e : start_no (cells_of program) places interval (integers_of registers) (integers_of words) ≡ 0) where
     -- the counts that an accepted start has found right
@@ -95,8 +98,8 @@ module _ (program : List ℕ) (places interval : ℕ) (registers words : List �
         let b = both_true (is_whole registers) _ a.1 in
         let c = both_true (is_whole words) (eqb lent state_length) b.1 in
         true_both (eq-eqb (length program) program_bytes (omega (arith, counts.all_cells, eqb-true (length program % 8) 0 a.0)))
-        (true_both (eq-eqb (length registers) 128 (omega (arith, counts.sixteen, eqb-true (length registers % 8) 0 b.0)))
         (true_both c.0
+        (true_both (eq-eqb (length registers) 128 (omega (arith, counts.sixteen, eqb-true (length registers % 8) 0 b.0)))
         (true_both (le-leb (length words) 32768 (omega (arith, counts.few, eqb-true (length words % 8) 0 c.0))) c.1)))
 
     pub start_too_long : fits (length program) (length registers) (length words) lent ≡ false → 15 ≡ started_no program places interval registers words lent

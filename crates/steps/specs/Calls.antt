@@ -4,7 +4,7 @@ use Rattle.image.specs.Layout.{cells_in, image_of}
 use Rattle.image.specs.Questions.{ask, or_else, program_no}
 use Rattle.image.specs.Doors.{image_no, write_no, unless_refused}
 use Rattle.drive.specs.declared.State.{State}
-use Rattle.machine.specs.declared.Outcome.{Outcome}
+use Rattle.machine.specs.Outcome.{Outcome}
 use Rattle.machine.specs.Starting.{most_words, empty, start_no, started}
 use Rattle.machine.specs.Picking.{state_no, pick_no, picked}
 use Rattle.machine.specs.Running.{outcome}
@@ -56,6 +56,11 @@ lent_no program words others state =
     or_else (program_no (cells_of program))
     (ask (leb (wholes words) most_words) 14
     (ask (eqb (length program) program_bytes && (is_whole words && others)) 15 (ask (stands_state state) 20 0)))
+
+-- whether all but the program's questions are answered with yes
+abbrev pub is_ready : List ℕ → List ℕ → Bool → List ℕ → Bool
+is_ready program words others state =
+    (eqb (length program) program_bytes && (is_whole words && others)) && (leb (wholes words) most_words && stands_state state)
 
 -- these, and then the pick's questions of the state that they stand for: 20 to 24
 unfoldable pub picked_no : List ℕ → List ℕ → ℕ → List ℕ → ℕ

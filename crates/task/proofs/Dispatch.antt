@@ -1,7 +1,7 @@
 -- What `execute` sends on: the task that has counted its instruction, and the instruction that each opcode names.
-use mathlib.Core.Path.{◌≡◌, refl}
+use mathlib.Core.Path.{◌≡◌, refl, ◌∙◌}
 use mathlib.Core.List.{List}
-use Prim.Native.Nat.{ℕ, zero, suc, ◌+◌, ◌<◌, ◌≤◌}
+use Prim.Native.Nat.{ℕ, zero, suc, ◌<◌, ◌≤◌}
 use native.Mathlib.Omega.{arith}
 use lib.IntN.{ℤ}
 use lib.ListN.{get_or}
@@ -13,6 +13,7 @@ use Rattle.task.specs.declared.Value.{Value}
 use Rattle.task.specs.declared.Fork.{Fork}
 use Rattle.task.specs.declared.Active.{Active}
 use Rattle.task.specs.declared.Kind.TheVariants.{Faults}
+use Rattle.task.specs.declared.Executed.{Executed}
 use Rattle.task.specs.Choices.{Choices}
 use Rattle.task.specs.Effect.{unknown, opcodes}
 use Rattle.task.specs.Execute.{Ready, counted_active, ending, answered, executed}
@@ -27,20 +28,16 @@ module _ (cells : List ℕ) {s v : Value} {t n : Active} (e : n ≡ counted_acti
 
 module _ (program : Program) (words : List ℤ) (choices : Choices) (x : Instruction) (s v : Value) (t : Active) (l : List Fork) {n : Active}
     (e : n ≡ counted_active t) where
-  pub sends : (m : ℕ) → x.opcode ≡ m
-      → answered program words choices s v n l (get_or opcodes m unknown) ≡ executed program words choices x s v t l
+  pub sends : (m : ℕ) → x.opcode ≡ m → (r : Executed) → r ≡ answered program words choices s v n l (get_or opcodes m unknown)
+      → r ≡ executed program words choices x s v t l
   unfolding executed
-  sends m k = rw (e, k)
+  sends m k r h = h ∙ rw (e, k)
 
   -- any other number than 1 to 17
-  pub sends-nowhere : (1 ≤ x.opcode → 17 < x.opcode) → ending Faults 8 ≡ executed program words choices x s v t l
+  pub sends-nowhere : (1 ≤ x.opcode → 17 < x.opcode) → (r : Executed) → r ≡ ending Faults 8 → r ≡ executed program words choices x s v t l
   unfolding executed
-  sends-nowhere h = rw (other x.opcode h)
+  sends-nowhere h r k = k ∙ rw (other x.opcode h)
     where
       other : (m : ℕ) → (1 ≤ m → 17 < m) → get_or opcodes m unknown ≡ unknown
       other zero h = refl
       other (suc m) h = no-opcode (suc m) (h (omega arith))
-
--- a number that is not the next one either is past it
-pub past : (n : ℕ) {m : ℕ} → n ≤ m → (m ≡ n → ⊥) → n + 1 ≤ m
-past n h k = omega arith

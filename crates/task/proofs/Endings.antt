@@ -57,7 +57,3 @@ module _ (program : Program) (D h : ℕ) (f : Frame) (x : Formed program D h f) 
 
   pub ending : Ending program.version f
   ending = (ending-by f.task.status refl x.its_status_fits idle).0
-
-  -- it has pc and counter 0
-  pub ended-rests : Rests f.task
-  ended-rests = (ending-by f.task.status refl x.its_status_fits idle).1

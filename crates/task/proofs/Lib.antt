@@ -19,7 +19,6 @@ pub mod Counts
 pub mod Spans
 pub mod Rules
 pub mod Executing
-pub mod Variants
 pub mod Computing
 pub mod Entering
 pub mod Belonging

@@ -48,6 +48,10 @@ join_record (Record c d) n after = after (record { continuation = c; depth = d }
 
 -- ---- When a record fits
 
+-- two records, or a record and an open fork, are the same
+abbrev pub same_fork : Fork → Fork → Bool
+same_fork k opened = eqb opened.continuation k.continuation && eqb opened.depth k.depth
+
 -- the n open forks from i on belong to the record k
 unfoldable pub belong : List Fork → Fork → ℕ → ℕ → Bool
 belong opened k zero i = true

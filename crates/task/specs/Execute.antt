@@ -86,6 +86,14 @@ selected x held = elim (eqb x.kind 1) [
   | false ↦ elim (eqb x.kind 2) [ true ↦ Label x.operand | false ↦ Int (to_z w64 x.operand) ]
 ]
 
+-- what is made of two integers, of which `post` says what it can be; other values fault with 31
+abbrev pub OfIntegers : (ℤ → ℤ → Executed → Type 0) → Value → Value → Executed → Type 0
+OfIntegers post (Int a) (Int b) e = post a b e
+OfIntegers post (Int a) (Label b) e = e ≡ ending Faults 31
+OfIntegers post (Int a) (Record c d) e = e ≡ ending Faults 31
+OfIntegers post (Label b) v e = e ≡ ending Faults 31
+OfIntegers post (Record c d) v e = e ≡ ending Faults 31
+
 -- ---- The task that two ended sides make, but for its registers and its stack
 
 -- its status

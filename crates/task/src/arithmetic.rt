@@ -1,12 +1,13 @@
 // Opcodes 2 to 9: r := s op v, and r := word v.
-ghost use Rattle.std.specs.Prelude.{◌≡◌, ℕ, ◌<◌, List, ℤ};
+ghost use Rattle.std.specs.Prelude.{◌≡◌, ◌≢◌, ℕ, ◌<◌, List, ℤ, pos};
 ghost use Rattle.task.specs.Values.{truth};
 ghost use Rattle.image.specs.Program.{Program};
 ghost use Rattle.image.specs.Questions.{most_instructions};
 ghost use Rattle.task.specs.declared.Fork.{Fork};
+ghost use Rattle.task.specs.declared.Kind.TheVariants.{Faults};
 ghost use Rattle.task.specs.Choices.{Choices, chosen};
 ghost use Rattle.task.specs.Effect.{plus, minus, times, divide, modulo, less, equal, word};
-ghost use Rattle.task.specs.Execute.{answered};
+ghost use Rattle.task.specs.Execute.{answered, ending, storing, OfIntegers};
 
 use crate::results::{fault, store};
 use crate::{Active, Executed, Value};
@@ -21,10 +22,10 @@ fn truth_of(holds: bool) -> Value
     Value::Int(1)
 }
 
-// Execute alone calls it; the shape test has put pc inside the program.
-pub fn add(s: Value, v: Value, t: Active) -> Executed
-    requires { t.pc < most_instructions }
-    ensures { (p : Program) (w : List ℤ) (c : Choices) (o : List Fork) → result ≡ answered p w c s v t o plus }
+// What `then` makes of two integers; 31 of other values.
+fn integers<F: FnOnce(i64, i64) -> Executed>(s: Value, v: Value, then: F) -> Executed
+    requires { (a b : ℤ) → F.pre then a b }
+    ensures { OfIntegers (F.post then) s v result }
 {
     let Value::Int(a) = s else {
         return fault(31);
@@ -32,7 +33,15 @@ pub fn add(s: Value, v: Value, t: Active) -> Executed
     let Value::Int(b) = v else {
         return fault(31);
     };
-    store(Value::Int(int64::wrapping_add(a, b)), t)
+    then(a, b)
+}
+
+// Execute alone calls it; the shape test has put pc inside the program.
+pub fn add(s: Value, v: Value, t: Active) -> Executed
+    requires { t.pc < most_instructions }
+    ensures { (p : Program) (w : List ℤ) (c : Choices) (o : List Fork) → result ≡ answered p w c s v t o plus }
+{
+    integers(s, v, |a, b| store(Value::Int(int64::wrapping_add(a, b)), t))
 }
 
 // As above.
@@ -40,13 +49,7 @@ pub fn subtract(s: Value, v: Value, t: Active) -> Executed
     requires { t.pc < most_instructions }
     ensures { (p : Program) (w : List ℤ) (c : Choices) (o : List Fork) → result ≡ answered p w c s v t o minus }
 {
-    let Value::Int(a) = s else {
-        return fault(31);
-    };
-    let Value::Int(b) = v else {
-        return fault(31);
-    };
-    store(Value::Int(int64::wrapping_sub(a, b)), t)
+    integers(s, v, |a, b| store(Value::Int(int64::wrapping_sub(a, b)), t))
 }
 
 // As above.
@@ -54,75 +57,52 @@ pub fn multiply(s: Value, v: Value, t: Active) -> Executed
     requires { t.pc < most_instructions }
     ensures { (p : Program) (w : List ℤ) (c : Choices) (o : List Fork) → result ≡ answered p w c s v t o times }
 {
-    let Value::Int(a) = s else {
-        return fault(31);
-    };
-    let Value::Int(b) = v else {
-        return fault(31);
-    };
-    store(Value::Int(int64::wrapping_mul(a, b)), t)
+    integers(s, v, |a, b| store(Value::Int(int64::wrapping_mul(a, b)), t))
 }
 
-// As above.
+// What `op` makes of a dividend and a divisor; 32 where the divisor is 0.
+fn divided<F: FnOnce(i64, i64) -> i64>(a: i64, b: i64, t: Active, op: F) -> Executed
+    requires at { t.pc < most_instructions }
+    requires callable { b ≢ pos 0 → F.pre op a b }
+    ensures by_zero { b ≡ pos 0 → result ≡ ending Faults 32 }
+    ensures by_other { b ≢ pos 0 → ((r : ℤ) × F.post op a b r × (result ≡ storing (Value.Int r) t)) }
+{
+    if b == 0 {
+        return fault(32);
+    }
+    store(Value::Int(op(a, b)), t)
+}
+
+// As add.
 pub fn divide(s: Value, v: Value, t: Active) -> Executed
     requires { t.pc < most_instructions }
     ensures { (p : Program) (w : List ℤ) (n : ℕ) (o : List Fork) → result ≡ answered p w (chosen n) s v t o divide }
 {
-    let Value::Int(a) = s else {
-        return fault(31);
-    };
-    let Value::Int(b) = v else {
-        return fault(31);
-    };
-    if int64::equal(b, 0) {
-        return fault(32);
-    }
-    store(Value::Int(int64::quotient(a, b)), t)
+    integers(s, v, |a, b| divided(a, b, t, int64::quotient))
 }
 
-// As above.
+// As add.
 pub fn modulo(s: Value, v: Value, t: Active) -> Executed
     requires { t.pc < most_instructions }
     ensures { (p : Program) (w : List ℤ) (n : ℕ) (o : List Fork) → result ≡ answered p w (chosen n) s v t o modulo }
 {
-    let Value::Int(a) = s else {
-        return fault(31);
-    };
-    let Value::Int(b) = v else {
-        return fault(31);
-    };
-    if int64::equal(b, 0) {
-        return fault(32);
-    }
-    store(Value::Int(int64::remainder(a, b)), t)
+    integers(s, v, |a, b| divided(a, b, t, int64::remainder))
 }
 
-// As above.
+// As add.
 pub fn less(s: Value, v: Value, t: Active) -> Executed
     requires { t.pc < most_instructions }
     ensures { (p : Program) (w : List ℤ) (c : Choices) (o : List Fork) → result ≡ answered p w c s v t o less }
 {
-    let Value::Int(a) = s else {
-        return fault(31);
-    };
-    let Value::Int(b) = v else {
-        return fault(31);
-    };
-    store(truth_of(int64::less(a, b)), t)
+    integers(s, v, |a, b| store(truth_of(a < b), t))
 }
 
-// As above.
+// As add.
 pub fn equal(s: Value, v: Value, t: Active) -> Executed
     requires { t.pc < most_instructions }
     ensures { (p : Program) (w : List ℤ) (c : Choices) (o : List Fork) → result ≡ answered p w c s v t o equal }
 {
-    let Value::Int(a) = s else {
-        return fault(31);
-    };
-    let Value::Int(b) = v else {
-        return fault(31);
-    };
-    store(truth_of(int64::equal(a, b)), t)
+    integers(s, v, |a, b| store(truth_of(a == b), t))
 }
 
 // Word v of the call record, counted from 0. As above.
@@ -133,12 +113,11 @@ pub fn fetch(words: &[i64], v: Value, t: Active) -> Executed
     let Value::Int(index) = v else {
         return fault(31);
     };
-    if index < 0 {
+    let Ok(at) = usize::try_from(index) else {
         return fault(33);
-    }
-    let at = index as usize;
-    if words.len() <= at {
+    };
+    let Some(&word) = words.get(at) else {
         return fault(33);
-    }
-    store(Value::Int(words[at]), t)
+    };
+    store(Value::Int(word), t)
 }

@@ -22,21 +22,17 @@ pub fn first_of(cells: &[u64], b: usize) -> u16
     layout::first_of(cells, b) as u16
 }
 
-// Whether control goes to the handler of block b instead.
+// Whether control goes to the handler of block b instead. The annotation is the image's number, as `promotes` (specs/Step.antt), which may not
+// change, reads it.
+#[tactic(auto, unfolding(crate::specs::Step::promotes))]
 fn is_promoted(cells: &[u64], interval: u64, b: usize, t: Active) -> bool
     requires { (program_no cells.now ≡ 0) × (b < block_count cells.now) }
     ensures { result ≡ promotes (program_of cells.now) (chosen interval) b t.counter t.places }
 {
-    if layout::annotation_of(cells, b) != 1 {
-        return false;
-    }
-    if interval == 0 {
-        return false;
-    }
-    if (t.counter as u64) < interval {
-        return false;
-    }
-    2 <= t.places
+    layout::annotation_of(cells, b) == 1
+        && interval != 0
+        && interval <= u64::from(t.counter)
+        && 2 <= t.places
 }
 
 // Entering block b by jump, taken if-jump or join. This crate alone calls it, as above.
@@ -71,13 +67,14 @@ pub fn branch(cells: &[u64], interval: u64, s: Value, v: Value, t: Active) -> Ex
     let Value::Int(a) = s else {
         return fault(31);
     };
-    if int64::equal(a, 0) {
+    if a == 0 {
         return jump(cells, interval, v, t);
     }
     go(t.pc + 1, t.counter)
 }
 
 // A record: the continuation block and the task's present depth. As above.
+#[tactic(auto, unfolding(crate::specs::Effect::asked))]
 pub fn allocate(cells: &[u64], v: Value, t: Active) -> Executed
     requires { (program_no cells.now ≡ 0) × (value_fits (program_of cells.now) v ≡ true) × (t.pc < most_instructions) }
     ensures { (w : List ℤ) (c : Choices) (s : Value) (o : List Fork) → result ≡ answered (program_of cells.now) w c s v t o jralloc }
@@ -91,6 +88,7 @@ pub fn allocate(cells: &[u64], v: Value, t: Active) -> Executed
     store(Value::Record(b, t.depth), t)
 }
 
+#[tactic(auto, unfolding(crate::specs::Effect::asked))]
 pub fn halt(t: Active) -> Executed
     ensures { (p : Program) (w : List ℤ) (c : Choices) (s v : Value) (o : List Fork) → result ≡ answered p w c s v t o halt }
 {

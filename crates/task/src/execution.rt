@@ -14,21 +14,20 @@ use crate::{Active, Executed, Fork, Value};
 use image::Instruction;
 
 // The value of operand v, where `held` is the value of the register that an operand of kind 1 names. The machine's loop calls it, with an
-// instruction of an accepted program.
+// instruction of an accepted program. The kind is the image's number, as `selected` (specs/Execute.antt), which may not change, reads it.
 pub fn operand(x: Instruction, held: Value) -> Value
     requires { x.kind ≡ 2 → x.operand < most_blocks }
     ensures { result ≡ selected x held }
 {
-    if x.kind == 1 {
-        return held;
+    match x.kind {
+        1 => held,
+        2 => Value::Label(x.operand as u32),
+        _ => Value::Int(int64::number(x.operand)),
     }
-    if x.kind == 2 {
-        return Value::Label(x.operand as u32);
-    }
-    Value::Int(int64::number(x.operand))
 }
 
-// The machine ensures `Ready`, by question 20 and the work's limit.
+// The machine ensures `Ready`, by question 20 and the work's limit. The opcode is the image's number and no enum: `executed`
+// (specs/Execute.antt), which may not change, reads it so.
 pub fn execute(
     cells: &[u64],
     words: &[i64],

@@ -1,5 +1,5 @@
 // The task that two ended sides of a fork make.
-ghost use Rattle.std.specs.Prelude.{◌≡◌, ◌+◌, ◌≤◌, ◌<◌, max};
+ghost use Rattle.std.specs.Prelude.{◌≡◌, ◌+◌, ◌≤◌, ◌<◌};
 ghost use Rattle.image.specs.Layout.{program_of};
 ghost use Rattle.task.specs.Frames.{fault_of};
 ghost use Rattle.task.specs.Step.{first_fault, outward_task};
@@ -9,23 +9,14 @@ use crate::control::first_of;
 use crate::{Fork, Joint, Status, Task};
 use image::layout::block_of;
 
-fn larger(a: u32, b: u32) -> u32
-    ensures { result ≡ max a b }
-{
-    if a < b { b } else { a }
-}
-
 // The parent's fault if it has one, else the child's; without a fault the joined task runs.
 fn joined_status(parent: Status, child: Status) -> Status
     ensures { result ≡ status_by (first_fault (fault_of parent) (fault_of child)) }
 {
-    if let Status::Faulted(n) = parent {
-        return Status::Faulted(n);
+    match (parent, child) {
+        (Status::Faulted(n), _) | (_, Status::Faulted(n)) => Status::Faulted(n),
+        _ => Status::Running,
     }
-    if let Status::Faulted(n) = child {
-        return Status::Faulted(n);
-    }
-    Status::Running
 }
 
 // All their places, the larger span, counter 0, that fork closed.
@@ -40,7 +31,7 @@ fn close(status: Status, pc: u16, height: u32, p: Task, c: Task) -> Task
         continuation: 0,
         depth: 0,
     };
-    let span = larger(p.span, c.span);
+    let span = p.span.max(c.span);
     Task {
         status,
         height,

@@ -67,6 +67,7 @@ pub fn end(kind: Kind, fault: u8) -> Executed
     }
 }
 
+// The number is the question's: `ending` (specs/Execute.antt), which may not change, and the state that C reads have it so.
 pub fn fault(number: u8) -> Executed
     ensures { result ≡ ending Faults number }
 {

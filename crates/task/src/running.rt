@@ -7,11 +7,5 @@ use crate::Status;
 pub fn is_running(s: Status) -> bool
     ensures { result ≡ is_running s }
 {
-    match s {
-        Status::Vacant => false,
-        Status::Running => true,
-        Status::Waiting => false,
-        Status::Halted => false,
-        Status::Faulted(_) => false,
-    }
+    s == Status::Running
 }

@@ -8,7 +8,7 @@ use native.Mathlib.Omega.{arith}
 use Rattle.facts.proofs.Tests.{clash, by-test}
 use Rattle.drive.specs.declared.State.{State}
 use Rattle.drive.specs.declared.End.{End}
-use Rattle.machine.specs.declared.Outcome.{Outcome}
+use Rattle.machine.specs.Outcome.{Outcome}
 use Rattle.drive.specs.Ending.{job_ended}
 use Rattle.task.specs.Frames.{work_limit}
 use Rattle.drive.specs.Passes.{run_from}

@@ -6,7 +6,7 @@ use Rattle.image.specs.Layout.{image_of}
 use Rattle.image.specs.Questions.{program_no}
 use Rattle.image.specs.RoundTrip.{Cells, Writes}
 use Rattle.drive.specs.declared.State.{State}
-use Rattle.machine.specs.declared.Outcome.{Outcome}
+use Rattle.machine.specs.Outcome.{Outcome}
 use Rattle.task.specs.Frames.{work_limit}
 use Rattle.drive.specs.Issue.{issued}
 use Rattle.orders.specs.Demand.{Job, Engine, AcceptedOf, Accepted, start_on, played}

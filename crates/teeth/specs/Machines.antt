@@ -4,7 +4,7 @@ use Rattle.image.specs.Doors.{unless_refused}
 use Rattle.task.specs.declared.Status.{Status}
 use Rattle.task.specs.declared.Task.{Task}
 use Rattle.drive.specs.declared.State.{State}
-use Rattle.machine.specs.declared.Outcome.{Outcome}
+use Rattle.machine.specs.Outcome.{Outcome}
 use Rattle.drive.specs.Slots.{ticked}
 use Rattle.drive.specs.Ending.{job_ended}
 use Rattle.machine.specs.Starting.{start_no, started}

@@ -5,20 +5,34 @@ ghost use Rattle.std.specs.Prelude.{◌≡◌, ◌+◌, ◌<◌, ◌≤◌, take
 ghost use Rattle.std.specs.Io.KnownBytes.{Appends, Consumes, IsAtEnd};
 ghost use Rattle.job.specs.Run.{text_in};
 
-use std::io;
+use std::error::Error;
 use std::io::{Read, Write};
+use std::{fmt, io};
 
 // The most picks that a job is given.
 const BUDGET: u64 = 1_000_000;
 
 // Why nothing was printed, or not all.
-#[derive(Clone, Copy)]
+#[derive(Clone, Copy, Debug, PartialEq, Eq)]
 pub enum Failure {
     InputUnread,
     JobTooLong,
     TextTooLong,
     OutputUnwritten,
 }
+
+impl fmt::Display for Failure {
+    fn fmt<W: fmt::Write>(&self, f: &mut fmt::Formatter<W>) -> fmt::Result {
+        match self {
+            Failure::InputUnread => write!(f, "standard input could not be read"),
+            Failure::JobTooLong => write!(f, "the job is longer than its buffer"),
+            Failure::TextTooLong => write!(f, "the text is longer than its buffer"),
+            Failure::OutputUnwritten => write!(f, "standard output could not be written"),
+        }
+    }
+}
+
+impl Error for Failure {}
 
 // One read, into the buffer from `done` on: how many bytes it put there, 0 at the input's end.
 fn read_at<R: Read>(input: &mut R, buf: &mut [u8], done: usize) -> io::Result<usize>
@@ -47,16 +61,6 @@ fn read_all<R: Read>(input: &mut R, buf: &mut [u8]) -> io::Result<usize>
     Ok(done)
 }
 
-fn complain(rt: &impl Eprint, failure: Failure) {
-    let why = match failure {
-        Failure::InputUnread => "standard input could not be read",
-        Failure::JobTooLong => "the job is longer than its buffer",
-        Failure::TextTooLong => "the text is longer than its buffer",
-        Failure::OutputUnwritten => "standard output could not be written",
-    };
-    let _ = eprintln!(rt; "tpal_run: {why}");
-}
-
 fn print<W: Write>(out: &mut W, text: &[u8], n: usize) -> Result<(), Failure>
     ensures room { OnOk result (n ≤ length text.now) }
     ensures bytes { OnOk result (Appends (W.contents out.old) (W.contents out.new) (take n text.now)) }
@@ -64,10 +68,8 @@ fn print<W: Write>(out: &mut W, text: &[u8], n: usize) -> Result<(), Failure>
     if text.len() < n {
         return Err(Failure::TextTooLong);
     }
-    match out.write_all(&text[..n]) {
-        Ok(()) => Ok(()),
-        Err(_) => Err(Failure::OutputUnwritten),
-    }
+    out.write_all(&text[..n])
+        .map_err(|_| Failure::OutputUnwritten)
 }
 
 // The first n bytes are the job.
@@ -78,8 +80,8 @@ fn run<W: Write>(input: &[u8], n: usize, out: &mut W) -> Result<(), Failure>
         return Err(Failure::JobTooLong);
     }
     let mut text = [0u8; report::TEXT_BYTES];
-    let written = job::tpal_job_text(&input[..n], BUDGET, &mut text);
-    print(out, &text, written as usize)
+    let written = job::tpal_job_text(&input[..n], BUDGET, &mut text).ok_or(Failure::TextTooLong)?;
+    print(out, &text, written)
 }
 
 // What the input has comes into the buffer, and what is printed is the text of that.
@@ -87,10 +89,8 @@ fn answer<R: Read, W: Write>(input: &mut R, out: &mut W, space: &mut [u8]) -> Re
     ensures { OnOk result (IfSome (R.remaining input.old)
         (λ xs. Appends (W.contents out.old) (W.contents out.new) (text_in (take (length space.old) xs) 1000000))) }
 {
-    match read_all(input, space) {
-        Ok(n) => run(space, n, out),
-        Err(_) => Err(Failure::InputUnread),
-    }
+    let n = read_all(input, space).map_err(|_| Failure::InputUnread)?;
+    run(space, n, out)
 }
 
 // A job has at most 589,950 bytes, its image length and word count being of 16 bits. The buffer has one more, so that a longer input does
@@ -98,6 +98,6 @@ fn answer<R: Read, W: Write>(input: &mut R, out: &mut W, space: &mut [u8]) -> Re
 fn main(rt: HostRuntime) {
     let mut space = [0u8; 589951];
     if let Err(failure) = answer(&mut rt.stdin(), &mut rt.stdout(), &mut space) {
-        complain(&rt, failure);
+        let _ = eprintln!(rt; "tpal_run: {failure}");
     }
 }

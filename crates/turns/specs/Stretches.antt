@@ -1,11 +1,19 @@
 -- Where the loop's course goes on: the stretches of each. Only the loop's small functions cite these.
-use Rattle.std.specs.Prelude.{Bool, true, false, cond, List, [], ◌∷◌, ℕ, ◌+◌, ◌-◌, eqb, ltb, leb, drop}
+use Rattle.std.specs.Prelude.{Bool, true, false, cond, Option, Some, None, List, [], ◌∷◌, ℕ, ◌+◌, ◌-◌, eqb, ltb, leb, drop}
 use Rattle.task.specs.Frames.{work_limit}
 use Rattle.turns.specs.declared.course.Course.{Course}
 use Rattle.turns.specs.declared.course.Course.TheVariants.{Passes, Listed, Rounds}
 use Rattle.turns.specs.declared.course.Position.{Position}
-use Rattle.turns.specs.declared.course.Stretch.{Stretch}
 use Rattle.turns.specs.Rows.{slot_in}
+
+-- the next stretch's first position. Or it is over: there is none
+pub record Stretch : Type 0 where
+  pub over : Bool
+  pub first : Position
+
+-- as the code answers it
+abbrev pub first_of : Stretch → Option Position
+first_of s = cond s.over None (Some s.first)
 
 -- before the first stretch, and behind the last
 abbrev pub nowhere : ℕ → ℕ → Position

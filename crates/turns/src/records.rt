@@ -11,31 +11,13 @@ use task::{Fork, Kind, Status, Task, Value};
 pub fn runs_on(kind: Kind) -> bool
     ensures { result ≡ runs_on kind }
 {
-    match kind {
-        Kind::Stores => true,
-        Kind::Goes => true,
-        Kind::Pushes => false,
-        Kind::Pops => false,
-        Kind::Waits => false,
-        Kind::Halts => false,
-        Kind::Faults => false,
-        Kind::Forks => false,
-    }
+    matches!(kind, Kind::Stores | Kind::Goes)
 }
 
 pub fn does_store(kind: Kind) -> bool
     ensures { result ≡ stores_it kind }
 {
-    match kind {
-        Kind::Stores => true,
-        Kind::Goes => false,
-        Kind::Pushes => false,
-        Kind::Pops => false,
-        Kind::Waits => false,
-        Kind::Halts => false,
-        Kind::Faults => false,
-        Kind::Forks => false,
-    }
+    matches!(kind, Kind::Stores)
 }
 
 // The status of a task that an instruction has ended. The fault's number is 0 where it has not faulted.
@@ -43,14 +25,10 @@ fn status_of(kind: Kind, fault: u8) -> Status
     ensures { result ≡ status_of kind fault }
 {
     match kind {
-        Kind::Stores => Status::Running,
-        Kind::Goes => Status::Running,
-        Kind::Pushes => Status::Running,
-        Kind::Pops => Status::Running,
+        Kind::Stores | Kind::Goes | Kind::Pushes | Kind::Pops | Kind::Forks => Status::Running,
         Kind::Waits => Status::Waiting,
         Kind::Halts => Status::Halted,
         Kind::Faults => Status::Faulted(fault),
-        Kind::Forks => Status::Running,
     }
 }
 
@@ -71,11 +49,7 @@ pub fn record_of(v: Value) -> Fork
     ensures { result ≡ record_of v }
 {
     match v {
-        Value::Int(_) => Fork {
-            continuation: 0,
-            depth: 0,
-        },
-        Value::Label(_) => Fork {
+        Value::Int(_) | Value::Label(_) => Fork {
             continuation: 0,
             depth: 0,
         },

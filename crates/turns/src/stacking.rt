@@ -1,5 +1,5 @@
 // A push or a pop, on a task's record and its stack's height. The value itself the loop moves in place.
-ghost use Rattle.std.specs.Prelude.{◌≡◌, true, ◌<◌, ◌≤◌};
+ghost use Rattle.std.specs.Prelude.{◌≡◌, ◌<◌, ◌≤◌, IfOk, IfErr};
 ghost use Rattle.task.specs.Frames.{stack_length, work_limit};
 ghost use Rattle.turns.specs.Kinds.{stacks_it, pops_it, stack_no, entry_of, restacked_by};
 
@@ -8,61 +8,35 @@ use task::{Kind, Task};
 pub fn does_stack(kind: Kind) -> bool
     ensures { result ≡ stacks_it kind }
 {
-    match kind {
-        Kind::Stores => false,
-        Kind::Goes => false,
-        Kind::Pushes => true,
-        Kind::Pops => true,
-        Kind::Waits => false,
-        Kind::Halts => false,
-        Kind::Faults => false,
-        Kind::Forks => false,
-    }
+    matches!(kind, Kind::Pushes | Kind::Pops)
 }
 
 pub fn does_pop(kind: Kind) -> bool
     ensures { result ≡ pops_it kind }
 {
-    match kind {
-        Kind::Stores => false,
-        Kind::Goes => false,
-        Kind::Pushes => false,
-        Kind::Pops => true,
-        Kind::Waits => false,
-        Kind::Halts => false,
-        Kind::Faults => false,
-        Kind::Forks => false,
-    }
+    matches!(kind, Kind::Pops)
 }
 
-// The stack's question: 0, or the fault, 42 for a push on a full stack, 43 for a pop from an empty one.
-pub fn ask_stack(pops: bool, height: u32) -> u8
-    ensures { result ≡ stack_no pops height }
+// The entry that a push fills or a pop empties. Or the stack's question is answered with no: the fault, 42 for a push on a full stack, 43 for a
+// pop from an empty one. Drive alone calls it, with the height of a stack of the state.
+pub fn entry_of(pops: bool, height: u32) -> Result<usize, u8>
+    requires { height ≤ stack_length }
+    ensures entry { IfOk result (λ e. (stack_no pops height ≡ 0) × (e ≡ entry_of pops height) × (e < stack_length)) }
+    ensures fault { IfErr result (λ no. (stack_no pops height ≡ no) × (0 < no)) }
 {
     if pops {
         if height == 0 {
-            return 43;
+            return Err(43);
         }
-        return 0;
+        return Ok((height - 1) as usize);
     }
     if height < 32 {
-        return 0;
+        return Ok(height as usize);
     }
-    42
+    Err(42)
 }
 
-// The entry that a push fills or a pop empties. Drive alone calls it, after the stack's question.
-pub fn entry_of(pops: bool, height: u32) -> usize
-    requires { (stack_no pops height ≡ 0) × (height ≤ stack_length) }
-    ensures { (result ≡ entry_of pops height) × (result < stack_length) }
-{
-    if pops {
-        return (height - 1) as usize;
-    }
-    height as usize
-}
-
-// The record of the task that goes on. As above; the work is below its limit.
+// The record of the task that goes on. Drive alone calls it, where the stack has that entry and the work is below its limit.
 pub fn restacked(t: Task, pops: bool, pc: u16, counter: u32) -> Task
     requires { (stack_no pops t.height ≡ 0) × (t.height ≤ stack_length) × (t.span < work_limit) }
     ensures { result ≡ restacked_by pops t pc counter }

@@ -6,19 +6,6 @@ ghost use Rattle.turns.specs.Walk.{walks_on, behind, gone_by, passed_on, goes_ag
 use crate::course::Position;
 use crate::rows;
 
-// Whether it goes on: nothing has stopped it, picks are left, and places to go by.
-pub fn walks_on(stopped: bool, work: u32, p: Position) -> bool
-    ensures { result ≡ walks_on stopped work p }
-{
-    if stopped {
-        return false;
-    }
-    if p.until <= work {
-        return false;
-    }
-    0 < p.ahead
-}
-
 // The slot behind w places of slot k; 0 behind the last.
 fn behind_slot(places: u64, k: usize, w: u64) -> usize
     requires { (k < 64) × (w ≤ 64) }
@@ -31,105 +18,110 @@ fn behind_slot(places: u64, k: usize, w: u64) -> usize
     0
 }
 
-// Nothing runs in w places.
-pub fn gone_by(p: Position, places: u64, w: u64) -> Position
-    requires { (p.slot < 64) × (w ≤ 64) }
-    ensures { result ≡ gone_by places w p }
-{
-    let mut q = p;
-    q.slot = behind_slot(places, p.slot, w);
-    if p.ahead < w {
-        q.ahead = 0;
-        return q;
+impl Position {
+    // Whether it goes on: nothing has stopped it, picks are left, and places to go by.
+    pub fn walks_on(self, stopped: bool, work: u32) -> bool
+        ensures { result ≡ walks_on stopped work self }
+    {
+        !stopped && (work < self.until && 0 < self.ahead)
     }
-    q.ahead = p.ahead - w;
-    q
-}
 
-// A pick of passes, whose task runs on in its w places: it is looked at again where it runs alone, since its places are all that are ahead.
-fn passed_on(p: Position, places: u64, w: u64) -> Position
-    requires { (p.slot < 64) × (w ≤ 64) }
-    ensures { result ≡ passed_on places w p }
-{
-    if p.ahead <= w {
-        return p;
+    // Nothing runs in w places.
+    pub fn gone_by(self, places: u64, w: u64) -> Position
+        requires { (self.slot < 64) × (w ≤ 64) }
+        ensures { result ≡ gone_by places w self }
+    {
+        Position {
+            slot: behind_slot(places, self.slot, w),
+            ahead: self.ahead.saturating_sub(w),
+            ..self
+        }
     }
-    let mut q = p;
-    q.slot = behind_slot(places, p.slot, w);
-    q.ahead = places;
-    q
-}
 
-// Whether another round takes the same row.
-fn goes_again(p: Position, work: u32) -> bool
-    ensures { result ≡ goes_again work p }
-{
-    if p.last <= p.begun as u64 {
-        return false;
+    // A pick of passes, whose task runs on in its w places: it is looked at again where it runs alone, since its places are all that are ahead.
+    fn passed_on(self, places: u64, w: u64) -> Position
+        requires { (self.slot < 64) × (w ≤ 64) }
+        ensures { result ≡ passed_on places w self }
+    {
+        if self.ahead <= w {
+            return self;
+        }
+        Position {
+            slot: behind_slot(places, self.slot, w),
+            ahead: places,
+            ..self
+        }
     }
-    work < p.until
-}
 
-// A pick of a round, whose task runs on: the next slot that is left, or the row's first again.
-fn round_on(p: Position, work: u32) -> Position
-    ensures { result ≡ round_on work p }
-{
-    let mut q = p;
-    let rest = p.rest / 128;
-    if 0 < rest {
-        q.slot = rows::slot_in(rest);
-        q.rest = rest;
-        return q;
+    // Whether another round takes the same row.
+    fn goes_again(self, work: u32) -> bool
+        ensures { result ≡ goes_again work self }
+    {
+        (self.begun as u64) < self.last && work < self.until
     }
-    if goes_again(p, work) {
-        q.slot = rows::slot_in(p.row);
-        q.begun = p.begun + 1;
-        q.rest = p.row;
-        return q;
-    }
-    q.ahead = 0;
-    q
-}
 
-// The slot's task was picked and runs on in its w places; the work counts the pick.
-pub fn picked_on(p: Position, places: u64, work: u32, w: u64) -> Position
-    requires { (p.slot < 64) × (w ≤ 64) }
-    ensures { result ≡ picked_on places work w p }
-{
-    if 0 < p.row {
-        return round_on(p, work);
+    // A pick of a round, whose task runs on: the next slot that is left, or the row's first again.
+    fn round_on(self, work: u32) -> Position
+        ensures { result ≡ round_on work self }
+    {
+        let rest = self.rest / 128;
+        if 0 < rest {
+            return Position {
+                slot: rows::slot_in(rest),
+                rest,
+                ..self
+            };
+        }
+        if self.goes_again(work) {
+            return Position {
+                slot: rows::slot_in(self.row),
+                begun: self.begun + 1,
+                rest: self.row,
+                ..self
+            };
+        }
+        Position { ahead: 0, ..self }
     }
-    passed_on(p, places, w)
-}
 
-// The slot's task was picked, and forked or ended its side; w of its places are gone by. The tasks of later rounds are others.
-pub fn stopped_at(p: Position, places: u64, w: u64) -> Position
-    requires { (p.slot < 64) × (w ≤ 64) }
-    ensures { result ≡ stopped_at places w p }
-{
-    let mut q = p;
-    if p.row == 0 {
-        q.slot = behind_slot(places, p.slot, w);
-        q.ahead = places;
-        return q;
+    // The slot's task was picked and runs on in its w places; the work counts the pick.
+    pub fn picked_on(self, places: u64, work: u32, w: u64) -> Position
+        requires { (self.slot < 64) × (w ≤ 64) }
+        ensures { result ≡ picked_on places work w self }
+    {
+        if 0 < self.row {
+            return self.round_on(work);
+        }
+        self.passed_on(places, w)
     }
-    q.last = 0;
-    let rest = p.rest / 128;
-    if 0 < rest {
-        q.slot = rows::slot_in(rest);
-        q.rest = rest;
-        return q;
+
+    // The slot's task was picked, and forked or ended its side; w of its places are gone by. The tasks of later rounds are others.
+    pub fn stopped_at(self, places: u64, w: u64) -> Position
+        requires { (self.slot < 64) × (w ≤ 64) }
+        ensures { result ≡ stopped_at places w self }
+    {
+        if self.row == 0 {
+            return Position {
+                slot: behind_slot(places, self.slot, w),
+                ahead: places,
+                ..self
+            };
+        }
+        let p = Position { last: 0, ..self };
+        let rest = p.rest / 128;
+        if 0 < rest {
+            return Position {
+                slot: rows::slot_in(rest),
+                rest,
+                ..p
+            };
+        }
+        Position { ahead: 0, ..p }
     }
-    q.ahead = 0;
-    q
 }
 
 // The places of a slot where nothing runs: an ended task's, or the slot alone.
 pub fn width_of(places: u64) -> u64
     ensures { result ≡ width places }
 {
-    if places < 1 {
-        return 1;
-    }
-    places
+    places.max(1)
 }

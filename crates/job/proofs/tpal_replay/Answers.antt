@@ -1,70 +1,61 @@
 -- `tpal_replay` meets its contract.
+use Rattle.std.proofs.Common.{refl, sym, ap, ◌∙◌, arith}
+use Rattle.std.proofs.lemmas.Result.{err_from_is_err_and}
+use lib.IntN.{pos}
 use Rattle.image.specs.Doors.{unless_refused}
 use Rattle.state.specs.State.{state_bytes}
 use Rattle.job.specs.Job.{job_no}
-use Rattle.job.specs.Replay.{replay_no}
+use Rattle.job.specs.Replay.{replay_no, replay_of}
 use Rattle.job.proofs.tpal_replay.Goals as goal
-use mathlib.Core.Path.{refl, sym, ap, ◌∙◌}
-use lib.IntN.{pos}
 use borrow.Author.Tests.{eq-eqb, ne_eqb}
-use Rattle.image.proofs.Asked.{or_else_no, or_else_yes}
+use Rattle.image.proofs.Asked.{or_else_yes}
+use Rattle.image.proofs.Refusals.{number_positive, no_decides, refused_keeps}
 use Rattle.steps.proofs.Cells.{front_length}
-use Rattle.job.proofs.Asking.{asked-program}
-use Rattle.job.proofs.Replaying.{accepted-ends, few_words, whatever_the_order}
-use native.Mathlib.Omega.{arith}
+use Rattle.job.proofs.Replaying.{few_words, whatever_the_order}
 
-pub returns-then-no-ne0 : goal.returns-then-no-ne0
-unfolding replay_no unless_refused
-returns-then-no-ne0 c =
-    let asked = c.ask_job-no.ensures.value in
-    record {
-      value = asked ∙ sym (or_else_no (job_no c.args.job.now) _ (λ e. c.if-no-ne0.true (asked ∙ e)));
-      state_after = rw (ne_eqb _ _ c.if-no-ne0.true);
-      whatever_the_order = λ e. absurd (c.if-no-ne0.true e);
-    }
+pub returns-in_err-job : goal.returns-in_err-job
+unfolding replay_no
+returns-in_err-job c =
+    let p = err_from_is_err_and c.from_residual.result c.from_residual.ensures.1 in
+    let r = c.in_err-job.field-0.0 in
+    rw (p.1, p.2) (record {
+      value = sym (no_decides r _ _ c.in_err-job.ensures.value);
+      state_after = sym (refused_keeps r _ _);
+      whatever_the_order = λ e. absurd (omega (arith, number_positive r, e));
+    })
 
 pub returns-then-state-ne-STATE_BYTES : goal.returns-then-state-ne-STATE_BYTES
 unfolding replay_no unless_refused
 returns-then-state-ne-STATE_BYTES c =
-    let accepted = sym c.ask_job-no.ensures.value ∙ c.if-no-ne0.false in
+    let accepted = sym c.in_ok-job.ensures.value in
     record {
       value = sym (or_else_yes (job_no c.args.job.now) _ accepted ∙ rw (ne_eqb _ _ c.if-state-ne-STATE_BYTES.true));
       state_after = refl;
       whatever_the_order = λ e. absurd (omega arith);
     }
 
-pub word_count-count-requires : goal.word_count-count-requires
-word_count-count-requires c =
-    accepted-ends c.args.job.now (sym c.ask_job-no.ensures.value ∙ c.if-no-ne0.false)
-
 pub slice_bounds-words-end : goal.slice_bounds-words-end
 slice_bounds-words-end c =
-    omega (arith, c.word_count-count.ensures.0, few_words c.args.job.now (sym c.ask_job-no.ensures.value ∙ c.if-no-ne0.false))
+    let job = c.in_ok-job.job in omega (arith, c.word_count-count.ensures.0, few_words job.input.bytes.now job.accepted)
 
-pub slice_bounds-carry_out-end-2 : goal.slice_bounds-carry_out-end-2
-slice_bounds-carry_out-end-2 c =
-    let count = c.word_count-count in
-    let few = few_words c.args.job.now (sym c.ask_job-no.ensures.value ∙ c.if-no-ne0.false) in
-    sym (front_length 4096 count.result (pos 0) (omega (arith, count.ensures.0, few)))
+pub slice_bounds-carry_out-end : goal.slice_bounds-carry_out-end
+slice_bounds-carry_out-end c =
+    let job = c.in_ok-job.job in
+    sym (front_length 4096 c.word_count-count.result (pos 0) (omega (arith, c.word_count-count.ensures.0, few_words job.input.bytes.now job.accepted)))
 
 pub carry_out-last-requires : goal.carry_out-last-requires
 carry_out-last-requires c =
-    let job = c.args.job.now in
-    let accepted = sym c.ask_job-no.ensures.value ∙ c.if-no-ne0.false in
-    let counted = c.word_count-count.ensures.0 in (
-      accepted,
-      c.ask_job-no.ensures.cells_after ∙ asked-program job accepted,
-      front_length 4096 c.word_count-count.result (pos 0) (omega (arith, counted, few_words job accepted)) ∙ counted,
-    )
+    let job = c.in_ok-job.job in
+    let counted = c.word_count-count.ensures.0 in
+    front_length 4096 c.word_count-count.result (pos 0) (omega (arith, counted, few_words job.input.bytes.now job.accepted)) ∙ counted
 
 pub returns : goal.returns
 unfolding replay_no unless_refused
 returns c =
-    let job = c.args.job.now in
-    let accepted = sym c.ask_job-no.ensures.value ∙ c.if-no-ne0.false in
-    let written = c.write_state.ensures ∙ ap state_bytes c.carry_out-last.ensures in
+    let ok = c.in_ok-job.ensures in
+    let order = c.args.order.now in
     record {
-      value = sym (or_else_yes (job_no job) _ accepted ∙ rw (eq-eqb _ _ c.if-state-ne-STATE_BYTES.false));
-      state_after = written;
-      whatever_the_order = λ e. whatever_the_order job accepted c.args.order.now;
+      value = sym (or_else_yes (job_no c.args.job.now) _ (sym ok.value) ∙ rw (eq-eqb _ _ c.if-state-ne-STATE_BYTES.false));
+      state_after = c.write_state.ensures ∙ ap state_bytes (c.carry_out-last.ensures ∙ ap (λ b. replay_of b order) ok.same);
+      whatever_the_order = λ e. whatever_the_order c.args.job.now (sym ok.value) order;
     }

@@ -1,49 +1,45 @@
 -- `replay` meets its contract: a fresh start meets the shape test, so the loop may follow the order.
-use Rattle.std.proofs.Common.{rules}
-use mathlib.Core.Path.{refl, sym, ap, ◌∙◌}
-use Rattle.drive.specs.declared.State.{State}
-use Rattle.drive.specs.declared.Driven.{Driven}
-use Rattle.drive.specs.Slots.{Sized}
-use Rattle.machine.specs.Starting.{empty}
+use Rattle.std.proofs.Common.{◌≡◌, ℕ, Result, OnErr}
+use Rattle.std.proofs.lemmas.Result.{err_from_is_err_and}
+use mathlib.Core.Path.{refl, sym, ap, ◌∙◌, subst⁻¹}
+use Rattle.image.specs.declared.refusal.Refusal.{Refusal}
+use Rattle.image.specs.Doors.{unless_refused}
+use Rattle.image.proofs.Refusals.{refused_keeps}
+use Rattle.machine.specs.Starting.{empty, fresh}
 use Rattle.machine.proofs.PickLaws.{whole_length}
-use Rattle.task.proofs.Sizes.{length-by}
-use Rattle.orders.specs.Demand.{Accepted, start_on}
+use Rattle.drive.specs.declared.State.{State}
 use Rattle.orders.specs.Replay.{job_of}
-use Rattle.orders.proofs.Replaying.{refused-blank, fresh-passes, replay_plays}
+use Rattle.orders.proofs.Replaying.{fresh-passes, replay_plays}
 use Rattle.orders.proofs.Demand.{demand_3}
 use Rattle.orders.proofs.replay.Goals as goal
 
-pub returns-then-answer-ne0-clause-state_value : goal.returns-then-answer-ne0-clause-state_value
-returns-then-answer-ne0-clause-state_value c =
+pub returns-in_err-start_in_place-clause-refused : goal.returns-in_err-start_in_place-clause-refused
+returns-in_err-start_in_place-clause-refused c =
     let a = c.args in
-    let j = job_of a.cells.now a.places a.interval a.registers.now a.words.now in
-    let s = c.start-answer in
-    refused-blank j c.blank.result.state s.result.machine.state a.order.now s.result.no c.blank.ensures s.ensures.0 s.ensures.1 c.if-answer-ne0.true
+    let e = c.in_err-start_in_place.ensures in
+    let r = c.in_err-start_in_place.field-0.0 in
+    let new = fresh a.places a.interval a.registers.now in
+    let old = a.machine.now.state in
+    let kept : c.start_in_place.new.self.state ≡ old = e.state_after ∙ ap (λ (n : ℕ). unless_refused n new old) (sym e.value) ∙ refused_keeps r new old in
+    let x = err_from_is_err_and c.from_residual.result c.from_residual.ensures.1 in
+    subst⁻¹ (λ (o : Result (Unit {0}) Refusal). OnErr o (c.start_in_place.new.self ≡ a.machine.now)) x.1 (ap (λ (s : State). record { state = s }) kept)
 
-pub drive-driven-requires : goal.drive-driven-requires
-drive-driven-requires c =
+pub drive-requires : goal.drive-requires
+drive-requires c =
     let a = c.args in
     let j = job_of a.cells.now a.places a.interval a.registers.now a.words.now in
-    let s = c.start-answer in
-    let accepted : Accepted j = sym s.ensures.0 ∙ c.if-answer-ne0.false in
-    let fresh = s.ensures.1 ∙ ap (λ (b : State). start_on j b) c.blank.ensures in
-    let x = fresh-passes j accepted fresh in
+    let s = c.in_ok-start_in_place.ensures in
+    let x = fresh-passes j (sym s.value) a.machine.now.state s.state_after in
     (x.passed.program, whole_length x.passed, x.shaped, refl)
 
-pub returns-clause-state_value : goal.returns-clause-state_value
-returns-clause-state_value c =
+pub returns-clause-state_after : goal.returns-clause-state_after
+returns-clause-state_after c =
     let a = c.args in
     let j = job_of a.cells.now a.places a.interval a.registers.now a.words.now in
-    let s = c.start-answer in
-    let accepted : Accepted j = sym s.ensures.0 ∙ c.if-answer-ne0.false in
-    let fresh = s.ensures.1 ∙ ap (λ (b : State). start_on j b) c.blank.ensures in
-    let sized : Sized s.result.machine.state =
-    record { of_bank = search (rules, length-by); of_stacks = search (rules, length-by); of_tasks = search (rules, length-by) } in
-    ap (λ (d : Driven). d.state) c.drive-driven.ensures ∙ replay_plays j accepted fresh sized a.order.now
+    let s = c.in_ok-start_in_place.ensures in
+    c.drive.ensures.state_after ∙ replay_plays j (sym s.value) a.machine.now.state s.state_after a.order.now
 
 pub returns-clause-whatever_the_order : goal.returns-clause-whatever_the_order
 returns-clause-whatever_the_order c =
     let a = c.args in
-    let j = job_of a.cells.now a.places a.interval a.registers.now a.words.now in
-    let accepted : Accepted j = sym c.start-answer.ensures.0 ∙ c.if-answer-ne0.false in
-    λ z. demand_3 j accepted (empty 0 0) a.order.now
+    demand_3 (job_of a.cells.now a.places a.interval a.registers.now a.words.now) (sym c.in_ok-start_in_place.ensures.value) (empty 0 0) a.order.now

@@ -1,4 +1,6 @@
 -- `jump_register` meets its contract.
+use Rattle.std.proofs.Common.{rules}
+use Rattle.arms.specs.Registers.{Sized}
 use Rattle.std.proofs.Common.{◌-◌, ◌/◌}
 use Rattle.image.specs.Layout.{program_of}
 use Rattle.task.specs.Choices.{chosen}
@@ -13,31 +15,34 @@ use Rattle.arms.proofs.RegisterLaws.{value-at}
 use Rattle.arms.proofs.LeadLaws.{stays, jump_label, jump-other, label_inside}
 use Rattle.arms.proofs.jumps.jump_register.Goals as goal
 
-pub returns-then-kinds-v-ne1 : goal.returns-then-kinds-v-ne1
-returns-then-kinds-v-ne1 c =
-    let nums = c.args.nums.now in
-    let kinds = c.args.kinds.now in
-    let cells = c.args.cells.now in
+pub returns-then-registers-v-ne1 : goal.returns-then-registers-v-ne1
+returns-then-registers-v-ne1 c =
+    let nums = c.args.registers.now.nums in
+    let kinds = c.args.registers.now.kinds in
+    let sized : Sized nums kinds = search rules in
+    let cells = c.args.code.now.cells.now in
     λ s depth w o.
-    let t = active c.args.places (c.args.pc / 4) (c.args.beat - c.args.left) depth in
-    stays cells 34 c.args.pc c.args.beat c.args.left (omega arith)
-    (ap (λ u. answered (program_of cells) w (chosen c.args.interval) s u t o jump) (value-at nums kinds c.args.v c.requires.2 c.requires.3)
-    ∙ jump-other cells w c.args.interval s t o (get_or kinds c.args.v 0) (get_or nums c.args.v 0) c.if-kinds-v-ne1.true) c.requires.4 c.requires.1
+    let t = active c.args.task.places (c.args.task.pc / 4) (c.args.task.beat - c.args.task.left) depth in
+    stays cells 34 c.args.task.pc c.args.task.beat c.args.task.left (omega arith)
+    (ap (λ u. answered (program_of cells) w (chosen c.args.code.now.interval) s u t o jump) (value-at nums kinds c.args.v sized c.requires.2)
+    ∙ jump-other cells w c.args.code.now.interval s t o (get_or kinds c.args.v 0) (get_or nums c.args.v 0) c.if-registers-v-ne1.true) c.requires.3 c.requires.1
 
 pub enter-requires : goal.enter-requires
 enter-requires c =
-    let nums = c.args.nums.now in
-    let kinds = c.args.kinds.now in
-    let cells = c.args.cells.now in
-    let fits = sym (ap (value_fits (program_of cells)) (value-at nums kinds c.args.v c.requires.2 c.requires.3)) ∙ c.requires.5 in
-    (c.requires.0, label_inside cells (get_or kinds c.args.v 0) (get_or nums c.args.v 0) c.if-kinds-v-ne1.false fits, c.requires.1)
+    let nums = c.args.registers.now.nums in
+    let kinds = c.args.registers.now.kinds in
+    let sized : Sized nums kinds = search rules in
+    let cells = c.args.code.now.cells.now in
+    let fits = sym (ap (value_fits (program_of cells)) (value-at nums kinds c.args.v sized c.requires.2)) ∙ c.requires.4 in
+    (c.requires.0, label_inside cells (get_or kinds c.args.v 0) (get_or nums c.args.v 0) c.if-registers-v-ne1.false fits, c.requires.1)
 
 pub returns : goal.returns
 returns c =
-    let nums = c.args.nums.now in
-    let kinds = c.args.kinds.now in
-    let cells = c.args.cells.now in
+    let nums = c.args.registers.now.nums in
+    let kinds = c.args.registers.now.kinds in
+    let sized : Sized nums kinds = search rules in
+    let cells = c.args.code.now.cells.now in
     λ s depth w o.
-    let t = active c.args.places (c.args.pc / 4) (c.args.beat - c.args.left) depth in
-    rw (ap (λ u. answered (program_of cells) w (chosen c.args.interval) s u t o jump) (value-at nums kinds c.args.v c.requires.2 c.requires.3)
-    ∙ jump_label cells w c.args.interval s t o (get_or kinds c.args.v 0) (get_or nums c.args.v 0) c.if-kinds-v-ne1.false) (c.enter.ensures (c.args.pc / 4) depth)
+    let t = active c.args.task.places (c.args.task.pc / 4) (c.args.task.beat - c.args.task.left) depth in
+    rw (ap (λ u. answered (program_of cells) w (chosen c.args.code.now.interval) s u t o jump) (value-at nums kinds c.args.v sized c.requires.2)
+    ∙ jump_label cells w c.args.code.now.interval s t o (get_or kinds c.args.v 0) (get_or nums c.args.v 0) c.if-registers-v-ne1.false) (c.enter.ensures (c.args.task.pc / 4) depth)

@@ -1,4 +1,6 @@
 -- `allocate_label` meets its contract.
+use Rattle.std.proofs.Common.{rules}
+use Rattle.arms.specs.Registers.{Sized}
 use Rattle.image.specs.Layout.{program_of}
 use Rattle.arms.specs.Registers.{registers_of}
 use mathlib.Core.Path.{refl, sym, ◌∙◌}
@@ -14,9 +16,10 @@ annotation_of-requires c = ((accepted c.args.cells.now c.requires.0).block _ c.r
 
 pub returns-then-annotation_of-ne2 : goal.returns-then-annotation_of-ne2
 returns-then-annotation_of-ne2 c =
+    let sized : Sized c.args.registers.now.nums c.args.registers.now.kinds = search rules in
     λ w k s. (
-      c.requires.3,
-      λ t o q. unset 35 (omega arith) (no_target (program_of c.args.cells.now) w k (s (registers_of c.args.nums.now c.args.kinds.now)) t o c.args.v (λ z. c.if-annotation_of-ne2.true (c.annotation_of.ensures ∙ z))),
+      sized,
+      λ t o q. unset 35 (omega arith) (no_target (program_of c.args.cells.now) w k (s (registers_of c.args.registers.now.nums c.args.registers.now.kinds)) t o c.args.v (λ z. c.if-annotation_of-ne2.true (c.annotation_of.ensures ∙ z))),
     )
 
 pub overflow_mul-v : goal.overflow_mul-v
@@ -27,12 +30,13 @@ overflow_add-v c = omega (arith, c.requires.1, c.requires.2, (accepted c.args.ce
 
 pub returns : goal.returns
 returns c =
-    let nums = c.args.nums.now in
-    let kinds = c.args.kinds.now in
+    let nums = c.args.registers.now.nums in
+    let kinds = c.args.registers.now.kinds in
+    let sized : Sized nums kinds = search rules in
     let put = c.put.ensures in
     λ w k s. (
-      still_sized nums kinds c.args.r _ _ c.requires.3 put.nums_after put.kinds_after,
+      still_sized nums kinds c.args.r _ _ sized put.nums_after put.kinds_after,
       λ t o q. sets nums kinds c.args.r _ 2 _ (pair_record c.args.v c.args.depth (omega (arith, c.requires.2)) refl)
-          (gives_record (program_of c.args.cells.now) w k (s (registers_of c.args.nums.now c.args.kinds.now)) t o c.args.v c.args.depth
+          (gives_record (program_of c.args.cells.now) w k (s (registers_of c.args.registers.now.nums c.args.registers.now.kinds)) t o c.args.v c.args.depth
           (sym c.annotation_of.ensures ∙ c.if-annotation_of-ne2.false) q) put.nums_after put.kinds_after,
     )

@@ -1,4 +1,6 @@
 -- `allocate_register` meets its contract.
+use Rattle.std.proofs.Common.{rules}
+use Rattle.arms.specs.Registers.{Sized}
 use Rattle.image.specs.Layout.{program_of}
 use Rattle.task.specs.Effect.{jralloc}
 use Rattle.task.specs.Formed.{value_fits}
@@ -12,26 +14,29 @@ use Rattle.arms.proofs.SetLaws.{unset, no_label}
 use Rattle.arms.proofs.LeadLaws.{label_inside}
 use Rattle.arms.proofs.moves.allocate_register.Goals as goal
 
-pub returns-then-kinds-v-ne1 : goal.returns-then-kinds-v-ne1
-returns-then-kinds-v-ne1 c =
-    let nums = c.args.nums.now in
-    let kinds = c.args.kinds.now in
+pub returns-then-registers-v-ne1 : goal.returns-then-registers-v-ne1
+returns-then-registers-v-ne1 c =
+    let nums = c.args.registers.now.nums in
+    let kinds = c.args.registers.now.kinds in
+    let sized : Sized nums kinds = search rules in
     λ w k s. (
-      c.requires.2,
-      λ t o q. unset 35 (omega arith) (ap (λ u. effect_of (program_of c.args.cells.now) w k (s (registers_of c.args.nums.now c.args.kinds.now)) u t o jralloc) (value-at nums kinds c.args.v c.requires.2 c.requires.4)
-          ∙ no_label (program_of c.args.cells.now) w k (s (registers_of c.args.nums.now c.args.kinds.now)) t o (get_or kinds c.args.v 0) (get_or nums c.args.v 0) c.if-kinds-v-ne1.true),
+      sized,
+      λ t o q. unset 35 (omega arith) (ap (λ u. effect_of (program_of c.args.cells.now) w k (s (registers_of c.args.registers.now.nums c.args.registers.now.kinds)) u t o jralloc) (value-at nums kinds c.args.v sized c.requires.3)
+          ∙ no_label (program_of c.args.cells.now) w k (s (registers_of c.args.registers.now.nums c.args.registers.now.kinds)) t o (get_or kinds c.args.v 0) (get_or nums c.args.v 0) c.if-registers-v-ne1.true),
     )
 
 pub allocate_label-requires : goal.allocate_label-requires
 allocate_label-requires c =
-    let nums = c.args.nums.now in
-    let kinds = c.args.kinds.now in
-    let fits = sym (ap (value_fits (program_of c.args.cells.now)) (value-at nums kinds c.args.v c.requires.2 c.requires.4)) ∙ c.requires.5 in
-    (c.requires.0, label_inside c.args.cells.now (get_or kinds c.args.v 0) _ c.if-kinds-v-ne1.false fits, c.requires.1, c.requires.2, c.requires.3)
+    let nums = c.args.registers.now.nums in
+    let kinds = c.args.registers.now.kinds in
+    let sized : Sized nums kinds = search rules in
+    let fits = sym (ap (value_fits (program_of c.args.cells.now)) (value-at nums kinds c.args.v sized c.requires.3)) ∙ c.requires.4 in
+    (c.requires.0, label_inside c.args.cells.now (get_or kinds c.args.v 0) _ c.if-registers-v-ne1.false fits, c.requires.1, c.requires.2)
 
 pub returns : goal.returns
 returns c =
-    let nums = c.args.nums.now in
-    let kinds = c.args.kinds.now in
+    let nums = c.args.registers.now.nums in
+    let kinds = c.args.registers.now.kinds in
+    let sized : Sized nums kinds = search rules in
     let one = c.allocate_label.ensures in
-    λ w k s. ((one w k s).0, λ t o q. rw (label_at nums kinds c.args.v c.requires.2 c.requires.4 c.if-kinds-v-ne1.false) ((one w k s).1 t o q))
+    λ w k s. ((one w k s).0, λ t o q. rw (label_at nums kinds c.args.v sized c.requires.3 c.if-registers-v-ne1.false) ((one w k s).1 t o q))

@@ -1,4 +1,5 @@
 -- `fetch_number` meets its contract.
+use Rattle.arms.specs.Registers.{Sized}
 use Rattle.std.proofs.Common.{rules}
 use Rattle.arms.specs.Registers.{registers_of}
 use mathlib.Core.Path.{refl}
@@ -9,16 +10,18 @@ use Rattle.arms.proofs.moves.fetch_number.Goals as goal
 
 pub returns-then-words-v : goal.returns-then-words-v
 returns-then-words-v c =
-    λ p k d s. (c.requires.0, λ t o q. unset 33 (omega arith) (no_word c.args.words.now c.args.v p k (s (registers_of c.args.nums.now c.args.kinds.now)) t o c.if-words-v.true))
+    let sized : Sized c.args.registers.now.nums c.args.registers.now.kinds = search rules in
+    λ p k d s. (sized, λ t o q. unset 33 (omega arith) (no_word c.args.words.now c.args.v p k (s (registers_of c.args.registers.now.nums c.args.registers.now.kinds)) t o c.if-words-v.true))
 
 pub returns : goal.returns
 returns c =
-    let nums = c.args.nums.now in
-    let kinds = c.args.kinds.now in
+    let nums = c.args.registers.now.nums in
+    let kinds = c.args.registers.now.kinds in
+    let sized : Sized nums kinds = search rules in
     let put = c.put.ensures in
     let b = c.bits-u in
     λ p k d s. (
-      still_sized nums kinds c.args.r _ _ c.requires.0 put.nums_after put.kinds_after,
+      still_sized nums kinds c.args.r _ _ sized put.nums_after put.kinds_after,
       λ t o q.
           sets nums kinds c.args.r b.result 0 _ refl
           (gives-word c.args.words.now c.args.v p k (s (registers_of nums kinds)) t o b.result c.if-words-v.false

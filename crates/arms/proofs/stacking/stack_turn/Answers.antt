@@ -8,4 +8,4 @@ use Rattle.arms.proofs.stacking.stack_turn.Goals as goal
 pub returns-in-48 : goal.returns-in-48
 returns-in-48 c =
     let e = c.in-48.is in
-    turned_push 1 (omega arith) e (sym (value-at c.args.nums.now c.args.kinds.now _ c.requires.sized (c.requires.register_operand e))) c.push_on.ensures
+    turned_push _ 1 (omega arith) e (sym (value-at c.args.registers.now.nums c.args.registers.now.kinds _ c.requires.sized (c.requires.register_operand e))) c.push_on.ensures

@@ -6,9 +6,10 @@ use Rattle.arms.proofs.turning.run_on.Given as goal
 
 abbrev pub invariant-loop-left : goal.invariant-loop-left
 invariant-loop-left l =
-    Sized l.nums l.kinds × SameBelow l.low l.initial.pile l.initial.tags l.pile l.tags ×
-    Runs l.cells l.words l.interval l.places l.depth l.start l.begun l.budget (stack_of l.initial.pile l.initial.tags l.low l.piled) (registers_of l.initial.nums l.initial.kinds)
-    l.pc l.beat l.left (stack_of l.pile l.tags l.low l.height) (registers_of l.nums l.kinds)
+    Sized l.registers.nums l.registers.kinds × SameBelow l.task.low l.initial.pile.nums l.initial.pile.kinds l.pile.nums l.pile.kinds ×
+    Runs l.code.cells.now l.code.words.now l.code.interval l.task.places l.task.depth l.task.pc l.task.beat l.task.left
+    (stack_of l.initial.pile.nums l.initial.pile.kinds l.task.low l.task.height) (registers_of l.initial.registers.nums l.initial.registers.kinds)
+    l.pc l.beat l.left (stack_of l.pile.nums l.pile.kinds l.task.low l.height) (registers_of l.registers.nums l.registers.kinds)
 
 abbrev pub decreases-loop-left : goal.decreases-loop-left
 decreases-loop-left l =

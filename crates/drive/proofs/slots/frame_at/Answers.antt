@@ -15,20 +15,20 @@ whole_copy empty from a n i size all e =
     ∙ copied_all zero_register empty (reads zero_register from a n) (size ∙ sym (length-reads zero_register from a n))
 
 pub loop-i-init : goal.loop-i-init
-loop-i-init c = (omega arith, copied_none zero_register _ _ _ _)
+loop-i-init c = copied_none zero_register _ _ _ _
 
 pub loop-i-preserved : goal.loop-i-preserved
 loop-i-preserved c =
     let l = c.loop-i in
-    (omega arith, rw l.invariant.1 (copied_next zero_register zeros c.args.m.bank 0 (16 * c.args.k) l.i l.i _ (omega arith) refl))
+    rw l.invariant (copied_next zero_register zeros c.args.m.bank 0 (16 * c.args.k) l.i l.i _ (omega arith) refl)
 
 pub loop-j-init : goal.loop-j-init
-loop-j-init c = (omega arith, copied_none zero_register _ _ _ _)
+loop-j-init c = copied_none zero_register _ _ _ _
 
 pub loop-j-preserved : goal.loop-j-preserved
 loop-j-preserved c =
     let l = c.loop-j in
-    (omega arith, rw l.invariant.1 (copied_next zero_register empty_stack c.args.m.stacks 0 (32 * c.args.k) l.j l.j _ (omega arith) refl))
+    rw l.invariant (copied_next zero_register empty_stack c.args.m.stacks 0 (32 * c.args.k) l.j l.j _ (omega arith) refl)
 
 pub returns : goal.returns
 returns c =
@@ -36,7 +36,7 @@ returns c =
     let o = c.loop-i in
     let m = c.args.m in
     let k = c.args.k in
-    let registers : o.registers ≡ reads zero_register m.bank (16 * k) 16 = whole_copy zeros m.bank (16 * k) 16 o.i refl (omega arith) o.invariant.1 in
+    let registers : o.registers ≡ reads zero_register m.bank (16 * k) 16 = whole_copy zeros m.bank (16 * k) 16 o.i refl (omega arith) o.invariant in
     let stack : l.stack ≡ reads zero_register m.stacks (32 * k) stack_length =
-    whole_copy empty_stack m.stacks (32 * k) stack_length l.j refl (omega arith) l.invariant.1 in
+    whole_copy empty_stack m.stacks (32 * k) stack_length l.j refl (omega arith) l.invariant in
     rw (registers, stack)

@@ -1,12 +1,12 @@
 -- What the loop of `merge` keeps.
 use mathlib.Core.Path.{◌≡◌}
+use Prim.Native.Nat.{◌-◌}
 use Rattle.task.specs.Step.{copied}
-use Rattle.arms.specs.Registers.{registers_of, Sized}
+use Rattle.arms.specs.Registers.{Sized}
+use Rattle.evaluator.specs.Banks.{bank_of}
 use Rattle.evaluator.proofs.banks.merge.Given as goal
 
-abbrev pub invariant-loop-pairs : goal.invariant-loop-pairs
-invariant-loop-pairs l =
-    Sized l.nums l.kinds × (copied (registers_of l.theirs l.marks) l.count l.bytes (registers_of l.initial.nums l.initial.kinds) ≡ copied (registers_of l.theirs l.marks) l.pairs l.packed (registers_of l.nums l.kinds))
-
-abbrev pub decreases-loop-pairs : goal.decreases-loop-pairs
-decreases-loop-pairs l = l.pairs
+abbrev pub invariant-loop : goal.invariant-loop
+invariant-loop l =
+    Sized l.registers.nums l.registers.kinds
+    × (copied (bank_of l.theirs) l.count l.bytes (bank_of l.initial.registers) ≡ copied (bank_of l.theirs) (l.count - l.counter) l.packed (bank_of l.registers))

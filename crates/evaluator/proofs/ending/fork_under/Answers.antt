@@ -15,7 +15,7 @@ returns-then-not-does_fit c =
     let cells = c.args.cells.now in
     let s = value_of c.args.s.kind c.args.s.num in
     let v = value_of c.args.v.kind c.args.v.num in
-    let l = forks_of c.args.recs.now c.args.t.depth in
+    let l = forks_of c.args.records.now c.args.t.depth in
     let p = record_is c.args.s.kind c.args.s.num c.if-s-lt2.false in
     let f = c.does_fit in
     λ w k. c.fault-then-not-does_fit.ensures ∙ fork_unfit w k cells s v c.args.t l p f.ensures c.if-not-does_fit.true
@@ -25,7 +25,7 @@ returns-then-v-ne1 c =
     let cells = c.args.cells.now in
     let s = value_of c.args.s.kind c.args.s.num in
     let v = value_of c.args.v.kind c.args.v.num in
-    let l = forks_of c.args.recs.now c.args.t.depth in
+    let l = forks_of c.args.records.now c.args.t.depth in
     let p = record_is c.args.s.kind c.args.s.num c.if-s-lt2.false in
     let f = c.does_fit in
     λ w k. c.fault-then-v-ne1.ensures ∙ fork-no-label w k (program_of cells) c.args.v.num c.args.t l c.args.v.kind s p f.ensures c.if-not-does_fit.false c.if-v-ne1.true
@@ -35,7 +35,7 @@ returns-then-t-lt2 c =
     let cells = c.args.cells.now in
     let s = value_of c.args.s.kind c.args.s.num in
     let v = value_of c.args.v.kind c.args.v.num in
-    let l = forks_of c.args.recs.now c.args.t.depth in
+    let l = forks_of c.args.records.now c.args.t.depth in
     let p = record_is c.args.s.kind c.args.s.num c.if-s-lt2.false in
     let f = c.does_fit in
     λ w k. c.fault-then-t-lt2.ensures ∙ fork-no_places w k cells s v c.args.t l p f.ensures c.if-not-does_fit.false (label_is c.args.v.kind c.args.v.num c.if-v-ne1.false)
@@ -59,7 +59,7 @@ returns c =
     let cells = c.args.cells.now in
     let s = value_of c.args.s.kind c.args.s.num in
     let v = value_of c.args.v.kind c.args.v.num in
-    let l = forks_of c.args.recs.now c.args.t.depth in
+    let l = forks_of c.args.records.now c.args.t.depth in
     let p = record_is c.args.s.kind c.args.s.num c.if-s-lt2.false in
     let f = c.does_fit in
     λ w k. opens w k cells s v c.args.t l p f.ensures c.if-not-does_fit.false

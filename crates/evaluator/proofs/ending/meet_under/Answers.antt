@@ -18,7 +18,7 @@ pub returns-then-not-does_fit : goal.returns-then-not-does_fit
 returns-then-not-does_fit c =
     let cells = c.args.cells.now in
     let v = value_of c.args.v.kind c.args.v.num in
-    let l = forks_of c.args.recs.now c.args.t.depth in
+    let l = forks_of c.args.records.now c.args.t.depth in
     let p = record_is c.args.v.kind c.args.v.num c.if-v-lt2.false in
     let f = c.does_fit in
     λ w i s. c.fault-then-not-does_fit.ensures ∙ meet_unfit w s cells i v c.args.t l p f.ensures c.if-not-does_fit.true
@@ -27,7 +27,7 @@ pub returns-then-under-t : goal.returns-then-under-t
 returns-then-under-t c =
     let cells = c.args.cells.now in
     let v = value_of c.args.v.kind c.args.v.num in
-    let l = forks_of c.args.recs.now c.args.t.depth in
+    let l = forks_of c.args.records.now c.args.t.depth in
     let p = record_is c.args.v.kind c.args.v.num c.if-v-lt2.false in
     let f = c.does_fit in
     λ w i s. c.end.ensures ∙ waits_on w s cells i v c.args.t l p f.ensures c.if-not-does_fit.false c.if-under-t.true
@@ -49,7 +49,7 @@ pub returns : goal.returns
 returns c =
     let cells = c.args.cells.now in
     let v = value_of c.args.v.kind c.args.v.num in
-    let l = forks_of c.args.recs.now c.args.t.depth in
+    let l = forks_of c.args.records.now c.args.t.depth in
     let p = record_is c.args.v.kind c.args.v.num c.if-v-lt2.false in
     let f = c.does_fit in
     let b = target_is cells c.args.v.kind c.args.v.num c.if-v-lt2.false c.requires.1 in

@@ -1,7 +1,8 @@
 -- `operand_pair` meets its contract.
+use Rattle.std.proofs.Common.{rules}
 use Rattle.evaluator.proofs.EndingLaws.{pair-register}
 use Rattle.evaluator.proofs.ending.operand_pair.Goals as goal
 
 pub returns-then-x-eq1 : goal.returns-then-x-eq1
 returns-then-x-eq1 c =
-    pair-register c.args.nums.now c.args.kinds.now c.args.x.kind c.args.x.operand c.requires.0 c.if-x-eq1.true (c.requires.1 c.if-x-eq1.true)
+    pair-register c.args.registers.now.nums c.args.registers.now.kinds c.args.x.kind c.args.x.operand (search rules) c.if-x-eq1.true (c.requires c.if-x-eq1.true)

@@ -12,8 +12,8 @@ returns-then-depth-low c = rw (lt-leb _ _ c.if-depth-low.true)
 
 pub returns-then-depth-low-2 : goal.returns-then-depth-low-2
 returns-then-depth-low-2 c =
-    sym (own_depth c.args.recs.now c.args.under c.args.depth c.if-depth-low-2.true)
+    sym (own_depth c.args.records.now c.args.under c.args.depth c.if-depth-low-2.true)
 
 pub returns : goal.returns
 returns c =
-    by-innermost c.args.recs.now c.args.under c.args.depth (omega (arith, c.if-depth-low.false, c.if-depth-low-2.false)) c.requires.2
+    by-innermost c.args.records.now c.args.under c.args.depth (omega (arith, c.if-depth-low.false, c.if-depth-low-2.false)) c.requires.1

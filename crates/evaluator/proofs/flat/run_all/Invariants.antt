@@ -1,14 +1,10 @@
 -- What the loop of `run_all` keeps.
 use Rattle.arms.specs.Code.{Decodes}
-use Rattle.evaluator.specs.Hands.{rows_of, LeadsTo, weight}
+use Rattle.evaluator.specs.Hands.{LeadsTo, weight}
 use Rattle.evaluator.proofs.flat.run_all.Given as goal
 
-abbrev pub invariant-loop-nums : goal.invariant-loop-nums
-invariant-loop-nums l =
-    LeadsTo l.cells l.words l.interval l.initial.hand (rows_of l.initial.nums l.initial.kinds l.initial.bank l.initial.marks l.initial.recs l.initial.sides l.initial.pile l.initial.tags)
-    l.hand (rows_of l.nums l.kinds l.bank l.marks l.recs l.sides l.pile l.tags)
-    × Decodes l.cells l.code
+abbrev pub invariant-loop-rows : goal.invariant-loop-rows
+invariant-loop-rows l = LeadsTo l.code.cells.now l.code.words.now l.code.interval l.initial.hand l.initial.rows l.hand l.rows × Decodes l.code.cells.now l.code.code.now
 
-abbrev pub decreases-loop-nums : goal.decreases-loop-nums
-decreases-loop-nums l =
-    weight l.hand
+abbrev pub decreases-loop-rows : goal.decreases-loop-rows
+decreases-loop-rows l = weight l.hand

@@ -3,114 +3,50 @@ use Rattle.image.specs.Limits.{blocks_by}
 use Rattle.image.proofs.questions.is_laid_out.Goals as goal
 use mathlib.Core.Path.{sym}
 use native.Mathlib.Omega.{arith}
-use Rattle.image.proofs.Limiting.{past-opcodes, row_inside, four_largest, beyond-r, beyond-s, below-kind, beyond-kind, operand-decides, kind_known}
+use Rattle.image.proofs.Limiting.{past-opcodes, beyond-r, beyond-s, below-kind, beyond-kind, operand-decides, kind_known}
 
-pub returns-then-opcodes-opcode : goal.returns-then-opcodes-opcode
-returns-then-opcodes-opcode c = sym (past-opcodes c.args.opcodes (blocks_by c.args.largest.now) c.args.x c.if-opcodes-opcode.true)
+pub returns-then-bounds-x : goal.returns-then-bounds-x
+returns-then-bounds-x c = sym (past-opcodes c.args.bounds.now.opcodes (blocks_by c.args.bounds.now.largest) c.args.x c.if-bounds-x.true)
 
-pub bounds-limits-row : goal.bounds-limits-row
-bounds-limits-row c =
-    let N = c.args.opcodes in
-    let limits = c.args.limits.now in
-    let largest = c.args.largest.now in
-    let B = blocks_by largest in
-    let L = c.requires in
-    let x = c.args.x in
-    omega (arith, row_inside N B limits largest L x c.if-opcodes-opcode.false)
+pub returns-then-limits-x : goal.returns-then-limits-x
+returns-then-limits-x c =
+    let largest = c.args.bounds.now.largest in
+    let row = c.limits_of-limits in
+    sym (beyond-r c.args.bounds.now.opcodes (blocks_by largest) largest c.requires c.args.x c.if-bounds-x.false row.result row.ensures c.if-limits-x.true)
 
-pub returns-then-limits-row : goal.returns-then-limits-row
-returns-then-limits-row c =
-    let N = c.args.opcodes in
-    let limits = c.args.limits.now in
-    let largest = c.args.largest.now in
-    let B = blocks_by largest in
-    let L = c.requires in
-    let x = c.args.x in
-    sym (beyond-r N B limits largest L x c.if-opcodes-opcode.false c.if-limits-row.true)
+pub returns-then-limits-x-2 : goal.returns-then-limits-x-2
+returns-then-limits-x-2 c =
+    let largest = c.args.bounds.now.largest in
+    let row = c.limits_of-limits in
+    sym (beyond-s c.args.bounds.now.opcodes (blocks_by largest) largest c.requires c.args.x c.if-bounds-x.false row.result row.ensures c.if-limits-x.false c.if-limits-x-2.true)
 
-pub bounds-limits-row-2 : goal.bounds-limits-row-2
-bounds-limits-row-2 c =
-    let N = c.args.opcodes in
-    let limits = c.args.limits.now in
-    let largest = c.args.largest.now in
-    let B = blocks_by largest in
-    let L = c.requires in
-    let x = c.args.x in
-    omega (arith, row_inside N B limits largest L x c.if-opcodes-opcode.false)
+pub returns-then-x-limits : goal.returns-then-x-limits
+returns-then-x-limits c =
+    let largest = c.args.bounds.now.largest in
+    let row = c.limits_of-limits in
+    sym (below-kind c.args.bounds.now.opcodes (blocks_by largest) largest c.requires c.args.x c.if-bounds-x.false row.result row.ensures c.if-limits-x.false c.if-limits-x-2.false c.if-x-limits.true)
 
-pub returns-then-limits-row-2 : goal.returns-then-limits-row-2
-returns-then-limits-row-2 c =
-    let N = c.args.opcodes in
-    let limits = c.args.limits.now in
-    let largest = c.args.largest.now in
-    let B = blocks_by largest in
-    let L = c.requires in
-    let x = c.args.x in
-    sym (beyond-s N B limits largest L x c.if-opcodes-opcode.false c.if-limits-row.false c.if-limits-row-2.true)
+pub returns-then-limits-x-3 : goal.returns-then-limits-x-3
+returns-then-limits-x-3 c =
+    let largest = c.args.bounds.now.largest in
+    let row = c.limits_of-limits in
+    sym (beyond-kind c.args.bounds.now.opcodes (blocks_by largest) largest c.requires c.args.x c.if-bounds-x.false row.result row.ensures c.if-limits-x.false c.if-limits-x-2.false c.if-limits-x-3.true)
 
-pub bounds-limits-row-3 : goal.bounds-limits-row-3
-bounds-limits-row-3 c =
-    let N = c.args.opcodes in
-    let limits = c.args.limits.now in
-    let largest = c.args.largest.now in
-    let B = blocks_by largest in
-    let L = c.requires in
-    let x = c.args.x in
-    omega (arith, row_inside N B limits largest L x c.if-opcodes-opcode.false)
+pub offset_bounds-bounds-x : goal.offset_bounds-bounds-x
+offset_bounds-bounds-x c =
+    let largest = c.args.bounds.now.largest in
+    let row = c.limits_of-limits in
+    omega (arith, kind_known c.args.bounds.now.opcodes (blocks_by largest) largest c.requires c.args.x c.if-bounds-x.false row.result row.ensures c.if-limits-x-3.false)
 
-pub returns-then-kind-limits : goal.returns-then-kind-limits
-returns-then-kind-limits c =
-    let N = c.args.opcodes in
-    let limits = c.args.limits.now in
-    let largest = c.args.largest.now in
-    let B = blocks_by largest in
-    let L = c.requires in
-    let x = c.args.x in
-    sym (below-kind N B limits largest L x c.if-opcodes-opcode.false c.if-limits-row.false c.if-limits-row-2.false c.if-kind-limits.true)
-
-pub bounds-limits-row-4 : goal.bounds-limits-row-4
-bounds-limits-row-4 c =
-    let N = c.args.opcodes in
-    let limits = c.args.limits.now in
-    let largest = c.args.largest.now in
-    let B = blocks_by largest in
-    let L = c.requires in
-    let x = c.args.x in
-    omega (arith, row_inside N B limits largest L x c.if-opcodes-opcode.false)
-
-pub returns-then-limits-row-3 : goal.returns-then-limits-row-3
-returns-then-limits-row-3 c =
-    let N = c.args.opcodes in
-    let limits = c.args.limits.now in
-    let largest = c.args.largest.now in
-    let B = blocks_by largest in
-    let L = c.requires in
-    let x = c.args.x in
-    sym (beyond-kind N B limits largest L x c.if-opcodes-opcode.false c.if-limits-row.false c.if-limits-row-2.false c.if-limits-row-3.true)
-
-pub offset_bounds-largest-kind : goal.offset_bounds-largest-kind
-offset_bounds-largest-kind c =
-    let N = c.args.opcodes in
-    let limits = c.args.limits.now in
-    let largest = c.args.largest.now in
-    let B = blocks_by largest in
-    let L = c.requires in
-    let x = c.args.x in
-    omega (arith, kind_known N B limits largest L x c.if-opcodes-opcode.false c.if-limits-row-3.false)
-
-pub bounds-largest-kind : goal.bounds-largest-kind
-bounds-largest-kind c =
-    let N = c.args.opcodes in
-    let limits = c.args.limits.now in
-    let largest = c.args.largest.now in
-    let B = blocks_by largest in
-    let L = c.requires in
-    let x = c.args.x in
-    let most = c.if-opcodes-opcode.false in
-    omega (arith, kind_known N B limits largest L x most c.if-limits-row-3.false, four_largest N B limits largest L x most)
+pub bounds-bounds-x : goal.bounds-bounds-x
+bounds-bounds-x c =
+    let largest = c.args.bounds.now.largest in
+    let row = c.limits_of-limits in
+    kind_known c.args.bounds.now.opcodes (blocks_by largest) largest c.requires c.args.x c.if-bounds-x.false row.result row.ensures c.if-limits-x-3.false
 
 pub returns : goal.returns
 returns c =
-    let largest = c.args.largest.now in
-    sym (operand-decides c.args.opcodes (blocks_by largest) c.args.limits.now largest c.requires c.args.x
-    c.if-opcodes-opcode.false c.if-limits-row.false c.if-limits-row-2.false c.if-kind-limits.false c.if-limits-row-3.false (omega arith))
+    let largest = c.args.bounds.now.largest in
+    let row = c.limits_of-limits in
+    sym (operand-decides c.args.bounds.now.opcodes (blocks_by largest) largest c.requires c.args.x c.if-bounds-x.false row.result row.ensures
+    c.if-limits-x.false c.if-limits-x-2.false c.if-x-limits.false c.if-limits-x-3.false (omega arith))

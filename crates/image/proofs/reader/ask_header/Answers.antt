@@ -1,9 +1,10 @@
 -- `ask_header` meets its contract.
 use Rattle.image.specs.Doors.{header_no}
 use Rattle.image.proofs.reader.ask_header.Goals as goal
-use mathlib.Core.Path.{sym, ◌∙◌}
+use mathlib.Core.Path.{sym}
 use borrow.Author.Tests.{le-leb, lt-leb, eq-eqb, ne_eqb, not-true, not-false}
-use Rattle.image.proofs.Asked.{or_else_no, or_else_yes}
+use Rattle.image.proofs.Asked.{or_else_yes}
+use Rattle.image.proofs.Refusals.{exit_decides}
 use Rattle.image.proofs.Counts.{counted}
 
 pub returns-then-image-lt8 : goal.returns-then-image-lt8
@@ -14,37 +15,34 @@ pub returns-then-not-is_marked : goal.returns-then-not-is_marked
 unfolding header_no
 returns-then-not-is_marked c = rw (le-leb _ _ c.if-image-lt8.false, ← c.is_marked.ensures, not-true c.is_marked.result c.if-not-is_marked.true-raw)
 
-pub returns-then-unknown-ne0 : goal.returns-then-unknown-ne0
+pub returns-in_err-ask_version : goal.returns-in_err-ask_version
 unfolding header_no
-returns-then-unknown-ne0 c =
+returns-in_err-ask_version c =
     rw (
       le-leb _ _ c.if-image-lt8.false,
       ← c.is_marked.ensures,
       not-false c.is_marked.result c.if-not-is_marked.false-raw,
       ← c.read_u16-version.ensures.equal,
-      ← c.ask_version-unknown.ensures,
     )
-    (sym (or_else_no _ _ c.if-unknown-ne0.true))
+    (exit_decides c.from_residual.result c.in_err-ask_version.field-0.0 _ _ c.from_residual.ensures.1 c.in_err-ask_version.ensures)
 
-pub returns-then-no-ne0 : goal.returns-then-no-ne0
+pub returns-in_err-ask_counts : goal.returns-in_err-ask_counts
 unfolding header_no
-returns-then-no-ne0 c =
+returns-in_err-ask_counts c =
     rw (
       le-leb _ _ c.if-image-lt8.false,
       ← c.is_marked.ensures,
       not-false c.is_marked.result c.if-not-is_marked.false-raw,
       ← c.read_u16-version.ensures.equal,
-      ← c.ask_version-unknown.ensures,
-      or_else_yes c.ask_version-unknown.result _ c.if-unknown-ne0.false,
-      ← c.wide-blocks.ensures,
+      or_else_yes _ _ (sym c.in_ok-ask_version.ensures),
+      ← c.from-blocks.ensures,
       ← c.read_u16-instructions.ensures.equal,
-      ← c.ask_counts-no.ensures,
     )
-    (sym (or_else_no _ _ c.if-no-ne0.true))
+    (exit_decides c.from_residual-in_err-ask_counts.result c.in_err-ask_counts.field-0.0 _ _ c.from_residual-in_err-ask_counts.ensures.1 c.in_err-ask_counts.ensures)
 
 pub image_length-requires : goal.image_length-requires
 image_length-requires c =
-    let k = counted _ _ (sym c.ask_counts-no.ensures ∙ c.if-no-ne0.false) in
+    let k = counted _ _ (sym c.in_ok-ask_counts.ensures) in
     (k.blocks_fit, k.instructions_fit)
 
 pub returns-then-image-image_length : goal.returns-then-image-image_length
@@ -55,12 +53,10 @@ returns-then-image-image_length c =
       ← c.is_marked.ensures,
       not-false c.is_marked.result c.if-not-is_marked.false-raw,
       ← c.read_u16-version.ensures.equal,
-      ← c.ask_version-unknown.ensures,
-      or_else_yes c.ask_version-unknown.result _ c.if-unknown-ne0.false,
-      ← c.wide-blocks.ensures,
+      or_else_yes _ _ (sym c.in_ok-ask_version.ensures),
+      ← c.from-blocks.ensures,
       ← c.read_u16-instructions.ensures.equal,
-      ← c.ask_counts-no.ensures,
-      or_else_yes c.ask_counts-no.result _ c.if-no-ne0.false,
+      or_else_yes _ _ (sym c.in_ok-ask_counts.ensures),
       ← c.image_length.ensures,
       ne_eqb _ _ c.if-image-image_length.true,
     )
@@ -73,12 +69,10 @@ returns c =
       ← c.is_marked.ensures,
       not-false c.is_marked.result c.if-not-is_marked.false-raw,
       ← c.read_u16-version.ensures.equal,
-      ← c.ask_version-unknown.ensures,
-      or_else_yes c.ask_version-unknown.result _ c.if-unknown-ne0.false,
-      ← c.wide-blocks.ensures,
+      or_else_yes _ _ (sym c.in_ok-ask_version.ensures),
+      ← c.from-blocks.ensures,
       ← c.read_u16-instructions.ensures.equal,
-      ← c.ask_counts-no.ensures,
-      or_else_yes c.ask_counts-no.result _ c.if-no-ne0.false,
+      or_else_yes _ _ (sym c.in_ok-ask_counts.ensures),
       ← c.image_length.ensures,
       eq-eqb _ _ c.if-image-image_length.false,
     )

@@ -9,16 +9,17 @@ use lib.ListN.{length, length-replicate}
 use native.Mathlib.Omega.{arith}
 use Rattle.image.specs.Questions.{records_no}
 use Rattle.image.proofs.Asked.{or_else_no, or_else_yes}
+use Rattle.image.proofs.Refusals.{refused}
 use Rattle.image.proofs.Header.{header}
 use Rattle.image.proofs.Offset.{offset_unread}
 use Rattle.image.proofs.Walked.{scanned-none, scanned-records}
 
-pub returns-then-no-ne0 : goal.returns-then-no-ne0
+pub returns-in-Err : goal.returns-in-Err
 unfolding image_no
-returns-then-no-ne0 c =
+returns-in-Err c =
     let image = c.args.image.now in
-    let asked = c.ask_header-no.ensures in
-    let refused : header_no image ≡ 0 → ⊥ = λ e. c.if-no-ne0.true (asked ∙ e) in
+    let asked = c.in-Err.ensures in
+    let refused : header_no image ≡ 0 → ⊥ = λ e. refused c.in-Err.refusal (asked ∙ e) in
     record {
       no_value = asked ∙ sym (or_else_no (header_no image) (records_no (cells_in image)) refused);
       at_value = sym (offset_unread image refused);
@@ -27,7 +28,7 @@ returns-then-no-ne0 c =
 
 pub lay_head-requires : goal.lay_head-requires
 lay_head-requires c = (
-  (header c.args.image.now (sym c.ask_header-no.ensures ∙ c.if-no-ne0.false)).long,
+  (header c.args.image.now (sym c.in_default.ensures)).long,
   λ t.
       (omega (arith, ap length (c.requires t), length-replicate {A = ℕ} program_cells 0)),
 )
@@ -37,7 +38,7 @@ unfolding image_no
 returns c =
     let image = c.args.image.now in
     let w = c.walk_records.ensures in
-    let accepted = sym c.ask_header-no.ensures ∙ c.if-no-ne0.false in
+    let accepted = sym c.in_default.ensures in
     record {
       no_value = w.no_value ∙ sym (or_else_yes (header_no image) (records_no (cells_in image)) accepted);
       at_value = w.at_value;

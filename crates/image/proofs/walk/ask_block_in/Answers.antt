@@ -18,6 +18,6 @@ returns c =
     let b = c.args.b in
     let before = c.args.before in
     c.ask_block_record.ensures
-    ∙ ap₂ (λ (m n : ℕ). block_record_no c.args.version m n b before c.args.k) c.wide-blocks.ensures c.read_u16-instructions.ensures.equal
+    ∙ ap₂ (λ (m n : ℕ). block_record_no c.args.version m n b before c.args.k) c.from-blocks.ensures c.read_u16-instructions.ensures.equal
     ∙ ap₂ (λ (v : ℕ) (k : Block). block_record_no v (blocks_in image) (instructions_in image) b before k) c.requires.1 c.requires.3
     ∙ block_asked image (header image c.requires.0) b before c.requires.2 c.requires.4

@@ -1,17 +1,13 @@
 -- `ask_instruction_in` meets its contract.
-use Rattle.std.proofs.Common.{◌+◌}
 use Rattle.image.specs.Layout.{blocks_in, instruction_in, cells_in, program_of}
 use Rattle.image.proofs.walk.ask_instruction_in.Goals as goal
 use mathlib.Core.Path.{ap, ◌∙◌}
-use Prim.Native.Nat.{◌+◌}
 use native.Mathlib.Omega.{arith}
-use lib.ListN.{get_or}
 use Rattle.image.specs.Questions.{last_in_block}
 use Rattle.image.specs.Records.{instruction_record_no}
 use Rattle.image.proofs.Counts.{counted}
 use Rattle.image.proofs.Header.{header, instruction-asked, cells_in_instructions}
-use Rattle.image.proofs.Marking.{mark_told}
-use Rattle.image.proofs.Limiting.{limited_by, asked_by}
+use Rattle.image.proofs.Limiting.{asked_by}
 
 pub instruction_in-x-requires : goal.instruction_in-x-requires
 instruction_in-x-requires c =
@@ -21,23 +17,13 @@ pub bounds-marks-i : goal.bounds-marks-i
 bounds-marks-i c =
     let k = counted _ _ (header c.args.image.now c.requires.0).counts in omega (arith, c.requires.3.sized, c.requires.4)
 
-pub ask_instruction-requires : goal.ask_instruction-requires
-ask_instruction-requires c =
-    let image = c.args.image.now in
-    let i = c.args.i in
-    let below = cells_in_instructions image in (
-      limited_by c.args.opcodes (blocks_in image) c.args.limits.now c.args.largest.now c.requires.2,
-      (mark_told (last_in_block (program_of (cells_in image)) i)
-          (get_or c.args.marks.now (i + 1) 0) (c.requires.3.ended i (omega (arith, c.requires.4, below)))).1,
-    )
-
 pub returns : goal.returns
 returns c =
     let image = c.args.image.now in
     let i = c.args.i in
-    let opcodes = c.args.opcodes in
+    let opcodes = c.args.bounds.now.opcodes in
     c.ask_instruction.ensures
-    ∙ asked_by (cells_in image) c.args.marks.now opcodes (blocks_in image) c.args.limits.now c.args.largest.now c.requires.2
+    ∙ asked_by (cells_in image) c.args.marks.now opcodes (blocks_in image) c.args.bounds.now.largest c.requires.2
     c.requires.3 i (omega (arith, c.requires.4, cells_in_instructions image)) c.instruction_in-x.result
     ∙ ap (instruction_record_no opcodes (blocks_in image) (last_in_block (program_of (cells_in image)) i))
     (c.instruction_in-x.ensures ∙ ap (instruction_in image) c.requires.5)

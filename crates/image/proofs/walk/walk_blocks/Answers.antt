@@ -6,6 +6,7 @@ use Prim.Native.Nat.{ℕ}
 use mathlib.Core.Path.{◌≡◌, sym, ap, ap₂, ◌∙◌}
 use native.Mathlib.Omega.{arith}
 use Rattle.image.specs.declared.Block.{Block}
+use Rattle.image.proofs.Refusals.{refused}
 use Rattle.image.proofs.Counts.{counted}
 use Rattle.image.proofs.Header.{header}
 use Rattle.image.proofs.Walks.{blocks-begin, next_block, block_refused, blocks_end, block_within, first_below}
@@ -28,16 +29,16 @@ block_in-k-requires c =
     let ok = c.requires.0 in
     let l = c.loop-b in
     let version = c.read_u16-version.ensures.equal in
-    omega (arith, ap most_pairs version, (block_within image ok l.b (omega (arith, c.wide-blocks.ensures))).0, l.invariant.offset)
+    omega (arith, ap most_pairs version, (block_within image ok l.b (omega (arith, c.from-blocks.ensures))).0, l.invariant.offset)
 
-pub returns-then-no-ne0 : goal.returns-then-no-ne0
-returns-then-no-ne0 c =
+pub returns-in-Err : goal.returns-in-Err
+returns-in-Err c =
     let image = c.args.image.now in
     let ok = c.requires.0 in
     let l = c.loop-b in
-    let asked = c.ask_block_in-no.ensures in
+    let asked = c.in-Err.ensures in
     let s = block_refused image ok c.args.lays c.args.cells.now l.marks l.cells l.at l.to l.before l.b l.invariant
-    (omega (arith, c.wide-blocks.ensures)) (λ e. c.if-no-ne0.true (asked ∙ e)) in
+    (omega (arith, c.from-blocks.ensures)) (λ e. refused c.in-Err.refusal (asked ∙ e)) in
     record {
       no_value = asked ∙ sym s.0;
       at_value = s.1.0;
@@ -54,7 +55,7 @@ bounds-marks-before c =
     let here = c.block_in-k.ensures ∙ ap₂ (λ (v n : ℕ). block_in v image n) version l.invariant.offset in
     let first : c.block_in-k.result.first ≡ (block_in (version_in image) image (block_place (version_in image) l.b)).first =
     ap (λ (k : Block). k.first) here in
-    let below = first_below image ok l.b (omega (arith, c.wide-blocks.ensures)) (sym c.ask_block_in-no.ensures ∙ c.if-no-ne0.false) in
+    let below = first_below image ok l.b (omega (arith, c.from-blocks.ensures)) (sym c.in_default.ensures) in
     omega (arith, first, below, (counted _ _ (header image ok).counts).instructions_fit, l.invariant.marking.sized)
 
 pub loop-b-preserved : goal.loop-b-preserved
@@ -65,8 +66,8 @@ loop-b-preserved c =
     let version = c.read_u16-version.ensures.equal in
     let size = c.block_size-size.ensures ∙ ap block_size version in
     next_block image ok c.args.lays c.args.cells.now l.marks l.cells l.at l.to l.before l.b l.invariant _
-    c.block_in-k.result _ (omega (arith, c.wide-blocks.ensures))
-    (sym c.ask_block_in-no.ensures ∙ c.if-no-ne0.false)
+    c.block_in-k.result _ (omega (arith, c.from-blocks.ensures))
+    (sym c.in_default.ensures)
     (c.block_in-k.ensures ∙ ap₂ (λ (v n : ℕ). block_in v image n) version l.invariant.offset) c.lay_block.ensures
     (omega (arith, size))
 
@@ -76,7 +77,7 @@ returns c =
     let ok = c.requires.0 in
     let l = c.loop-b in
     let s = blocks_end image ok c.args.lays c.args.cells.now l.marks l.cells l.at l.to l.before l.b l.invariant
-    (omega (arith, c.wide-blocks.ensures)) in
+    (omega (arith, c.from-blocks.ensures)) in
     record {
       no_value = sym s.0;
       at_value = s.1.0;

@@ -2,6 +2,7 @@
 use Rattle.image.proofs.walk.walk_instructions.Goals as goal
 use mathlib.Core.Path.{sym, ◌∙◌}
 use native.Mathlib.Omega.{arith}
+use Rattle.image.proofs.Refusals.{refused}
 use Rattle.image.proofs.Counts.{counted}
 use Rattle.image.proofs.Header.{header}
 use Rattle.image.proofs.Walks.{instructions-begin, next_instruction, instruction-refused, instructions_end, instruction-length}
@@ -14,14 +15,14 @@ pub loop-i-init : goal.loop-i-init
 loop-i-init c =
     instructions-begin c.args.image.now c.requires.0 c.args.lays c.args.cells.now c.args.start c.requires.4
 
-pub returns-then-no-ne0 : goal.returns-then-no-ne0
-returns-then-no-ne0 c =
+pub returns-in-Err : goal.returns-in-Err
+returns-in-Err c =
     let image = c.args.image.now in
     let ok = c.requires.0 in
     let l = c.loop-i in
-    let asked = c.ask_instruction_in-no.ensures in
+    let asked = c.in-Err.ensures in
     let s = instruction-refused image ok c.args.lays c.args.cells.now l.cells l.at l.to l.i l.invariant
-    (omega (arith, c.read_u16-instructions.ensures.equal)) (λ e. c.if-no-ne0.true (asked ∙ e)) in
+    (omega (arith, c.read_u16-instructions.ensures.equal)) (λ e. refused c.in-Err.refusal (asked ∙ e)) in
     record {
       no_value = asked ∙ sym s.0;
       at_value = s.1.0;
@@ -55,7 +56,7 @@ loop-i-preserved c =
     let l = c.loop-i in
     next_instruction image ok c.args.lays c.args.cells.now l.cells l.at l.to l.i l.invariant _
     (omega (arith, c.read_u16-instructions.ensures.equal))
-    (sym c.ask_instruction_in-no.ensures ∙ c.if-no-ne0.false)
+    (sym c.in_default.ensures)
     c.lay_instruction.ensures
 
 pub returns : goal.returns

@@ -1,11 +1,6 @@
 -- What the loop of `walk_instructions` keeps.
-use Prim.Native.Nat.{◌-◌}
-use Rattle.image.specs.Layout.{instructions_in}
 use Rattle.image.proofs.Walks.{AtInstruction}
 use Rattle.image.proofs.walk.walk_instructions.Given as goal
 
 abbrev pub invariant-loop-i : goal.invariant-loop-i
 invariant-loop-i l = AtInstruction l.image l.lays l.initial.cells l.cells l.at l.to l.i
-
-abbrev pub decreases-loop-i : goal.decreases-loop-i
-decreases-loop-i l = instructions_in l.image - l.i

@@ -13,21 +13,20 @@ use Rattle.image.proofs.Rows.{row-placed}
 
 pub loop-b-init : goal.loop-b-init
 unfolding rows
-loop-b-init c = (omega arith, omega arith, refl, refl, refl)
+loop-b-init c = (omega arith, refl, refl, refl)
 
 pub loop-b-preserved : goal.loop-b-preserved
 loop-b-preserved c =
     let cells = c.args.cells.now in
     let l = c.loop-b in
     let version = version_of cells in
-    let rest = c.block_from-k.ensures ∙ ap (block_from cells) l.invariant.2 in
-    let at : l.at ≡ block_place version 0 + block_size version * l.b = omega (arith, l.invariant.1) in (
-      omega arith,
-      omega (arith, l.invariant.1, c.block_size-size.ensures),
-      omega (arith, l.invariant.2),
-      c.put_block_bytes.auto.image ∙ l.invariant.3,
+    let rest = c.block_from-k.ensures ∙ ap (block_from cells) l.invariant.1 in
+    let at : l.at ≡ block_place version 0 + block_size version * l._b = omega (arith, l.invariant.0) in (
+      omega (arith, l.invariant.0, c.block_size-size.ensures),
+      omega (arith, l.invariant.1),
+      c.put_block_bytes.auto.image ∙ l.invariant.2,
       row-placed
           (λ (b : ℕ). block_bytes version (block_of cells b)) (block_size version) (λ b. block_bytes_length version (block_of cells b)) _ l.image _
-          (block_place version 0) l.b l.invariant.4
+          (block_place version 0) l._b l.invariant.3
           (c.put_block_bytes.ensures ∙ ap₂ (λ (n : ℕ) (k : Block). sets l.image n (block_bytes version k)) at rest),
     )

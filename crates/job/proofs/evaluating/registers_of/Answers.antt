@@ -6,4 +6,4 @@ use Rattle.job.proofs.PlainRun.{registers_all}
 pub returns : goal.returns
 returns c =
     let l = c.loop-i in
-    registers_all c.args.nums.now c.args.kinds.now l.out c.requires.0 l.invariant.0 (λ i h. l.invariant.2 i (omega (arith, h, c.loop-i-test.false)))
+    registers_all c.args.rows.now.nums c.args.rows.now.kinds _ c.requires.0 l.invariant.0 (λ i h. l.invariant.1 i (omega (arith, h, c.loop-i-test.false)))

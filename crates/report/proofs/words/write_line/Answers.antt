@@ -1,13 +1,10 @@
 -- `write_line` meets its contract.
-use Rattle.std.proofs.Common.{rules, [], ◌∷◌, ◌+◌, ◌≤◌, length, ◌≡◌, ℕ, ◌-◌, ◌*◌, ◌<◌, ◌/◌, ◌%◌, Bool, true, false, nat_eq, nat_lt, List, ◌++◌, slice_index_or, slice_set, bit_and, bit_or, Fits, w8, w32, w64, Bor, MutBor}
-use Rattle.report.specs.Words.{Written, digit, digits, decimal, signed, line}
 use Rattle.report.proofs.words.write_line.Goals as goal
 use mathlib.Core.Path.{refl}
 use Prim.Native.Nat.{◌+◌}
 use native.Mathlib.Omega.{arith}
 use lib.ListN.{length}
 use Rattle.report.proofs.Writing.{written_then, written_as}
-use borrow.Author.Rules.{rules}
 
 pub returns : goal.returns
 returns c =

@@ -1,5 +1,5 @@
 -- `forks_fit` meets its contract.
-use Rattle.std.proofs.Common.{ℕ, Bool, List, get_or, ltb, sym, ◌∙◌, arith, rules}
+use Rattle.std.proofs.Common.{ℕ, Bool, List, get_or, ltb, sym, ◌∙◌, rules}
 use Rattle.image.specs.Layout.{program_of}
 use Rattle.image.specs.Program.{Program}
 use Rattle.task.specs.declared.Fork.{Fork}
@@ -17,17 +17,17 @@ returns-then-not-fork_fits c =
     let a = c.args in
     let l = c.loop-i in
     let closed = every-stops (fits (program_of a.cells.now) a.depth a.forks) 6 l.i c.loop-i-test.true (sym c.fork_fits.ensures ∙ c.if-not-fork_fits.true) in
-    (sym (l.invariant.1 ∙ closed), search (rules, length-by))
+    (sym (l.invariant ∙ closed), search (rules, length-by))
 
 pub loop-i-preserved : goal.loop-i-preserved
 loop-i-preserved c =
     let a = c.args in
     let l = c.loop-i in
-    let on = every-goes-on (fits (program_of a.cells.now) a.depth a.forks) 6 l.i c.loop-i-test.true (sym c.fork_fits.ensures ∙ c.if-not-fork_fits.false) in
-    (omega arith, l.invariant.1 ∙ on)
+    l.invariant
+    ∙ every-goes-on (fits (program_of a.cells.now) a.depth a.forks) 6 l.i c.loop-i-test.true (sym c.fork_fits.ensures ∙ c.if-not-fork_fits.false)
 
 pub returns : goal.returns
 returns c =
     let a = c.args in
     let l = c.loop-i in
-    (sym (l.invariant.1 ∙ every-ends (fits (program_of a.cells.now) a.depth a.forks) 6 l.i c.loop-i-test.false), search (rules, length-by))
+    (sym (l.invariant ∙ every-ends (fits (program_of a.cells.now) a.depth a.forks) 6 l.i c.loop-i-test.false), search (rules, length-by))

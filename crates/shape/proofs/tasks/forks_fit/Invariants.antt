@@ -1,5 +1,5 @@
 -- What the loop of `forks_fit` keeps.
-use Rattle.std.proofs.Common.{◌≡◌, ◌-◌, ◌≤◌, ltb, get_or}
+use Rattle.std.proofs.Common.{◌≡◌, ◌-◌, ltb, get_or}
 use Rattle.image.specs.Layout.{program_of}
 use Rattle.task.specs.Frames.{zero_fork}
 use Rattle.task.specs.Formed.{every, fork_fits}
@@ -7,9 +7,5 @@ use Rattle.shape.proofs.tasks.forks_fit.Given as goal
 
 abbrev pub invariant-loop-i : goal.invariant-loop-i
 invariant-loop-i l =
-    (l.i ≤ 6)
-    × (every (λ i. fork_fits (program_of l.cells) (ltb i l.depth) (get_or l.forks i zero_fork)) 6 0
-    ≡ every (λ i. fork_fits (program_of l.cells) (ltb i l.depth) (get_or l.forks i zero_fork)) (6 - l.i) l.i)
-
-abbrev pub decreases-loop-i : goal.decreases-loop-i
-decreases-loop-i l = 6 - l.i
+    every (λ i. fork_fits (program_of l.cells) (ltb i l.depth) (get_or l.fn.forks i zero_fork)) 6 0
+    ≡ every (λ i. fork_fits (program_of l.cells) (ltb i l.depth) (get_or l.fn.forks i zero_fork)) (6 - l.i) l.i

@@ -1,44 +1,26 @@
 -- `stands_values` meets its contract.
-use Rattle.std.proofs.Common.{rules, ◌≡◌, true, ◌+◌, ◌*◌, ◌≤◌, length, ℕ, ◌-◌, ◌<◌, ◌/◌, ◌%◌, Bool, false, nat_eq, nat_lt, List, [], ◌∷◌, ◌++◌, slice_index_or, slice_set, bit_and, bit_or, Fits, w8, w32, w64, Bor, MutBor}
-use Rattle.task.specs.Formed.{every}
-use Rattle.state.specs.State.{state_length}
-use Rattle.state.specs.Places.{slot_bytes, slot_place, register_place, entry_place}
-use Rattle.state.specs.Reading.{table, number_at, in16, in32, is_value, stands_value, register_in, stands_values, is_status, status_of, stands_fork, fork_in, stands_task, task_in, stands_slot, stands_state, state_in}
-use Rattle.task.specs.Frames.{bank_length, stacks_length}
-use Rattle.state.proofs.reader.stands_values.Goals as goal
-use mathlib.Core.Path.{◌≡◌, sym, ap, ◌∙◌}
-use Prim.Native.Nat.{ℕ, ◌+◌, ◌*◌, ◌-◌, ◌≤◌}
-use mathlib.Core.Bool.{Bool}
-use mathlib.Core.List.{List}
-use borrow.Author.Tests.{not-true, not-false}
-use native.Mathlib.Omega.{arith}
+use Rattle.std.proofs.Common.{sym, ap, ◌∙◌, not}
 use Rattle.task.proofs.EveryLaws.{every-goes-on, every-stops, every-ends}
+use Rattle.state.proofs.Rooms.{some_if}
 use Rattle.state.proofs.Zeros.{values_zero}
-
-abbrev test : List ℕ → ℕ → ℕ → Bool
-test bytes at i = stands_value bytes (at + 24 * i)
+use Rattle.state.proofs.reader.stands_values.Goals as goal
 
 pub returns-then-is_clear : goal.returns-then-is_clear
 returns-then-is_clear c =
     let a = c.args in
     sym (values_zero a.bytes.now a.at a.n (sym c.is_clear.ensures ∙ c.if-is_clear.true))
 
-pub returns-then-not-stands_value : goal.returns-then-not-stands_value
-returns-then-not-stands_value c =
-    let a = c.args in
+pub returns-then-is_none : goal.returns-then-is_none
+returns-then-is_none c =
     let l = c.loop-i in
-    let no = sym c.stands_value.ensures ∙ not-true _ c.if-not-stands_value.true-raw in
-    sym (l.invariant.1 ∙ every-stops (test a.bytes.now a.at) a.n l.i c.loop-i-test.true no)
+    let no = sym (some_if _ _ _ c.value_in.ensures) ∙ c.is_none.ensures ∙ ap not c.if-is_none.true in
+    sym (l.invariant ∙ every-stops _ c.args.n l.i c.loop-i-test.true no)
 
 pub loop-i-preserved : goal.loop-i-preserved
 loop-i-preserved c =
-    let a = c.args in
     let l = c.loop-i in
-    let yes = sym c.stands_value.ensures ∙ not-false _ c.if-not-stands_value.false-raw in
-    (omega arith, l.invariant.1 ∙ every-goes-on (test a.bytes.now a.at) a.n l.i c.loop-i-test.true yes)
+    let yes = sym (some_if _ _ _ c.value_in.ensures) ∙ c.is_none.ensures ∙ ap not c.if-is_none.false in
+    l.invariant ∙ every-goes-on _ c.args.n l.i c.loop-i-test.true yes
 
 pub returns : goal.returns
-returns c =
-    let a = c.args in
-    let l = c.loop-i in
-    sym (l.invariant.1 ∙ every-ends (test a.bytes.now a.at) a.n l.i c.loop-i-test.false)
+returns c = let l = c.loop-i in sym (l.invariant ∙ every-ends _ c.args.n l.i c.loop-i-test.false)

@@ -1,44 +1,53 @@
 -- `pick` meets its contract.
-use Rattle.std.proofs.Common.{eqb, length}
-use Rattle.state.specs.State.{state_length, state_bytes}
+use Rattle.std.proofs.Common.{sym, ap, ◌∙◌}
+use Rattle.std.proofs.lemmas.Result.{err_from_is_err_and}
+use Rattle.state.specs.State.{state_bytes}
 use Rattle.steps.proofs.going.pick.Goals as goal
-use mathlib.Core.Path.{refl, sym, ap, ◌∙◌}
+use Rattle.image.proofs.Refusals.{no_decides}
+use Rattle.machine.specs.Picking.{pick_no, picked}
+use Rattle.steps.specs.Buffers.{cells_of, integers_of}
+use Rattle.steps.specs.Calls.{picked_no}
 use Rattle.steps.proofs.Answers.{call_refused, call_accepted}
-use Rattle.steps.proofs.LentAnswers.{Ready, pick-not-ready, pick-ready, when_not, when_ready}
+use Rattle.steps.proofs.LentAnswers.{pick-ready, when_ready}
 
-pub returns-then-not-is_ready : goal.returns-then-not-is_ready
-returns-then-not-is_ready c =
-    let a = c.args in
-    let no =
-    when_not a.program.now a.words.now a.lent.now (eqb (length a.lent.now) state_length) _ _ c.lengths_fit-fit.ensures c.is_ready.ensures _
-    c.if-not-is_ready.true c.refuse.ensures in
-    let answer = pick-not-ready a.program.now a.words.now a.lent.now a.slot _ no in
-    record {
+pub returns-in_err-ask_lent : goal.returns-in_err-ask_lent
+unfolding picked_no
+returns-in_err-ask_lent c =
+    let p = err_from_is_err_and c.from_residual.result c.from_residual.ensures.1 in
+    let r = c.in_err-ask_lent.field-0.0 in
+    let answer = sym (no_decides r _ _ c.in_err-ask_lent.ensures.refused) in
+    rw (p.1, p.2) (record {
       value = answer;
-      lent_after = (call_refused _ _ _ _ _ answer no.1 refl).1;
-    }
+      lent_after = call_refused r _ _ answer;
+    })
 
-pub returns-then-refusal-ne0 : goal.returns-then-refusal-ne0
-returns-then-refusal-ne0 c =
+pub returns-in_err-pick_on : goal.returns-in_err-pick_on
+returns-in_err-pick_on c =
     let a = c.args in
-    let r : Ready a.program.now a.words.now a.lent.now (eqb (length a.lent.now) state_length) =
-    when_ready a.program.now a.words.now a.lent.now (eqb (length a.lent.now) state_length) _ _ c.lengths_fit-fit.ensures c.is_ready.ensures
-    c.if-not-is_ready.false in
-    let answer = c.pick_on-answer.ensures.0 ∙ sym (pick-ready a.program.now a.words.now a.lent.now a.slot r) in
-    record {
+    let p = err_from_is_err_and c.from_residual-in_err-pick_on.result c.from_residual-in_err-pick_on.ensures.1 in
+    let r = c.in_err-pick_on.field-0.0 in
+    let ready = when_ready a.program.now a.words.now a.lent.now _ c.in_ok-ask_lent.ensures.ready in
+    let answer =
+    c.in_err-pick_on.ensures.value
+    ∙ ap (λ m. pick_no (cells_of a.program.now) (integers_of a.words.now) m a.slot) c.read_state.ensures
+    ∙ sym (pick-ready a.program.now a.words.now a.lent.now a.slot ready) in
+    rw (p.1, p.2) (record {
       value = answer;
-      lent_after = (call_refused _ _ _ _ _ answer c.if-refusal-ne0.true refl).1;
-    }
+      lent_after = call_refused r _ _ answer;
+    })
 
 pub returns : goal.returns
 returns c =
     let a = c.args in
-    let r : Ready a.program.now a.words.now a.lent.now (eqb (length a.lent.now) state_length) =
-    when_ready a.program.now a.words.now a.lent.now (eqb (length a.lent.now) state_length) _ _ c.lengths_fit-fit.ensures c.is_ready.ensures
-    c.if-not-is_ready.false in
-    let p = c.pick_on-answer.ensures in
-    let answer = pick-ready a.program.now a.words.now a.lent.now a.slot r ∙ sym p.0 ∙ c.if-refusal-ne0.false in
+    let ready = when_ready a.program.now a.words.now a.lent.now _ c.in_ok-ask_lent.ensures.ready in
+    let accepted =
+    pick-ready a.program.now a.words.now a.lent.now a.slot ready
+    ∙ ap (λ m. pick_no (cells_of a.program.now) (integers_of a.words.now) m a.slot) (sym c.read_state.ensures)
+    ∙ sym c.in_ok-pick_on.ensures.value in
+    let state =
+    c.in_ok-pick_on.ensures.state_after
+    ∙ ap (λ m. picked (cells_of a.program.now) (integers_of a.words.now) m a.slot) c.read_state.ensures in
     record {
-      value = sym answer;
-      lent_after = (call_accepted _ _ _ _ answer (c.write_state.ensures ∙ ap state_bytes p.1)).1;
+      value = sym accepted;
+      lent_after = call_accepted _ _ _ accepted (c.write_state.ensures ∙ ap state_bytes state);
     }

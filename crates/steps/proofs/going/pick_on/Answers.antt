@@ -1,13 +1,11 @@
 -- `pick_on` meets its contract.
+use Rattle.std.proofs.Common.{◌∙◌}
 use Rattle.steps.proofs.going.pick_on.Goals as goal
-use mathlib.Core.Path.{◌∙◌}
 use Rattle.steps.proofs.Cells.{program_read, integers_read}
-use Rattle.steps.proofs.LentAnswers.{pick-answered}
 
 pub returns : goal.returns
 returns c =
     let a = c.args in
-    let p = c.requires in
-    let cells = c.read_cells.ensures ∙ program_read a.program.now p.0 in
-    let held = c.read_integers.ensures ∙ integers_read a.words.now _ p.1 in
-    pick-answered a.program.now a.words.now a.lent.now _ _ _ c.read_state.ensures cells held a.slot _ _ c.pick.ensures
+    let cells = c.read_cells.ensures ∙ program_read a.program.now c.requires.0 in
+    let held = c.read_integers.ensures ∙ integers_read a.words.now _ c.requires.1 in
+    rw (← cells, ← held) c.pick_in_place.ensures

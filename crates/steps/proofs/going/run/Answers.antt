@@ -1,60 +1,59 @@
 -- `run` meets its contract.
-use Rattle.std.proofs.Common.{◌&&◌, eqb, length, Bool}
-use Rattle.report.specs.Report.{report_length, report_of, report_bytes}
-use Rattle.state.specs.State.{state_length, state_bytes}
-use Rattle.steps.specs.Buffers.{program_bytes, is_whole}
+use Rattle.std.proofs.Common.{length, sym, ap, ◌∙◌}
+use Rattle.std.proofs.lemmas.Result.{err_from_is_err_and}
 use Rattle.steps.proofs.going.run.Goals as goal
-use mathlib.Core.Path.{refl, sym, ap, ◌∙◌}
-use Rattle.machine.specs.declared.Outcome.{Outcome}
+use Rattle.image.proofs.Refusals.{no_decides}
+use Rattle.report.specs.Report.{report_of, report_bytes}
+use Rattle.state.specs.State.{state_bytes}
+use Rattle.machine.specs.Running.{outcome}
+use Rattle.steps.specs.Buffers.{cells_of, integers_of}
+use Rattle.steps.specs.Calls.{ran_no, lent_no, is_ready}
 use Rattle.steps.proofs.Answers.{call_refused, call_accepted}
-use Rattle.steps.proofs.LentAnswers.{Ready, run-not-ready, ran_refused, ran_accepted, when_not, when_ready}
+use Rattle.steps.proofs.LentAnswers.{run_number, when_ready}
 
-pub returns-then-not-is_ready : goal.returns-then-not-is_ready
-returns-then-not-is_ready c =
-    let a = c.args in
-    let found = ap (λ (t : Bool). eqb (length a.program.now) program_bytes && (is_whole a.words.now && t)) c.both_fit.ensures in
-    let fit = c.lengths_fit-fit.ensures ∙ found in
-    let no =
-    when_not a.program.now a.words.now a.lent.now (eqb (length a.lent.now) state_length && eqb (length a.out.now) report_length) _ _ fit c.is_ready.ensures _
-    c.if-not-is_ready.true c.refuse.ensures in
-    let answer = run-not-ready a.program.now a.words.now a.lent.now _ _ no in
-    record {
+pub returns-in_err-ask_lent : goal.returns-in_err-ask_lent
+unfolding ran_no
+returns-in_err-ask_lent c =
+    let p = err_from_is_err_and c.from_residual.result c.from_residual.ensures.1 in
+    let r = c.in_err-ask_lent.field-0.0 in
+    let asked = c.in_err-ask_lent.ensures.refused ∙ ap (λ t. lent_no c.args.program.now c.args.words.now t c.args.lent.now) c.both_fit.ensures in
+    let answer = sym (no_decides r _ _ asked) in
+    rw (p.1, p.2) (record {
       value = answer;
-      lent_after = (call_refused _ _ _ _ _ answer no.1 refl).1;
-      out_after = (call_refused _ _ _ _ _ answer no.1 refl).1;
-    }
+      lent_after = call_refused r _ _ answer;
+      out_after = call_refused r _ _ answer;
+    })
 
-pub returns-then-no-ne0 : goal.returns-then-no-ne0
-returns-then-no-ne0 c =
+pub returns-in_err-ran : goal.returns-in_err-ran
+returns-in_err-ran c =
     let a = c.args in
-    let found = ap (λ (t : Bool). eqb (length a.program.now) program_bytes && (is_whole a.words.now && t)) c.both_fit.ensures in
-    let fit = c.lengths_fit-fit.ensures ∙ found in
-    let r : Ready a.program.now a.words.now a.lent.now (eqb (length a.lent.now) state_length && eqb (length a.out.now) report_length) =
-    when_ready a.program.now a.words.now a.lent.now (eqb (length a.lent.now) state_length && eqb (length a.out.now) report_length) _ _ fit
-    c.is_ready.ensures c.if-not-is_ready.false in
-    let no = ap (λ (o : Outcome). o.no) c.run_on-outcome.ensures in
-    let answer = ran_refused a.program.now a.words.now a.lent.now _ a.budget r _ no c.if-no-ne0.true in
-    record {
+    let p = err_from_is_err_and c.from_residual-in_err-ran.result c.from_residual-in_err-ran.ensures.1 in
+    let r = c.in_err-ran.field-0.0 in
+    let found = ap (λ t. is_ready a.program.now a.words.now t a.lent.now) (sym c.both_fit.ensures) ∙ c.in_ok-ask_lent.ensures.ready in
+    let answer =
+    c.in_err-ran.ensures.value
+    ∙ ap (λ m. (outcome (cells_of a.program.now) (integers_of a.words.now) m a.budget).no) c.read_state.ensures
+    ∙ run_number a.program.now a.words.now a.lent.now (length a.out.now) a.budget (when_ready a.program.now a.words.now a.lent.now _ found) in
+    rw (p.1, p.2) (record {
       value = answer;
-      lent_after = (call_refused _ _ _ _ _ answer c.if-no-ne0.true refl).1;
-      out_after = (call_refused _ _ _ _ _ answer c.if-no-ne0.true refl).1;
-    }
+      lent_after = call_refused r _ _ answer;
+      out_after = call_refused r _ _ answer;
+    })
 
 pub returns : goal.returns
 returns c =
     let a = c.args in
-    let found = ap (λ (t : Bool). eqb (length a.program.now) program_bytes && (is_whole a.words.now && t)) c.both_fit.ensures in
-    let fit = c.lengths_fit-fit.ensures ∙ found in
-    let r : Ready a.program.now a.words.now a.lent.now (eqb (length a.lent.now) state_length && eqb (length a.out.now) report_length) =
-    when_ready a.program.now a.words.now a.lent.now (eqb (length a.lent.now) state_length && eqb (length a.out.now) report_length) _ _ fit
-    c.is_ready.ensures c.if-not-is_ready.false in
-    let ran = c.run_on-outcome.ensures in
-    let answer = ran_accepted a.program.now a.words.now a.lent.now _ a.budget r _ (ap (λ (o : Outcome). o.no) ran) c.if-no-ne0.false in
-    let state = c.write_state.ensures ∙ ap (λ (o : Outcome). state_bytes o.machine.state) ran in
-    let made = c.report_of-r.ensures ∙ ap (λ (o : Outcome). report_of o.machine.state o.picks) ran in
-    let report = c.write_report.ensures ∙ ap report_bytes made in
+    let found = ap (λ t. is_ready a.program.now a.words.now t a.lent.now) (sym c.both_fit.ensures) ∙ c.in_ok-ask_lent.ensures.ready in
+    let came = ap (λ m. outcome (cells_of a.program.now) (integers_of a.words.now) m a.budget) c.read_state.ensures in
+    let ran = c.in_ok-ran.ensures in
+    let answer =
+    ran.value ∙ ap (λ o. o.no) came
+    ∙ run_number a.program.now a.words.now a.lent.now (length a.out.now) a.budget (when_ready a.program.now a.words.now a.lent.now _ found) in
+    let machine = ran.state_after ∙ ap (λ o. o.machine) came in
+    let picks = ran.ran.0 ∙ ap (λ o. o.picks) came in
+    let report = c.report_of-r.ensures ∙ (λ i. report_of (machine i).state (picks i)) in
     record {
-      value = sym answer;
-      lent_after = (call_accepted _ _ _ _ answer state).1;
-      out_after = (call_accepted _ _ _ _ answer report).1;
+      value = answer;
+      lent_after = call_accepted _ _ _ (sym answer) (c.write_state.ensures ∙ ap (λ m. state_bytes m.state) machine);
+      out_after = call_accepted _ _ _ (sym answer) (c.write_report.ensures ∙ ap report_bytes report);
     }

@@ -1,59 +1,59 @@
 -- `start` meets its contract.
-use Rattle.std.proofs.Common.{length}
+use Rattle.std.proofs.Common.{length, sym, ap, ◌∙◌}
+use Rattle.std.proofs.lemmas.Result.{err_from_is_err_and}
 use Rattle.steps.proofs.starting.start.Goals as goal
-use mathlib.Core.Path.{refl, sym, ap, ◌∙◌}
-use native.Mathlib.Omega.{arith}
+use Rattle.image.specs.declared.refusal.Refusal.TheVariants.{Buffer}
+use Rattle.machine.specs.Starting.{started}
 use Rattle.state.specs.State.{state_bytes}
+use Rattle.steps.specs.Buffers.{cells_of, integers_of}
 use Rattle.steps.proofs.Answers.{call_refused, call_accepted}
 use Rattle.steps.proofs.StartAnswers.{Fit, fit, counts-asked, start-refused, start_too_long, start-whole}
 
-pub returns-then-no-ne0 : goal.returns-then-no-ne0
-returns-then-no-ne0 c =
+pub returns-in_err-ask_start : goal.returns-in_err-ask_start
+returns-in_err-ask_start c =
     let a = c.args in
-    let asked =
-    c.ask_start-no.ensures
-    ∙ counts-asked a.program.now a.places a.interval a.registers.now a.words.now (length a.lent.now) in
-    let answer =
-    start-refused a.program.now a.places a.interval a.registers.now a.words.now (length a.lent.now) _ asked c.if-no-ne0.true in
-    record {
+    let p = err_from_is_err_and c.from_residual.result c.from_residual.ensures.1 in
+    let r = c.in_err-ask_start.field-0.0 in
+    let asked = c.in_err-ask_start.ensures ∙ counts-asked a.program.now a.places a.interval a.registers.now a.words.now (length a.lent.now) in
+    let answer = start-refused a.program.now a.places a.interval a.registers.now a.words.now (length a.lent.now) r asked in
+    rw (p.1, p.2) (record {
       value = answer;
-      lent_after = (call_refused _ _ _ _ _ answer c.if-no-ne0.true refl).1;
-    }
+      lent_after = call_refused r _ _ answer;
+    })
 
 pub returns-then-not-lengths_fit : goal.returns-then-not-lengths_fit
 returns-then-not-lengths_fit c =
     let a = c.args in
-    let asked =
-    c.ask_start-no.ensures
-    ∙ counts-asked a.program.now a.places a.interval a.registers.now a.words.now (length a.lent.now) in
+    let asked = c.in_ok-ask_start.ensures ∙ counts-asked a.program.now a.places a.interval a.registers.now a.words.now (length a.lent.now) in
     let long = sym c.lengths_fit.ensures ∙ c.if-not-lengths_fit.true in
-    let answer =
-    start_too_long a.program.now a.places a.interval a.registers.now a.words.now (length a.lent.now) (sym asked ∙ c.if-no-ne0.false) long in
+    let answer = start_too_long a.program.now a.places a.interval a.registers.now a.words.now (length a.lent.now) (sym asked) long in
     record {
       value = answer;
-      lent_after = (call_refused _ 15 _ _ _ answer (λ z. omega arith) refl).1;
+      lent_after = call_refused Buffer _ _ answer;
     }
 
-pub returns-then-no-ne0-2 : goal.returns-then-no-ne0-2
-returns-then-no-ne0-2 c =
+pub returns-in_err-start_on : goal.returns-in_err-start_on
+returns-in_err-start_on c =
     let a = c.args in
-    let answer =
-    start-refused a.program.now a.places a.interval a.registers.now a.words.now (length a.lent.now) _
-    c.start_on-answer.ensures.no_value c.if-no-ne0-2.true in
-    record {
+    let p = err_from_is_err_and c.from_residual-in_err-start_on.result c.from_residual-in_err-start_on.ensures.1 in
+    let r = c.in_err-start_on.field-0.0 in
+    let answer = start-refused a.program.now a.places a.interval a.registers.now a.words.now (length a.lent.now) r c.in_err-start_on.ensures.value in
+    rw (p.1, p.2) (record {
       value = answer;
-      lent_after = (call_refused _ _ _ _ _ answer c.if-no-ne0-2.true refl).1;
-    }
+      lent_after = call_refused r _ _ answer;
+    })
 
 pub returns : goal.returns
 returns c =
     let a = c.args in
     let f : Fit a.program.now a.registers.now a.words.now (length a.lent.now) =
     fit a.program.now a.registers.now a.words.now (length a.lent.now) (sym c.lengths_fit.ensures ∙ c.if-not-lengths_fit.false) in
-    let started = c.start_on-answer.ensures in
-    let asked = start-whole a.program.now a.places a.interval a.registers.now a.words.now (length a.lent.now) f in
-    let accepted = asked ∙ sym started.no_value ∙ c.if-no-ne0-2.false in
+    let made = c.in_ok-start_on.ensures in
+    let accepted = start-whole a.program.now a.places a.interval a.registers.now a.words.now (length a.lent.now) f ∙ sym made.value in
+    let state =
+    made.state_after
+    ∙ ap (λ m. started m (cells_of a.program.now) a.places a.interval (integers_of a.registers.now) (integers_of a.words.now)) c.blank-machine.ensures in
     record {
       value = sym accepted;
-      lent_after = (call_accepted _ _ _ _ accepted (c.write_state.ensures ∙ ap state_bytes started.state_value)).1;
+      lent_after = call_accepted _ _ _ accepted (c.write_state.ensures ∙ ap state_bytes state);
     }

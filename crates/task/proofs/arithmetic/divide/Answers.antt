@@ -1,14 +1,11 @@
 -- `divide` meets its contract.
 use Rattle.std.proofs.Common.{rules}
 use Rattle.task.specs.Choices.{chosen}
+use Rattle.task.proofs.Computing.{of_integers, by_divisor}
 use Rattle.task.proofs.arithmetic.divide.Goals as goal
-use mathlib.Core.Path.{◌∙◌}
-use Rattle.task.specs.Choices.{chosen}
-use Rattle.task.proofs.Computing.{given, no_divisor, gives_quotient}
-use borrow.Author.Rules.{rules}
-
-pub returns-then-equal : goal.returns-then-equal
-returns-then-equal c = λ p w n o. c.fault-then-equal.ensures ∙ no_divisor p (chosen n) _ c.args.s c.args.v c.in-Int.is c.in-Int-v.is (search rules) (search rules) (chosen n).quotient c.equal.ensures c.if-equal.true
 
 pub returns : goal.returns
-returns c = λ p w n o. c.store.ensures ∙ gives_quotient p (chosen n) _ c.args.s c.args.v c.in-Int.is c.in-Int-v.is (search rules) (search rules) (chosen n).quotient c.equal.ensures c.if-equal.false (given c.quotient.type_inv c.quotient.ensures)
+returns c = λ p w n o.
+    of_integers p (chosen n) c.args.t _ _ c.args.s c.args.v
+    (λ a b i j k. by_divisor p (chosen n) c.args.t (chosen n).quotient a b (λ z. search rules) (λ z. search rules))
+    c.integers.ensures

@@ -1,26 +1,6 @@
 -- `is_promoted` meets its contract.
-use Rattle.task.specs.Step.{promotes}
-use Rattle.task.proofs.control.is_promoted.Goals as goal
-use borrow.Author.Tests.{le-leb, lt-leb, eq-eqb, ne_eqb}
 use Rattle.image.proofs.Accepted.{accepted}
+use Rattle.task.proofs.control.is_promoted.Goals as goal
 
 pub annotation_of-requires : goal.annotation_of-requires
 annotation_of-requires c = ((accepted c.args.cells.now c.requires.0).block _ c.requires.1).is_stored
-
-pub returns-then-annotation_of-ne1 : goal.returns-then-annotation_of-ne1
-unfolding promotes
-returns-then-annotation_of-ne1 c = rw (← c.annotation_of.ensures, ne_eqb _ _ c.if-annotation_of-ne1.true)
-
-pub returns-then-interval-eq0 : goal.returns-then-interval-eq0
-unfolding promotes
-returns-then-interval-eq0 c = rw (← c.annotation_of.ensures, eq-eqb _ _ c.if-annotation_of-ne1.false, eq-eqb _ _ c.if-interval-eq0.true)
-
-pub returns-then-t-interval : goal.returns-then-t-interval
-unfolding promotes
-returns-then-t-interval c =
-    rw (← c.annotation_of.ensures, eq-eqb _ _ c.if-annotation_of-ne1.false, ne_eqb _ _ c.if-interval-eq0.false, lt-leb _ _ c.if-t-interval.true)
-
-pub returns : goal.returns
-unfolding promotes
-returns c =
-    rw (← c.annotation_of.ensures, eq-eqb _ _ c.if-annotation_of-ne1.false, ne_eqb _ _ c.if-interval-eq0.false, le-leb _ _ c.if-t-interval.false)

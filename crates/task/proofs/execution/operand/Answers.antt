@@ -1,18 +1,22 @@
 -- `operand` meets its contract.
+use Rattle.std.proofs.Common.{arith}
 use Rattle.task.specs.Execute.{selected}
+use Rattle.task.proofs.Computing.{given}
 use Rattle.task.proofs.execution.operand.Goals as goal
 use borrow.Author.Tests.{eq-eqb, ne_eqb}
-use Rattle.task.proofs.Computing.{given}
-use Rattle.task.specs.Execute.{selected}
 
-pub returns-then-x-eq1 : goal.returns-then-x-eq1
+pub returns-in-1 : goal.returns-in-1
 unfolding selected
-returns-then-x-eq1 c = rw (selected, eq-eqb _ _ c.if-x-eq1.true)
+returns-in-1 c = rw (selected, c.in-1.is)
 
-pub returns-then-x-eq2 : goal.returns-then-x-eq2
+pub returns-in-2 : goal.returns-in-2
 unfolding selected
-returns-then-x-eq2 c = rw (ne_eqb _ _ c.if-x-eq1.false, selected, eq-eqb _ _ c.if-x-eq2.true)
+returns-in-2 c =
+    let k = c.args.x.kind in
+    rw (selected, ne_eqb k 1 (λ e. omega arith), eq-eqb k 2 c.in-2.is)
 
-pub returns : goal.returns
+pub returns-in_default : goal.returns-in_default
 unfolding selected
-returns c = rw (ne_eqb _ _ c.if-x-eq1.false, selected, ne_eqb _ _ c.if-x-eq2.false) (given c.number.type_inv c.number.ensures)
+returns-in_default c =
+    let k = c.args.x.kind in
+    rw (selected, ne_eqb k 1 (λ e. omega arith), ne_eqb k 2 (λ e. omega arith)) (given c.number.type_inv c.number.ensures)

@@ -1,13 +1,10 @@
 -- `does_fit` meets its contract.
-use Rattle.task.specs.Effect.{fits}
+use Rattle.std.proofs.Common.{◌∙◌, rules}
+use Rattle.task.proofs.Sizes.{length-by}
+use Rattle.task.proofs.Belonging.{does_fit}
 use Rattle.task.proofs.forking.does_fit.Goals as goal
-use borrow.Author.Tests.{le-leb, lt-leb}
-use Rattle.task.specs.Effect.{fits}
 
-pub returns-then-depth-under : goal.returns-then-depth-under
-unfolding fits
-returns-then-depth-under c = rw (lt-leb _ _ c.if-depth-under.true)
-
-pub returns : goal.returns
-unfolding fits
-returns c = rw (le-leb _ _ c.if-depth-under.false) c.all_belong.ensures
+pub returns-then-under-depth : goal.returns-then-under-depth
+returns-then-under-depth c =
+    let a = c.args in
+    c.all_belong.ensures ∙ does_fit a.under a.depth a.forks (search (rules, length-by)) c.requires c.if-under-depth.true

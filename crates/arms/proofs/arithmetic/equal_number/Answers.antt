@@ -1,8 +1,0 @@
--- `equal_number` meets its contract.
-use Rattle.task.proofs.Computing.{is_equal}
-use Rattle.arms.proofs.arithmetic.equal_number.Goals as goal
-
-pub returns : goal.returns
-returns c =
-    let one = c.store_of_one.ensures c.args.v in
-    λ x. (one.0, λ t o q. one.1 is_equal c.sameness_bits-u.ensures)

@@ -1,6 +1,0 @@
--- `subtract_registers` meets its contract.
-use Rattle.task.proofs.Computing.{difference}
-use Rattle.arms.proofs.arithmetic.subtract_registers.Goals as goal
-
-pub returns : goal.returns
-returns c = let two = c.store_of_two.ensures in λ x. (two.0, λ t o q. two.1 difference c.difference_bits-u.ensures)
