@@ -20,7 +20,7 @@ use Rattle.task.specs.Effect.{if_jump, jump}
 use Rattle.task.specs.Formed.{value_fits}
 use Rattle.task.specs.Step.{promotes}
 use Rattle.task.specs.Execute.{going, ending, entering, handed, answered}
-use Rattle.arms.specs.declared.Course.TheVariants.{On, Fault}
+use Rattle.arms.specs.declared.Way.TheVariants.{On, Fault}
 use Rattle.arms.specs.Registers.{value_of, registers_of, Sized, in_register}
 use Rattle.arms.specs.Arms.{active, Leads, Unready}
 use Rattle.arms.proofs.RegisterLaws.{value-at, integer-at}
@@ -33,7 +33,7 @@ placed first = omega arith
 
 -- to an instruction
 pub leads_to : (cells : List ℕ) (most first beat left pc : ℕ) {e : Executed} → pc ≡ 4 * first → first < instruction_count cells → left ≤ beat → beat ≤ most
-    → e ≡ going first (beat - left) → Leads cells most left (record { what = On; pc = pc; beat = beat }) e
+    → e ≡ going first (beat - left) → Leads cells most left (record { way = On; pc = pc; beat = beat }) e
 leads_to cells most first beat left pc p h l b q = rw p (record {
   leads = q ∙ rw (placed first);
   failed = tt;
@@ -45,11 +45,11 @@ leads_to cells most first beat left pc p h l b q = rw p (record {
 })
 
 -- it leaves all as it was
-pub stays : (cells : List ℕ) (what pc beat left : ℕ) {e : Executed} → 2 ≤ what → e ≡ ending Faults what → pc ≡ 4 * (pc / 4) → left ≤ beat
-    → Leads cells beat left (record { what = Fault what; pc = pc; beat = beat }) e
-stays cells what pc beat left n e p l = record {
+pub stays : (cells : List ℕ) (n pc beat left : ℕ) {e : Executed} → 2 ≤ n → e ≡ ending Faults n → pc ≡ 4 * (pc / 4) → left ≤ beat
+    → Leads cells beat left (record { way = Fault n; pc = pc; beat = beat }) e
+stays cells n pc beat left q e p l = record {
   leads = tt;
-  failed = (n, e);
+  failed = (q, e);
   not_off = tt;
   aligned = p;
   inside = tt;
@@ -64,7 +64,7 @@ module _ (cells : List ℕ) (accept : program_no cells ≡ 0) (interval b places
   t = active places i (beat - left) depth
 
   pub enters_handler : promotes (program_of cells) (chosen interval) b (beat - left) places ≡ true → first ≡ (block_of cells (block_of cells b).label).first
-      → Leads cells beat left (record { what = On; pc = 4 * first; beat = left }) (entering (program_of cells) (chosen interval) b t)
+      → Leads cells beat left (record { way = On; pc = 4 * first; beat = left }) (entering (program_of cells) (chosen interval) b t)
   enters_handler p f =
       let k = accepted cells accept in
       let z : left - left ≡ 0 = omega arith in
@@ -72,14 +72,14 @@ module _ (cells : List ℕ) (accept : program_no cells ≡ 0) (interval b places
       (omega arith) l (rw (p, f, z))
 
   pub enters_block : promotes (program_of cells) (chosen interval) b (beat - left) places ≡ false → first ≡ (block_of cells b).first
-      → Leads cells beat left (record { what = On; pc = 4 * first; beat = beat }) (entering (program_of cells) (chosen interval) b t)
+      → Leads cells beat left (record { way = On; pc = 4 * first; beat = beat }) (entering (program_of cells) (chosen interval) b t)
   enters_block p f =
       let k = accepted cells accept in
       leads_to cells beat first beat left (4 * first) refl (rw f (k.block b below).first_below) l (omega arith) (rw (p, f))
 
 -- a block that is not promotion-ready
 pub enters_plain : (cells : List ℕ) (interval b places left beat v i depth : ℕ) → Unready cells b v → left ≤ beat
-    → Leads cells beat left (record { what = On; pc = v; beat = beat }) (entering (program_of cells) (chosen interval) b (active places i (beat - left) depth))
+    → Leads cells beat left (record { way = On; pc = v; beat = beat }) (entering (program_of cells) (chosen interval) b (active places i (beat - left) depth))
 unfolding promotes
 enters_plain cells interval b places left beat v i depth u l =
     leads_to cells beat (block_of cells b).first beat left v u.its_first u.first_inside l (omega arith) (rw (ne_eqb _ _ u.unready))
@@ -104,7 +104,7 @@ module _ (nums kinds : List ℕ) (s : ℕ) (sized : Sized nums kinds) (small : s
 
 -- to the next instruction
 pub leads_on : (cells : List ℕ) (pc beat left : ℕ) {e : Executed} → pc ≡ 4 * (pc / 4) → pc / 4 + 1 < instruction_count cells → left ≤ beat
-    → e ≡ going (pc / 4 + 1) (beat - left) → Leads cells beat left (record { what = On; pc = pc + 4; beat = beat }) e
+    → e ≡ going (pc / 4 + 1) (beat - left) → Leads cells beat left (record { way = On; pc = pc + 4; beat = beat }) e
 leads_on cells pc beat left a h l e = leads_to cells beat (pc / 4 + 1) beat left (pc + 4) (omega (arith, a)) h l (omega arith) e
 
 -- ---- jump to a value of this kind with these bits

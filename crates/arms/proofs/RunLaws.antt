@@ -20,6 +20,7 @@ use Rattle.task.proofs.StepKeeps.{step_one}
 use Rattle.task.proofs.Counts.{within_is, is_within, within_more, step-one-within}
 use Rattle.image.proofs.Accepted.{accepted}
 use Rattle.image.specs.Questions.{program_no}
+use Rattle.arms.specs.declared.Way.{Way}
 use Rattle.arms.specs.Registers.{registers_of, Sized}
 use Rattle.arms.specs.Stacks.{Stacked, stack_of}
 use Rattle.arms.specs.Turns.{frame_at, rules, At, Starts, Ends, Runs}
@@ -95,18 +96,18 @@ module _ (cells : List ℕ) (words : List ℤ) (interval : ℕ) where
             rw (c, w) at e
 
 -- a turn that was none: the instruction there is one that the task does not carry out by itself
-pub stops : (cells : List ℕ) (words : List ℤ) (interval places depth what pc beat left : ℕ) (before after : List Register)
-    → 0 < left → after ≡ before → Ends cells words interval places depth what pc (beat - (left - 1 + 1)) before
-    → Ends cells words interval places depth what pc (beat - left) after
-stops cells words interval places depth what pc beat left before after some kept e =
+pub stops : (cells : List ℕ) (words : List ℤ) (interval places depth : ℕ) (way : Way) (pc beat left : ℕ) (before after : List Register)
+    → 0 < left → after ≡ before → Ends cells words interval places depth way pc (beat - (left - 1 + 1)) before
+    → Ends cells words interval places depth way pc (beat - left) after
+stops cells words interval places depth way pc beat left before after some kept e =
     let same : left - 1 + 1 ≡ left = omega (arith, some) in
-    subst (Ends cells words interval places depth what pc (beat - left)) (sym kept)
-    (subst (λ n. Ends cells words interval places depth what pc (beat - n) before) same e)
+    subst (Ends cells words interval places depth way pc (beat - left)) (sym kept)
+    (subst (λ n. Ends cells words interval places depth way pc (beat - n) before) same e)
 
 -- ---- at a turn of the loop
 
-module _ {cells code : List ℕ} {words : List ℤ} {interval places depth budget begun start low piled pc beat left height : ℕ}
-    (nums kinds pile tags nums' kinds' pile' tags' : List ℕ) (b : Starts cells code nums kinds pile tags places depth budget begun start low piled)
+module _ {cells : List ℕ} {words : List ℤ} {interval places depth budget begun start low piled pc beat left height : ℕ}
+    (nums kinds pile tags nums' kinds' pile' tags' : List ℕ) (b : Starts cells nums kinds pile tags places depth budget begun start low piled)
     (r : Runs cells words interval places depth start begun budget (stack_of pile tags low piled) (registers_of nums kinds) pc beat left
     (stack_of pile' tags' low height) (registers_of nums' kinds')) where
   formed-now : Formed (program_of cells) b.rank b.height
@@ -116,10 +117,8 @@ module _ {cells code : List ℕ} {words : List ℤ} {interval places depth budge
   pub height-now : height ≤ 32
   height-now = formed-now.height_most
 
-  pub turn_at : Sized nums' kinds' → 0 < left → At cells code nums' kinds' depth (left - 1) beat pc
+  pub turn_at : Sized nums' kinds' → 0 < left → At cells nums' kinds' depth (left - 1) beat pc
   turn_at sized some = record {
-    accepted_program = b.accepted_program;
-    decodes = b.decodes;
     sized = sized;
     on_place = r.aligned;
     inside_program = r.inside;

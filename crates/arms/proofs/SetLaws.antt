@@ -22,16 +22,16 @@ use Rattle.task.specs.Choices.{Choices}
 use Rattle.task.specs.Effect.{Effect, stores, faults, asked, integer, word, jralloc, unknown, opcodes, effect_of}
 use Rattle.task.specs.Formed.{every}
 use Rattle.task.proofs.EveryLaws.{every-at}
-use Rattle.arms.specs.declared.Course.{Course}
-use Rattle.arms.specs.declared.Course.TheVariants.{On, Off, Fault}
+use Rattle.arms.specs.declared.Way.{Way}
+use Rattle.arms.specs.declared.Way.TheVariants.{On, Off, Fault}
 use Rattle.arms.specs.declared.Registers.{Registers}
 use Rattle.arms.specs.Registers.{registers_in, value_of, registers_of, Sized, in_register, operand_by}
 use Rattle.arms.specs.Arms.{active, Context, IfOff, Sets, computing, SetsAs, SetsBy}
 use Rattle.arms.proofs.RegisterLaws.{written, value-at, integer-at}
 
 -- it leaves all as it was
-pub unset : (what : ℕ) → 2 ≤ what → {r : ℕ} {registers : List Register} {e : Effect} → e ≡ faults what → Sets (Fault what) r registers registers e
-unset what l h = record { did = tt; failed = (l, h, refl); not_off = tt }
+pub unset : (n : ℕ) → 2 ≤ n → {r : ℕ} {registers : List Register} {e : Effect} → e ≡ faults n → Sets (Fault n) r registers registers e
+unset n l h = record { did = tt; failed = (l, h, refl); not_off = tt }
 
 -- it stores bits of a kind
 pub sets : (nums kinds : List ℕ) (r u k : ℕ) {nums' kinds' : List ℕ} {e : Effect} (w : Value) → value_of k u ≡ w → e ≡ stores w
@@ -133,21 +133,21 @@ module _ (program : Program) (words : List ℤ) (c : Choices) (s : Value) (t : A
 -- ---- an arm by its number: N + 32 K is n + 32 k for no other n and k
 
 -- what is not left to others
-off-not : (what : Course) (P : Type 0) → IfOff what ⊥ → IfOff what P
+off-not : (way : Way) (P : Type 0) → IfOff way ⊥ → IfOff way P
 off-not On P q = tt
 off-not Off P q = absurd q
 off-not (Fault n) P q = tt
 
-off_so : (what : Course) (P Q : Type 0) → (P → Q) → IfOff what P → IfOff what Q
+off_so : (way : Way) (P Q : Type 0) → (P → Q) → IfOff way P → IfOff way Q
 off_so On P Q f p = tt
 off_so Off P Q f p = f p
 off_so (Fault n) P Q f p = tt
 
-module _ (x : Context) (least arm : ℕ) (what : Course) (r s v : ℕ) (before after : Registers) where
+module _ (x : Context) (least arm : ℕ) (way : Way) (r s v : ℕ) (before after : Registers) where
   abbrev Does : ℕ → ℕ → ℕ → Type 0
-  Does i n k = SetsAs x (get_or opcodes n unknown) what i before after (in_register s) (operand_by k v)
+  Does i n k = SetsAs x (get_or opcodes n unknown) way i before after (in_register s) (operand_by k v)
 
-  pub by_number : (N K : ℕ) → N < 13 → K ≤ 3 → arm ≡ N + 32 * K → {read : ℕ} → read ≡ r → Does read N K → SetsBy x least arm what r s v before after
+  pub by_number : (N K : ℕ) → N < 13 → K ≤ 3 → arm ≡ N + 32 * K → {read : ℕ} → read ≡ r → Does read N K → SetsBy x least arm way r s v before after
   by_number N K few known e same h = record {
     still_sized = h.0;
     carried = λ q. (omega (arith, few, known, e), omega (arith, few, known, e));
@@ -155,28 +155,28 @@ module _ (x : Context) (least arm : ℕ) (what : Course) (r s v : ℕ) (before a
         let p : N ≡ n = omega (arith, few, low, e, f) in
         let z : K ≡ k = omega (arith, few, low, e, f) in
         subst (λ j. Does r j k) p (subst (λ j. Does r N j) z (subst (λ i. Does i N K) same h));
-    untouched = off-not what _ set_one;
-    others = off-not what _ set_one;
+    untouched = off-not way _ set_one;
+    others = off-not way _ set_one;
   }
     where
-      set_one : IfOff what ⊥
+      set_one : IfOff way ⊥
       set_one = (h.1 (active 0 0 0 x.depth) [] refl).not_off
 
 -- ---- and those that set none
 
 module _ (x : Context) (least arm r s v : ℕ) (before : Registers) (sized : Sized before.nums before.kinds) where
   abbrev Refused : ℕ → ℕ → Active → List Fork → ℕ → Type 0
-  Refused n k t o what =
+  Refused n k t o way =
       effect_of x.program x.words x.choices (in_register s (registers_in before)) (operand_by k v (registers_in before)) t o (get_or opcodes n unknown)
-      ≡ faults what
+      ≡ faults way
 
   -- a fault, whatever the registers hold
-  pub refused : (what : ℕ) → 2 ≤ what → arm < 128 → arm % 32 < 13
-      → ((n k : ℕ) → n ≤ 17 → arm ≡ n + 32 * k → (t : Active) (o : List Fork) → Refused n k t o what) → SetsBy x least arm (Fault what) r s v before before
-  refused what l small few e = record {
+  pub refused : (way : ℕ) → 2 ≤ way → arm < 128 → arm % 32 < 13
+      → ((n k : ℕ) → n ≤ 17 → arm ≡ n + 32 * k → (t : Active) (o : List Fork) → Refused n k t o way) → SetsBy x least arm (Fault way) r s v before before
+  refused way l small few e = record {
     still_sized = sized;
     carried = λ q. (small, few);
-    as_table = λ q n k low f. (sized, λ t o d. unset what l (e n k low f t o));
+    as_table = λ q n k low f. (sized, λ t o d. unset way l (e n k low f t o));
     untouched = tt;
     others = tt;
   }
@@ -262,14 +262,14 @@ module _ (x : Context) (arm r s v : ℕ) (before : Registers) where
   }
 
   -- nor is it one whose operand is a register
-  pub no_register : NoneOf arm of_register → {what : Course} {after : Registers} → SetsBy x 2 arm what r s v before after
-      → SetsBy x 1 arm what r s v before after
-  no_register rest {what} h = record {
+  pub no_register : NoneOf arm of_register → {way : Way} {after : Registers} → SetsBy x 2 arm way r s v before after
+      → SetsBy x 1 arm way r s v before after
+  no_register rest {way} h = record {
     still_sized = h.still_sized;
     carried = h.carried;
     as_table = h.as_table;
     untouched = h.untouched;
-    others = off_so what _ _ (λ others n k least most low high e. by-below k 2
+    others = off_so way _ _ (λ others n k least most low high e. by-below k 2
         (λ l. other-opcode of_register 1 registers-sorted arm rest (λ p z. omega (arith, p, most, e, l)) n least most (omega (arith, e, low, l)))
         (λ l. others n k least most l high e)) h.others;
   }

@@ -23,6 +23,8 @@ use Rattle.task.specs.Step.{counted, moved_to, with_task, faulted, pushed, poppe
 use Rattle.task.proofs.Executing.{made, step-executed}
 use Rattle.arms.specs.Registers.{value_of, registers_of, Sized, operand_by}
 use Rattle.arms.specs.Stacks.{Stacked, entries_from, stack_of, Lies, SameBelow, PushedOn, PoppedTo, CanStack, StackTurned}
+use Rattle.image.specs.Questions.{program_no}
+use Rattle.arms.specs.Code.{Decodes}
 use Rattle.arms.specs.Turns.{frame_at, At}
 use Rattle.arms.proofs.RegisterLaws.{written, still_sized}
 use Rattle.arms.proofs.TurnLaws.{Fetched, fetched, named, register_operand, means}
@@ -235,15 +237,15 @@ module _ (cells : List ℕ) (words : List ℤ) (interval places depth pc beat le
       rw (x.7, x.8) (push-stacks x.0 x.3 x.4 d x.1 x.2 x.5 x.6))
 
 -- what they rest on, at a turn of the loop
-pub can_stack : {cells code nums kinds nums' kinds' pile tags : List ℕ} {depth left beat pc low height : ℕ} → At cells code nums kinds depth left beat pc
-    → Sized nums' kinds' → Lies pile tags low → height ≤ 32 → CanStack code nums' kinds' pile tags low height pc
-can_stack {code = code} {pc = pc} a sized lies most =
-    let d = fetched a in
+pub can_stack : {cells code nums kinds nums' kinds' pile tags : List ℕ} {depth left beat pc low height : ℕ} → program_no cells ≡ 0 → Decodes cells code
+    → At cells nums kinds depth left beat pc → Sized nums' kinds' → Lies pile tags low → height ≤ 32 → CanStack code nums' kinds' pile tags low height pc
+can_stack {code = code} {pc = pc} accept decodes a sized lies most =
+    let d = fetched accept decodes a in
     record {
       sized = sized;
       lies = lies;
       height_most = most;
-      stored = omega (arith, a.decodes.stored, a.on_place, a.inside_program);
+      stored = omega (arith, decodes.stored, a.on_place, a.inside_program);
       r_small = d.r_small;
       register_operand = λ e. register_operand d (omega (arith, e)) (omega (arith, e));
     }

@@ -25,8 +25,8 @@ use Rattle.task.specs.Effect.{Effect, stores, unknown, opcodes, effect_of}
 use Rattle.task.specs.Step.{register, operand, active_of, step}
 use Rattle.task.specs.Execute.{handed, answered, executed}
 use Rattle.task.proofs.Executing.{step-executed}
-use Rattle.arms.specs.declared.Course.{Course}
-use Rattle.arms.specs.declared.Course.TheVariants.{On, Off, Fault}
+use Rattle.arms.specs.declared.Way.{Way}
+use Rattle.arms.specs.declared.Way.TheVariants.{On, Off, Fault}
 use Rattle.arms.specs.declared.Registers.{Registers}
 use Rattle.arms.specs.Registers.{registers_in, in_register, operand_by}
 use Rattle.arms.specs.Code.{Plain, Decoded, Decodes}
@@ -76,11 +76,12 @@ pub record Fetched (cells : List ℕ) (pc arm r s v : ℕ) : Type 0 where
   pub block_inside : (b v : ℕ) → b < block_count cells → Plain cells (instruction_of cells (pc / 4)) arm v → b ≡ (instruction_of cells (pc / 4)).operand
       → Unready cells b v
 
-pub fetched : {cells code nums kinds : List ℕ} {depth left beat pc : ℕ} → At cells code nums kinds depth left beat pc
+pub fetched : {cells code nums kinds : List ℕ} {depth left beat pc : ℕ} → program_no cells ≡ 0 → Decodes cells code
+    → At cells nums kinds depth left beat pc
     → Fetched cells pc (get_or code pc 0) (get_or code (pc + 1) 0) (get_or code (pc + 2) 0) (get_or code (pc + 3) 0)
-fetched {cells} {code} {pc} h =
-    let k = accepted cells h.accepted_program in
-    let d = decoded-at cells code pc h.decodes h.on_place h.inside_program in
+fetched {cells} {code} {pc} accept decodes h =
+    let k = accepted cells accept in
+    let d = decoded-at cells code pc decodes h.on_place h.inside_program in
     let i = k.instruction (pc / 4) h.inside_program in
     record {
       decoded = d;
@@ -222,9 +223,9 @@ module _ (cells : List ℕ) (words : List ℤ) (interval places depth pc beat le
         step-executed (program_of cells) words (chosen interval) (f forks span u) ∙ rw (means forks span u, is, next-placed, now, same)
 
     -- it sets a register
-    pub turned_sets : (what : Course) (after : List Register) (r : ℕ) → r ≡ y.r → pc / 4 + 1 < instruction_count cells
-        → ((t : Active) (o : List Fork) → t.depth ≡ depth → Sets what r before after (effect t o))
-        → Turned cells words interval places depth pc beat left before (record { what = what; pc = pc + 4; beat = beat }) after
+    pub turned_sets : (way : Way) (after : List Register) (r : ℕ) → r ≡ y.r → pc / 4 + 1 < instruction_count cells
+        → ((t : Active) (o : List Fork) → t.depth ≡ depth → Sets way r before after (effect t o))
+        → Turned cells words interval places depth pc beat left before (record { way = way; pc = pc + 4; beat = beat }) after
     turned_sets On after r same inside e = record {
       steps = λ forks span u. set-step after r same forks span u (e a forks refl).did;
       stays = tt;
@@ -244,8 +245,8 @@ module _ (cells : List ℕ) (words : List ℤ) (interval places depth pc beat le
             here.0,
             here.2,
             record {
-              faults_there = λ l forks span u. means forks span u ∙ ap (handed (program_of cells) (chosen interval) a) (e a forks refl).failed.1;
-              left_there = λ z. absurd (omega (arith, z, here.0));
+              faults_there = λ forks span u. means forks span u ∙ ap (handed (program_of cells) (chosen interval) a) (e a forks refl).failed.1;
+              left_there = tt;
             },
           );
           aligned = omega (arith, aligned);
@@ -255,10 +256,10 @@ module _ (cells : List ℕ) (words : List ℤ) (interval places depth pc beat le
         }
 
     -- it goes elsewhere
-    pub turned_leads : (what : Course) (pc' beat' : ℕ)
-        → ((o : List Fork) → Leads cells beat left (record { what = what; pc = pc'; beat = beat' })
+    pub turned_leads : (way : Way) (pc' beat' : ℕ)
+        → ((o : List Fork) → Leads cells beat left (record { way = way; pc = pc'; beat = beat' })
         (answered (program_of cells) words (chosen interval) (in_register s before) (operand_by k v before) a o (get_or opcodes n unknown)))
-        → Turned cells words interval places depth pc beat left before (record { what = what; pc = pc'; beat = beat' }) before
+        → Turned cells words interval places depth pc beat left before (record { way = way; pc = pc'; beat = beat' }) before
     turned_leads On pc' beat' e = record {
       steps = λ forks span u. step-executed (program_of cells) words (chosen interval) (f forks span u) ∙ rw (means forks span u, (e forks).leads);
       stays = tt;
@@ -276,8 +277,8 @@ module _ (cells : List ℕ) (words : List ℤ) (interval places depth pc beat le
         (e []).failed.0,
         refl,
         record {
-          faults_there = λ l forks span u. means forks span u ∙ (e forks).failed.1;
-          left_there = λ z. absurd (omega (arith, z, (e []).failed.0));
+          faults_there = λ forks span u. means forks span u ∙ (e forks).failed.1;
+          left_there = tt;
         },
       );
       aligned = (e []).aligned;
@@ -288,10 +289,10 @@ module _ (cells : List ℕ) (words : List ℤ) (interval places depth pc beat le
 
   -- it is left to others
   turned_off : (after : List Register) → after ≡ before → LeftOpcode y.opcode
-      → Turned cells words interval places depth pc beat left before (record { what = Off; pc = pc + 4; beat = beat }) after
+      → Turned cells words interval places depth pc beat left before (record { way = Off; pc = pc + 4; beat = beat }) after
   turned_off after e l = record {
     steps = tt;
-    stays = (e, record { faults_there = λ h. absurd (omega (arith, h)); left_there = λ z. l });
+    stays = (e, record { faults_there = tt; left_there = l });
     faults = tt;
     aligned = omega (arith, aligned);
     inside = tt;
@@ -302,21 +303,21 @@ module _ (cells : List ℕ) (words : List ℤ) (interval places depth pc beat le
 -- all the arms that set a register, and what has no arm
 module _ (cells : List ℕ) (words : List ℤ) (interval places depth : ℕ) {pc : ℕ} (beat left : ℕ) (before after : Registers) {arm r s v : ℕ} (accept : program_no cells ≡ 0) (place : pc ≡ 4 * (pc / 4)) (inside : pc / 4 < instruction_count cells) (counts : left < beat)
     (d : Fetched cells pc arm r s v) (rest : NoneOf arm jumping) where
-  abbrev TurnedBy : Course → Type 0
-  TurnedBy what =
-      Turned cells words interval places depth pc beat left (registers_in before) (record { what = what; pc = pc + 4; beat = beat }) (registers_in after)
+  abbrev TurnedBy : Way → Type 0
+  TurnedBy way =
+      Turned cells words interval places depth pc beat left (registers_in before) (record { way = way; pc = pc + 4; beat = beat }) (registers_in after)
 
-  turned-carried : (what : Course) → IfOff what ⊥ → SetsBy (context_of cells words interval depth) 1 arm what r s v before after → TurnedBy what
-  turned-carried what q h =
+  turned-carried : (way : Way) → IfOff way ⊥ → SetsBy (context_of cells words interval depth) 1 arm way r s v before after → TurnedBy way
+  turned-carried way q h =
       let low = h.carried q in
       let c = (d.decoded.armed.common low.0).0 in
       let i : Instruction = instruction_of cells (pc / 4) in
       turned_sets cells words interval places depth pc beat left (registers_in before) place counts i.opcode i.kind s v (named_so d low.0)
-      d.decoded.same_s what (registers_in after) _ d.decoded.same_r
+      d.decoded.same_s way (registers_in after) _ d.decoded.same_r
       (next_below d i.opcode (omega (arith, low.1, c, d.opcode_most)) refl)
       (h.as_table q i.opcode i.kind d.opcode_most c).1
 
-  pub turned_set : (what : Course) → SetsBy (context_of cells words interval depth) 1 arm what r s v before after → TurnedBy what
+  pub turned_set : (way : Way) → SetsBy (context_of cells words interval depth) 1 arm way r s v before after → TurnedBy way
   turned_set On h = turned-carried On tt h
   turned_set Off h =
       turned_off cells words interval places depth pc beat left (registers_in before) place counts (registers_in after) h.untouched

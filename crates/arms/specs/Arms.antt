@@ -1,11 +1,10 @@
--- What an arm of the loop does, held against the table of instructions (`effect_of`). An arm answers 0 where it did, else the fault's number, and
--- has then changed nothing.
+-- What an arm of the loop does, held against the table of instructions (`effect_of`). An arm answers that the task goes on, or the fault,
+-- and has then changed nothing.
 use Rattle.std.specs.Prelude.{◌≡◌, true, not, List, ℕ, ◌+◌, ◌*◌, ◌-◌, ◌/◌, ◌%◌, ◌<◌, ◌≤◌, ℤ, pos, length, get_or, set, Option, MatchOption, ⊤}
 use Rattle.std.specs.Int.{w64}
 use Rattle.std.proofs.Common.{to_z}
 use Rattle.image.specs.Program.{Program}
 use Rattle.image.specs.Layout.{block_count, instruction_count, block_of, program_of}
-use Rattle.image.specs.Questions.{program_no}
 use Rattle.int64.specs.Equal.{eq_z}
 use Rattle.task.specs.declared.Value.{Value}
 use Rattle.task.specs.declared.Value.TheVariants.{Int}
@@ -18,8 +17,8 @@ use Rattle.task.specs.Choices.{Choices, chosen}
 use Rattle.task.specs.Effect.{Effect, stores, faults, asked, integer, Op, unknown, opcodes, effect_of}
 use Rattle.task.specs.Formed.{value_fits}
 use Rattle.task.specs.Execute.{going, ending, answered}
-use Rattle.arms.specs.declared.Course.{Course}
-use Rattle.arms.specs.declared.Course.TheVariants.{On, Off, Fault}
+use Rattle.arms.specs.declared.Way.{Way}
+use Rattle.arms.specs.declared.Way.TheVariants.{On, Off, Fault}
 use Rattle.arms.specs.declared.Gone.{Gone}
 use Rattle.arms.specs.declared.Registers.{Registers}
 use Rattle.arms.specs.Registers.{registers_of, registers_in, Sized, in_register, operand_by}
@@ -45,19 +44,19 @@ context_of cells words interval depth = context_with (program_of cells) words (c
 -- ---- What an instruction comes to
 
 -- P, where the task goes on by itself
-abbrev pub IfOn : Course → Type 0 → Type 0
+abbrev pub IfOn : Way → Type 0 → Type 0
 IfOn On P = P
 IfOn Off P = ⊤
 IfOn (Fault n) P = ⊤
 
 -- P, where the instruction is left to others
-abbrev pub IfOff : Course → Type 0 → Type 0
+abbrev pub IfOff : Way → Type 0 → Type 0
 IfOff On P = ⊤
 IfOff Off P = P
 IfOff (Fault n) P = ⊤
 
 -- P of the fault's number, where there is one
-abbrev pub IfFault : Course → (ℕ → Type 0) → Type 0
+abbrev pub IfFault : Way → (ℕ → Type 0) → Type 0
 IfFault On P = ⊤
 IfFault Off P = ⊤
 IfFault (Fault n) P = P n
@@ -65,10 +64,10 @@ IfFault (Fault n) P = P n
 -- ---- It sets a register
 
 -- it did, as the effect e says; or e is a fault with this number, and it left all as it was
-pub record Sets (what : Course) (r : ℕ) (before after : List Register) (e : Effect) : Type 0 where
-  pub did : IfOn what ((w : Value) × (e ≡ stores w) × (after ≡ set before r (record { value = w })))
-  pub failed : IfFault what (λ n. (2 ≤ n) × (e ≡ faults n) × (after ≡ before))
-  pub not_off : IfOff what ⊥
+pub record Sets (way : Way) (r : ℕ) (before after : List Register) (e : Effect) : Type 0 where
+  pub did : IfOn way ((w : Value) × (e ≡ stores w) × (after ≡ set before r (record { value = w })))
+  pub failed : IfFault way (λ n. (2 ≤ n) × (e ≡ faults n) × (after ≡ before))
+  pub not_off : IfOff way ⊥
 
 -- of two integers, as in the rows 2 to 8 of the table
 abbrev pub computing : (ℤ → ℤ → Effect) → Value → Value → Effect
@@ -84,14 +83,13 @@ abbrev pub dividing : (ℤ → ℤ → ℤ) → ℤ → ℤ → Effect
 dividing op a b = asked (not (eq_z b (pos 0))) 32 (stores (Int (op a b)))
 
 -- as the table says of an instruction with these operands, whatever the task's other numbers and its open forks
-abbrev pub SetsAs : Context → Op → Course → ℕ → Registers → Registers → (List Register → Value) → (List Register → Value) → Type 0
-SetsAs x op what r before after s v =
-    Sized after.nums after.kinds × ((t : Active) (o : List Fork) → t.depth ≡ x.depth → Sets what r (registers_in before) (registers_in after)
+abbrev pub SetsAs : Context → Op → Way → ℕ → Registers → Registers → (List Register → Value) → (List Register → Value) → Type 0
+SetsAs x op way r before after s v =
+    Sized after.nums after.kinds × ((t : Active) (o : List Fork) → t.depth ≡ x.depth → Sets way r (registers_in before) (registers_in after)
     (effect_of x.program x.words x.choices (s (registers_in before)) (v (registers_in before)) t o op))
 
 -- what such an arm may rest on; the register r that it sets stands in the decoded code, after the arm
 pub record CanSet (cells code nums kinds : List ℕ) (depth pc arm s v : ℕ) : Type 0 where
-  pub accepted_program : program_no cells ≡ 0
   pub sized : Sized nums kinds
   pub stored : pc + 1 < length code
   pub r_small : get_or code (pc + 1) 0 < 16
@@ -103,25 +101,25 @@ pub record CanSet (cells code nums kinds : List ℕ) (depth pc arm s v : ℕ) : 
 
 -- the arm of opcode n and operand kind k is n + 32 k: as the table says of that opcode; or it sets no register, and is left as it was.
 -- Of the kinds from `least` on, all that set one do
-pub record SetsBy (x : Context) (least arm : ℕ) (what : Course) (r s v : ℕ) (before after : Registers) : Type 0 where
+pub record SetsBy (x : Context) (least arm : ℕ) (way : Way) (r s v : ℕ) (before after : Registers) : Type 0 where
   pub still_sized : Sized after.nums after.kinds
-  pub carried : IfOff what ⊥ → (arm < 128) × (arm % 32 < 13)
-  pub as_table : IfOff what ⊥ → (n k : ℕ) → n ≤ 17 → arm ≡ n + 32 * k
-      → SetsAs x (get_or opcodes n unknown) what r before after (in_register s) (operand_by k v)
-  pub untouched : IfOff what (registers_in after ≡ registers_in before)
+  pub carried : IfOff way ⊥ → (arm < 128) × (arm % 32 < 13)
+  pub as_table : IfOff way ⊥ → (n k : ℕ) → n ≤ 17 → arm ≡ n + 32 * k
+      → SetsAs x (get_or opcodes n unknown) way r before after (in_register s) (operand_by k v)
+  pub untouched : IfOff way (registers_in after ≡ registers_in before)
   -- the opcodes 10 and 12 to 17
-  pub others : IfOff what ((n k : ℕ) → 1 ≤ n → n ≤ 17 → least ≤ k → k ≤ 3 → arm ≡ n + 32 * k → (10 ≤ n) × (n ≡ 11 → ⊥))
+  pub others : IfOff way ((n k : ℕ) → 1 ≤ n → n ≤ 17 → least ≤ k → k ≤ 3 → arm ≡ n + 32 * k → (10 ≤ n) × (n ≡ 11 → ⊥))
 
 -- ---- It goes elsewhere
 
 -- to the place g.pc of the decoded code, with the difference of g.beat and left as its counter, as the instruction e says; or e is a
 -- fault with this number
 pub record Leads (cells : List ℕ) (most left : ℕ) (g : Gone) (e : Executed) : Type 0 where
-  pub leads : IfOn g.what (e ≡ going (g.pc / 4) (g.beat - left))
-  pub failed : IfFault g.what (λ n. (2 ≤ n) × (e ≡ ending Faults n))
-  pub not_off : IfOff g.what ⊥
+  pub leads : IfOn g.way (e ≡ going (g.pc / 4) (g.beat - left))
+  pub failed : IfFault g.way (λ n. (2 ≤ n) × (e ≡ ending Faults n))
+  pub not_off : IfOff g.way ⊥
   pub aligned : g.pc ≡ 4 * (g.pc / 4)
-  pub inside : IfOn g.what (g.pc / 4 < instruction_count cells)
+  pub inside : IfOn g.way (g.pc / 4 < instruction_count cells)
   pub counted : left ≤ g.beat
   pub beat_most : g.beat ≤ most
 

@@ -3,7 +3,6 @@
 use Rattle.std.specs.Prelude.{◌≡◌, true, List, ℕ, ◌+◌, ◌*◌, ◌-◌, ◌/◌, ◌<◌, ◌≤◌, ℤ}
 use Rattle.image.specs.Program.{Program}
 use Rattle.image.specs.Layout.{instruction_count, instruction_of, program_of}
-use Rattle.image.specs.Questions.{program_no}
 use Rattle.agreement.specs.Plain.{one, Rules}
 use Rattle.serial.specs.Serial.{Pending, held, run}
 use Rattle.task.specs.declared.Register.{Register}
@@ -17,12 +16,13 @@ use Rattle.task.specs.Choices.{Choices, chosen}
 use Rattle.task.specs.Formed.{value_fits, formed, within}
 use Rattle.task.specs.Step.{register, operand, active_of, step, join}
 use Rattle.task.specs.Execute.{ending, executed}
+use Rattle.arms.specs.declared.Way.{Way}
+use Rattle.arms.specs.declared.Way.TheVariants.{Off, Fault}
 use Rattle.arms.specs.declared.Gone.{Gone}
 use Rattle.arms.specs.declared.Stopped.{Stopped}
 use Rattle.arms.specs.Registers.{registers_of, Sized, in_register}
 use Rattle.arms.specs.Arms.{IfOn, IfOff, IfFault}
 use Rattle.arms.specs.Stacks.{stack_of, Lies, SameBelow}
-use Rattle.arms.specs.Code.{Decodes}
 -- for the crates above, too
 pub use Rattle.arms.specs.Stacks.{Stacked}
 
@@ -50,9 +50,7 @@ executed_of program words choices f =
 -- ---- What they rest on
 
 -- a task at the place pc of the decoded code
-pub record At (cells code nums kinds : List ℕ) (depth left beat pc : ℕ) : Type 0 where
-  pub accepted_program : program_no cells ≡ 0
-  pub decodes : Decodes cells code
+pub record At (cells nums kinds : List ℕ) (depth left beat pc : ℕ) : Type 0 where
   pub sized : Sized nums kinds
   pub on_place : pc ≡ 4 * (pc / 4)
   pub inside_program : pc / 4 < instruction_count cells
@@ -61,7 +59,7 @@ pub record At (cells code nums kinds : List ℕ) (depth left beat pc : ℕ) : Ty
   pub depth_most : depth ≤ 6
 
 -- a task where instructions by itself begin: well-formed
-pub record Starts (cells code nums kinds pile tags : List ℕ) (places depth left beat pc low piled : ℕ) : Type 0 where
+pub record Starts (cells nums kinds pile tags : List ℕ) (places depth left beat pc low piled : ℕ) : Type 0 where
   pub rank : ℕ
   pub height : ℕ
   pub forks : List Fork
@@ -70,8 +68,6 @@ pub record Starts (cells code nums kinds pile tags : List ℕ) (places depth lef
   pub its_is_formed : formed (program_of cells) rank height
       (frame_at places depth forks (pc / 4) (beat - left) span (stack_of pile tags low piled) (registers_of nums kinds)) ≡ true
   pub lies : Lies pile tags low
-  pub accepted_program : program_no cells ≡ 0
-  pub decodes : Decodes cells code
   pub sized : Sized nums kinds
   pub on_place : pc ≡ 4 * (pc / 4)
   pub inside_program : pc / 4 < instruction_count cells
@@ -86,21 +82,21 @@ LeftOpcode n = (n ≡ 12 → ⊥) → (n ≡ 15 → ⊥) → (n ≡ 16 → ⊥) 
 
 module _ (cells : List ℕ) (words : List ℤ) (interval places depth : ℕ) where
   -- the instruction at pc, which such a task with these registers does not carry out by itself: a fault with this number, or fork, halt, join,
-  -- push or pop (1)
-  pub record Ends (what pc counter : ℕ) (registers : List Register) : Type 0 where
-    pub faults_there : 2 ≤ what → (forks : List Fork) (span : ℕ) (u : Stacked)
-        → executed_of (program_of cells) words (chosen interval) (frame_at places depth forks pc counter span u registers) ≡ ending Faults what
-    pub left_there : what ≡ 1 → LeftOpcode (instruction_of cells pc).opcode
+  -- push or pop
+  pub record Ends (way : Way) (pc counter : ℕ) (registers : List Register) : Type 0 where
+    pub faults_there : IfFault way (λ n. (forks : List Fork) (span : ℕ) (u : Stacked)
+        → executed_of (program_of cells) words (chosen interval) (frame_at places depth forks pc counter span u registers) ≡ ending Faults n)
+    pub left_there : IfOff way (LeftOpcode (instruction_of cells pc).opcode)
 
   -- one instruction, after which `left` is left
   pub record Turned (pc beat left : ℕ) (before : List Register) (g : Gone) (after : List Register) : Type 0 where
-    pub steps : IfOn g.what ((forks : List Fork) (span : ℕ) (u : Stacked)
+    pub steps : IfOn g.way ((forks : List Fork) (span : ℕ) (u : Stacked)
         → step (program_of cells) words (chosen interval) (frame_at places depth forks (pc / 4) (beat - (left + 1)) span u before)
         ≡ one (frame_at places depth forks (g.pc / 4) (g.beat - left) (span + 1) u after))
-    pub stays : IfOff g.what ((after ≡ before) × Ends 1 (pc / 4) (beat - (left + 1)) before)
-    pub faults : IfFault g.what (λ n. (2 ≤ n) × (after ≡ before) × Ends n (pc / 4) (beat - (left + 1)) before)
+    pub stays : IfOff g.way ((after ≡ before) × Ends Off (pc / 4) (beat - (left + 1)) before)
+    pub faults : IfFault g.way (λ n. (2 ≤ n) × (after ≡ before) × Ends (Fault n) (pc / 4) (beat - (left + 1)) before)
     pub aligned : g.pc ≡ 4 * (g.pc / 4)
-    pub inside : IfOn g.what (g.pc / 4 < instruction_count cells)
+    pub inside : IfOn g.way (g.pc / 4 < instruction_count cells)
     pub counted : left ≤ g.beat
     pub beat_most : g.beat ≤ beat
 
@@ -125,5 +121,5 @@ module _ (cells : List ℕ) (words : List ℤ) (interval places depth : ℕ) whe
   pub record RunsUntil (pc beat left low piled : ℕ) (pile tags : List ℕ) (before : List Register) (z : Stopped) (pile' tags' : List ℕ) (after : List Register) : Type 0 where
     pub runs : Runs pc beat left (stack_of pile tags low piled) before z.pc z.beat z.left (stack_of pile' tags' low z.height) after
     pub same_below : SameBelow low pile tags pile' tags'
-    pub when_spent : z.what ≡ 0 → z.left ≡ 0
-    pub when_not : (z.what ≡ 0 → ⊥) → (0 < z.left) × Ends z.what (z.pc / 4) (z.beat - z.left) after
+    pub when_spent : IfOn z.way (z.left ≡ 0)
+    pub when_not : IfOn z.way ⊥ → (0 < z.left) × Ends z.way (z.pc / 4) (z.beat - z.left) after

@@ -15,7 +15,7 @@ ghost use Rattle.task.specs.Effect.{Effect, Op, stores, plus, minus, times, divi
 ghost use Rattle.arms.specs.Registers.{in_register, as_number};
 ghost use Rattle.arms.specs.Arms.{Context, SetsAs, computing, dividing, Computes};
 
-use crate::{Course, Registers};
+use crate::{Registers, Way};
 
 // What the seven differ in: two integers are given by their bits.
 pub trait Operation {
@@ -135,7 +135,7 @@ impl Operation for Order {
     ghost as_table = { λ p w c s v t o. refl };
 
     fn bits(a: u64, b: u64) -> Option<u64> {
-        if int64::less(int64::number(a), int64::number(b)) {
+        if int64::number(a) < int64::number(b) {
             return Some(0);
         }
         Some(1)
@@ -154,7 +154,7 @@ impl Operation for Sameness {
     ghost as_table = { λ p w c s v t o. refl };
 
     fn bits(a: u64, b: u64) -> Option<u64> {
-        if int64::equal(int64::number(a), int64::number(b)) {
+        if int64::number(a) == int64::number(b) {
             return Some(0);
         }
         Some(1)
@@ -162,29 +162,29 @@ impl Operation for Sameness {
 }
 
 // r := s op the number v.
-pub fn of_number<O: Operation>(registers: &mut Registers, r: usize, s: usize, v: u64) -> Course
+pub fn of_number<O: Operation>(registers: &mut Registers, r: usize, s: usize, v: u64) -> Way
     requires { (r < 16) × (s < 16) }
     ensures { (x : Context) → O.Suits x.choices → SetsAs x O.op result r registers.old registers.new (in_register s) (as_number v) }
 {
     if registers.kinds[s] != 0 {
-        return Course::Fault(31);
+        return Way::Fault(31);
     }
     match O::bits(registers.nums[s], v) {
         Some(u) => {
             registers.put(r, u, 0);
-            Course::On
+            Way::On
         }
-        None => Course::Fault(32),
+        None => Way::Fault(32),
     }
 }
 
 // r := s op v.
-pub fn of_registers<O: Operation>(registers: &mut Registers, r: usize, s: usize, v: usize) -> Course
+pub fn of_registers<O: Operation>(registers: &mut Registers, r: usize, s: usize, v: usize) -> Way
     requires { (r < 16) × (s < 16) × (v < 16) }
     ensures { (x : Context) → O.Suits x.choices → SetsAs x O.op result r registers.old registers.new (in_register s) (in_register v) }
 {
     if registers.kinds[v] != 0 {
-        return Course::Fault(31);
+        return Way::Fault(31);
     }
     of_number::<O>(registers, r, s, registers.nums[v])
 }

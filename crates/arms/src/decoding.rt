@@ -1,10 +1,10 @@
 // A program decoded: for each instruction the number of its arm, the registers r and s, and the operand.
 ghost use Rattle.std.specs.Prelude.{◌≡◌, true, ◌+◌, ◌*◌, ◌<◌, ◌≤◌, length};
 ghost use Rattle.image.specs.Layout.{block_count, instruction_count};
-ghost use Rattle.image.specs.Questions.{program_no};
 ghost use Rattle.arms.specs.Code.{Armed, DecodesOne, Decodes};
 
 use crate::Arm;
+use image::program::Program;
 use image::{Instruction, layout};
 
 // Whether it is a jump or if-jump to a label.
@@ -14,17 +14,17 @@ fn jumps_to_label(x: Instruction) -> bool
     x.kind == 2 && (x.opcode == 10 || x.opcode == 13)
 }
 
-// `decode_one` alone calls it, with an instruction of an accepted program. A block that is not promotion-ready is entered without a question, so
+// `decode_one` alone calls it, with an instruction of the program. A block that is not promotion-ready is entered without a question, so
 // a jump to its label has an arm of its own.
-fn arm_of(cells: &[u64], x: Instruction) -> Arm
-    requires { (program_no cells.now ≡ 0) × (x.opcode ≤ 17) × (x.kind ≤ 3) × (x.kind ≡ 2 → x.operand < block_count cells.now) }
-    ensures { Armed cells.now x result.number result.operand }
+fn arm_of(program: &Program, x: Instruction) -> Arm
+    requires { (x.opcode ≤ 17) × (x.kind ≤ 3) × (x.kind ≡ 2 → x.operand < block_count program.now.cells.now) }
+    ensures { Armed program.now.cells.now x result.number result.operand }
 {
     let number = x.opcode + 32 * x.kind;
     if jumps_to_label(x) {
         let b = x.operand as usize;
-        if layout::annotation_of(cells, b) != 1 {
-            let first = layout::first_of(cells, b);
+        if program.annotation(b) != 1 {
+            let first = program.first(b);
             return Arm {
                 number: 128 + number,
                 operand: 4 * first,
@@ -37,13 +37,13 @@ fn arm_of(cells: &[u64], x: Instruction) -> Arm
     }
 }
 
-// `decode` alone calls it, with an instruction of an accepted program.
-fn decode_one(cells: &[u64], i: usize, code: &mut [u64])
-    requires { (program_no cells.now ≡ 0) × (i < instruction_count cells.now) × (4 * i + 4 ≤ length code.old) }
-    ensures { DecodesOne cells.now i code.old code.new }
+// `decode` alone calls it, with an instruction of the program.
+fn decode_one(program: &Program, i: usize, code: &mut [u64])
+    requires { (i < instruction_count program.now.cells.now) × (4 * i + 4 ≤ length code.old) }
+    ensures { DecodesOne program.now.cells.now i code.old code.new }
 {
-    let x = layout::instruction_of(cells, i);
-    let arm = arm_of(cells, x);
+    let x = program.instruction(i);
+    let arm = arm_of(program, x);
     let at = 4 * i;
     code[at] = arm.number;
     code[at + 1] = x.r;
@@ -51,13 +51,13 @@ fn decode_one(cells: &[u64], i: usize, code: &mut [u64])
     code[at + 3] = arm.operand;
 }
 
-// Our crates alone call it, with an accepted program and room for it.
-pub fn decode(cells: &[u64], code: &mut [u64])
-    requires { (program_no cells.now ≡ 0) × (4 * instruction_count cells.now ≤ length code.old) }
-    ensures { Decodes cells.now code.new }
+// Our crates alone call it, with room for the program.
+pub fn decode(program: &Program, code: &mut [u64])
+    requires { (4 * instruction_count program.now.cells.now ≤ length code.old) }
+    ensures { Decodes program.now.cells.now code.new }
 {
-    let n = layout::instruction_count(cells) as usize;
+    let n = layout::instruction_count(program.cells) as usize;
     for i in 0..n {
-        decode_one(cells, i, code);
+        decode_one(program, i, code);
     }
 }

@@ -1,54 +1,43 @@
-// Arms for opcodes 10 and 13, if-jump and jump, and entering a block; each answers as `Gone` says. `turn` ensures what they require: an accepted
-// program, the place of one of its instructions, and registers of a well-formed task.
+// Arms for opcodes 10 and 13, if-jump and jump, and entering a block; each answers as `Gone` says. `turn` ensures what they require: the place
+// of one of the program's instructions, and registers of a well-formed task.
 ghost use Rattle.std.specs.Prelude.{◌≡◌, true, List, ℕ, ◌+◌, ◌*◌, ◌-◌, ◌/◌, ◌<◌, ◌≤◌};
 ghost use Rattle.image.specs.Layout.{block_count, instruction_count, program_of};
-ghost use Rattle.image.specs.Questions.{program_no};
 ghost use Rattle.task.specs.declared.Value.{Value};
 ghost use Rattle.task.specs.declared.Value.TheVariants.{Label};
 ghost use Rattle.task.specs.Choices.{chosen};
 ghost use Rattle.task.specs.Effect.{if_jump, jump};
 ghost use Rattle.task.specs.Formed.{value_fits};
-ghost use Rattle.task.specs.Step.{promotes};
 ghost use Rattle.task.specs.Execute.{entering};
 ghost use Rattle.arms.specs.Registers.{value_of, registers_in, in_register};
 ghost use Rattle.arms.specs.Arms.{active, Leads, LeadsAs, Unready};
 
-use crate::{Code, Course, Going, Gone, Registers};
-use image::layout;
-
-// Whether control goes to the handler of block b instead.
-#[tactic(auto, unfolding(task::specs::Step::promotes))]
-fn is_promoted(cells: &[u64], interval: u64, b: usize, counter: u64, places: u64) -> bool
-    requires { (program_no cells.now ≡ 0) × (b < block_count cells.now) }
-    ensures { result ≡ promotes (program_of cells.now) (chosen interval) b counter places }
-{
-    layout::annotation_of(cells, b) == 1 && interval != 0 && interval <= counter && 2 <= places
-}
+use crate::{Code, Going, Gone, Registers, Way};
+use task::control::is_promoted;
 
 // Entering block b. At a promotion the counter becomes 0: the beat is what is left.
 pub fn enter(code: &Code, task: Going, b: usize) -> Gone
-    requires { (program_no code.now.cells.now ≡ 0) × (b < block_count code.now.cells.now) × (task.left ≤ task.beat) }
-    ensures { (i depth : ℕ) → Leads code.now.cells.now task.beat task.left result
-        (entering (program_of code.now.cells.now) (chosen code.now.interval) b (active task.places i (task.beat - task.left) depth)) }
+    requires { (b < block_count code.now.program.cells.now) × (task.left ≤ task.beat) }
+    ensures { (i depth : ℕ) → Leads code.now.program.cells.now task.beat task.left result
+        (entering (program_of code.now.program.cells.now) (chosen code.now.interval) b (active task.places i (task.beat - task.left) depth)) }
 {
     if is_promoted(
-        code.cells,
+        &code.program,
         code.interval,
         b,
         task.beat - task.left,
         task.places,
     ) {
-        let handler = layout::label_of(code.cells, b) as usize;
-        let first = layout::first_of(code.cells, handler) as usize;
+        let handler = code.program.label(b) as usize;
+        let first = code.program.first(handler) as usize;
         return Gone {
-            what: Course::On,
+            way: Way::On,
             pc: 4 * first,
             beat: task.left,
         };
     }
-    let first = layout::first_of(code.cells, b) as usize;
+    let first = code.program.first(b) as usize;
     Gone {
-        what: Course::On,
+        way: Way::On,
         pc: 4 * first,
         beat: task.beat,
     }
@@ -56,14 +45,14 @@ pub fn enter(code: &Code, task: Going, b: usize) -> Gone
 
 // Jump to the label in a register.
 pub fn jump_register(code: &Code, registers: &Registers, task: Going, v: usize) -> Gone
-    requires { (program_no code.now.cells.now ≡ 0) × (task.left ≤ task.beat) × (v < 16) × (task.pc ≡ 4 * (task.pc / 4))
-        × (value_fits (program_of code.now.cells.now) (in_register v (registers_in registers.now)) ≡ true) }
-    ensures { (s : Value) → LeadsAs code.now.cells.now code.now.interval jump task.places task.pc task.beat task.left result s
+    requires { (task.left ≤ task.beat) × (v < 16) × (task.pc ≡ 4 * (task.pc / 4))
+        × (value_fits (program_of code.now.program.cells.now) (in_register v (registers_in registers.now)) ≡ true) }
+    ensures { (s : Value) → LeadsAs code.now.program.cells.now code.now.interval jump task.places task.pc task.beat task.left result s
         (in_register v (registers_in registers.now)) }
 {
     if registers.kinds[v] != 1 {
         return Gone {
-            what: Course::Fault(34),
+            way: Way::Fault(34),
             pc: task.pc,
             beat: task.beat,
         };
@@ -80,28 +69,28 @@ pub fn branch_to(
     kind: u8,
     num: u64,
 ) -> Gone
-    requires { (program_no code.now.cells.now ≡ 0) × (value_fits (program_of code.now.cells.now) (value_of kind num) ≡ true) × (task.left ≤ task.beat)
-        × (s < 16) × (task.pc ≡ 4 * (task.pc / 4)) × (task.pc / 4 + 1 < instruction_count code.now.cells.now) }
-    ensures { LeadsAs code.now.cells.now code.now.interval if_jump task.places task.pc task.beat task.left result
+    requires { (value_fits (program_of code.now.program.cells.now) (value_of kind num) ≡ true) × (task.left ≤ task.beat)
+        × (s < 16) × (task.pc ≡ 4 * (task.pc / 4)) × (task.pc / 4 + 1 < instruction_count code.now.program.cells.now) }
+    ensures { LeadsAs code.now.program.cells.now code.now.interval if_jump task.places task.pc task.beat task.left result
         (in_register s (registers_in registers.now)) (value_of kind num) }
 {
     if registers.kinds[s] != 0 {
         return Gone {
-            what: Course::Fault(31),
+            way: Way::Fault(31),
             pc: task.pc,
             beat: task.beat,
         };
     }
     if registers.nums[s] != 0 {
         return Gone {
-            what: Course::On,
+            way: Way::On,
             pc: task.pc + 4,
             beat: task.beat,
         };
     }
     if kind != 1 {
         return Gone {
-            what: Course::Fault(34),
+            way: Way::Fault(34),
             pc: task.pc,
             beat: task.beat,
         };
@@ -111,10 +100,9 @@ pub fn branch_to(
 
 // If-jump to the label in a register.
 pub fn branch_register(code: &Code, registers: &Registers, task: Going, s: usize, v: usize) -> Gone
-    requires { (program_no code.now.cells.now ≡ 0)
-        × (value_fits (program_of code.now.cells.now) (in_register v (registers_in registers.now)) ≡ true)
-        × (task.left ≤ task.beat) × (s < 16) × (task.pc ≡ 4 * (task.pc / 4)) × (task.pc / 4 + 1 < instruction_count code.now.cells.now) × (v < 16) }
-    ensures { LeadsAs code.now.cells.now code.now.interval if_jump task.places task.pc task.beat task.left result
+    requires { (value_fits (program_of code.now.program.cells.now) (in_register v (registers_in registers.now)) ≡ true)
+        × (task.left ≤ task.beat) × (s < 16) × (task.pc ≡ 4 * (task.pc / 4)) × (task.pc / 4 + 1 < instruction_count code.now.program.cells.now) × (v < 16) }
+    ensures { LeadsAs code.now.program.cells.now code.now.interval if_jump task.places task.pc task.beat task.left result
         (in_register s (registers_in registers.now)) (in_register v (registers_in registers.now)) }
 {
     branch_to(
@@ -135,20 +123,20 @@ pub fn branch_plain(registers: &Registers, beat: u64, s: usize, pc: usize, v: us
 {
     if registers.kinds[s] != 0 {
         return Gone {
-            what: Course::Fault(31),
+            way: Way::Fault(31),
             pc,
             beat,
         };
     }
     if registers.nums[s] == 0 {
         return Gone {
-            what: Course::On,
+            way: Way::On,
             pc: v,
             beat,
         };
     }
     Gone {
-        what: Course::On,
+        way: Way::On,
         pc: pc + 4,
         beat,
     }

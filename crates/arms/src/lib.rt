@@ -2,6 +2,10 @@
 // the loop that goes on until an instruction that the task does not carry out by itself.
 #![tactic(auto)]
 
+ghost use Rattle.arms.specs.Code.{Decodes};
+
+use image::program::Program;
+
 mod arithmetic;
 pub mod decoding;
 mod jumps;
@@ -11,7 +15,8 @@ mod setting;
 pub mod stacking;
 pub mod turning;
 
-// The 16 registers in two rows: of each its 64 bits and its kind.
+// The 16 registers in two rows: of each its 64 bits and its kind. A kind is a number, 0 to 2: `value_of` and `registers_of` (specs/Registers.antt),
+// which may not change, are over these numbers, and 16 kinds are one row of bytes, which is moved whole.
 #[derive(Clone, Copy, Debug, PartialEq, Eq)]
 pub struct Registers {
     pub nums: [u64; 16],
@@ -25,13 +30,14 @@ pub struct Pile {
     pub kinds: [u8; 224],
 }
 
-// What a job lends to its tasks: the program's cells and the program decoded, the call record and the interval of promotions.
+// What a job lends to its tasks: its program and that program decoded, the call record and the interval of promotions.
 #[derive(Clone, Copy)]
 pub struct Code<'a> {
-    pub cells: &'a [u64],
+    pub program: Program<'a>,
     pub code: &'a [u64],
     pub words: &'a [i64],
     pub interval: u64,
+    pub ghost decoded: { Decodes program.cells.now code.now },
 }
 
 // Where a task stands that goes on by itself: its places and its depth, what is left of the budget, the number that its counter is the difference
@@ -47,7 +53,7 @@ pub struct Going {
     pub height: u64,
 }
 
-// A value's kind and its 64 bits.
+// A value's kind, a number as in a row of registers, and its 64 bits.
 #[derive(Clone, Copy, Debug, PartialEq, Eq)]
 pub struct Pair {
     pub kind: u8,
@@ -64,7 +70,7 @@ pub struct Arm {
 // What an instruction comes to: the task goes on by itself; it is left to others, as fork, join, halt, push and pop, of which the loop carries out
 // the last two where there is a place or a value; or it faults with this number.
 #[derive(Clone, Copy, Debug, PartialEq, Eq)]
-pub enum Course {
+pub enum Way {
     On,
     Off,
     Fault(u8),
@@ -74,16 +80,16 @@ pub enum Course {
 // budget.
 #[derive(Clone, Copy, Debug, PartialEq, Eq)]
 pub struct Gone {
-    pub what: Course,
+    pub way: Way,
     pub pc: usize,
     pub beat: u64,
 }
 
-// Where a task stands before an instruction that it does not carry out by itself: 1 for one that is left to others, else its fault's number; or,
-// where it would go on, once the budget is used up (0). And how many values are on its stack.
+// Where a task stands before an instruction that is left to others or faults; or, where it would go on, once the budget is used up. And how many
+// values are on its stack.
 #[derive(Clone, Copy, Debug, PartialEq, Eq)]
 pub struct Stopped {
-    pub what: u8,
+    pub way: Way,
     pub pc: usize,
     pub beat: u64,
     pub left: u64,

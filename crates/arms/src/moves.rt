@@ -3,7 +3,6 @@
 ghost use Rattle.std.specs.Prelude.{◌≡◌, true, List, ℕ, ◌<◌, ◌≤◌, ℤ};
 ghost use Rattle.image.specs.Program.{Program};
 ghost use Rattle.image.specs.Layout.{block_count, program_of};
-ghost use Rattle.image.specs.Questions.{program_no};
 ghost use Rattle.task.specs.declared.Value.{Value};
 ghost use Rattle.task.specs.declared.Register.{Register};
 ghost use Rattle.task.specs.Choices.{Choices};
@@ -12,11 +11,10 @@ ghost use Rattle.task.specs.Formed.{value_fits};
 ghost use Rattle.arms.specs.Registers.{registers_in, value_of, in_register, as_label, as_number};
 ghost use Rattle.arms.specs.Arms.{Context, context_with, SetsAs};
 
-use crate::{Course, Registers};
-use image::layout;
+use crate::{Code, Registers, Way};
 
 // Opcode 1, r := v: the value of a register; a label or a number.
-pub fn move_register(registers: &mut Registers, r: usize, v: usize) -> Course
+pub fn move_register(registers: &mut Registers, r: usize, v: usize) -> Way
     requires { (r < 16) × (v < 16) }
     ensures { (x : Context) (s : List Register → Value) → SetsAs x move result r registers.old registers.new
         s (in_register v) }
@@ -24,76 +22,70 @@ pub fn move_register(registers: &mut Registers, r: usize, v: usize) -> Course
     let num = registers.nums[v];
     let kind = registers.kinds[v];
     registers.put(r, num, kind);
-    Course::On
+    Way::On
 }
 
-pub fn move_value(registers: &mut Registers, r: usize, num: u64, kind: u8) -> Course
+pub fn move_value(registers: &mut Registers, r: usize, num: u64, kind: u8) -> Way
     requires { (r < 16) }
     ensures { (x : Context) (s : List Register → Value) → SetsAs x move result r registers.old registers.new
         s (λ l. value_of kind num) }
 {
     registers.put(r, num, kind);
-    Course::On
+    Way::On
 }
 
 // Opcode 9, r := word v of the call record.
-pub fn fetch_number(words: &[i64], registers: &mut Registers, r: usize, v: u64) -> Course
+pub fn fetch_number(words: &[i64], registers: &mut Registers, r: usize, v: u64) -> Way
     requires { (r < 16) }
     ensures { (p : Program) (c : Choices) (d : ℕ) (s : List Register → Value) → SetsAs (context_with p words.now c d) word result r registers.old registers.new
         s (as_number v) }
 {
     if (words.len() as u64) <= v {
-        return Course::Fault(33);
+        return Way::Fault(33);
     }
     let u = int64::bits(words[v as usize]);
     registers.put(r, u, 0);
-    Course::On
+    Way::On
 }
 
-pub fn fetch_register(words: &[i64], registers: &mut Registers, r: usize, v: usize) -> Course
+pub fn fetch_register(words: &[i64], registers: &mut Registers, r: usize, v: usize) -> Way
     requires { (r < 16) × (v < 16) }
     ensures { (p : Program) (c : Choices) (d : ℕ) (s : List Register → Value) → SetsAs (context_with p words.now c d) word result r registers.old registers.new
         s (in_register v) }
 {
     if registers.kinds[v] != 0 {
-        return Course::Fault(31);
+        return Way::Fault(31);
     }
     let u = registers.nums[v];
     fetch_number(words, registers, r, u)
 }
 
 // Opcode 11, r := jralloc v: the label of a join target and the task's depth, as one number.
-pub fn allocate_label(
-    cells: &[u64],
-    registers: &mut Registers,
-    depth: u64,
-    r: usize,
-    v: u64,
-) -> Course
-    requires { (program_no cells.now ≡ 0) × (v < block_count cells.now) × (depth ≤ 6) × (r < 16) }
-    ensures { (w : List ℤ) (c : Choices) (s : List Register → Value) → SetsAs (context_with (program_of cells.now) w c depth) jralloc result r registers.old registers.new s (as_label v) }
+pub fn allocate_label(code: &Code, registers: &mut Registers, depth: u64, r: usize, v: u64) -> Way
+    requires { (v < block_count code.now.program.cells.now) × (depth ≤ 6) × (r < 16) }
+    ensures { (w : List ℤ) (c : Choices) (s : List Register → Value) → SetsAs (context_with (program_of code.now.program.cells.now) w c depth) jralloc result r registers.old registers.new s (as_label v) }
 {
-    if layout::annotation_of(cells, v as usize) != 2 {
-        return Course::Fault(35);
+    if code.program.annotation(v as usize) != 2 {
+        return Way::Fault(35);
     }
     registers.put(r, 4294967296 * v + depth, 2);
-    Course::On
+    Way::On
 }
 
 pub fn allocate_register(
-    cells: &[u64],
+    code: &Code,
     registers: &mut Registers,
     depth: u64,
     r: usize,
     v: usize,
-) -> Course
-    requires { (program_no cells.now ≡ 0) × (depth ≤ 6) × (r < 16) × (v < 16)
-        × (value_fits (program_of cells.now) (in_register v (registers_in registers.old)) ≡ true) }
-    ensures { (w : List ℤ) (c : Choices) (s : List Register → Value) → SetsAs (context_with (program_of cells.now) w c depth) jralloc result r registers.old registers.new s (in_register v) }
+) -> Way
+    requires { (depth ≤ 6) × (r < 16) × (v < 16)
+        × (value_fits (program_of code.now.program.cells.now) (in_register v (registers_in registers.old)) ≡ true) }
+    ensures { (w : List ℤ) (c : Choices) (s : List Register → Value) → SetsAs (context_with (program_of code.now.program.cells.now) w c depth) jralloc result r registers.old registers.new s (in_register v) }
 {
     if registers.kinds[v] != 1 {
-        return Course::Fault(35);
+        return Way::Fault(35);
     }
     let b = registers.nums[v];
-    allocate_label(cells, registers, depth, r, b)
+    allocate_label(code, registers, depth, r, b)
 }

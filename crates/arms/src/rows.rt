@@ -17,7 +17,7 @@ impl Registers {
     }
 }
 
-// Our crates alone call it: a label of a well-formed task is a block's number.
+// Our crates alone call it: a label of a well-formed task is a block's number. No `From`, which asks nothing of what it is given.
 pub fn value_of(kind: u8, num: u64) -> Value
     requires { kind ≡ 1 → num < 4294967296 }
     ensures { result ≡ value_of kind num }
@@ -31,21 +31,23 @@ pub fn value_of(kind: u8, num: u64) -> Value
     Value::Record((num / 4294967296) as u32, (num % 4294967296) as u32)
 }
 
-pub fn pair_of(v: Value) -> Pair
-    ensures { value_of result.kind result.num ≡ v }
-{
-    match v {
-        Value::Int(z) => {
-            let num = int64::bits(z);
-            Pair { kind: 0, num }
+impl From<Value> for Pair {
+    ghost from_gives = { λ v pair. value_of pair.kind pair.num ≡ v };
+
+    fn from(v: Value) -> Pair {
+        match v {
+            Value::Int(z) => {
+                let num = int64::bits(z);
+                Pair { kind: 0, num }
+            }
+            Value::Label(b) => Pair {
+                kind: 1,
+                num: b as u64,
+            },
+            Value::Record(c, d) => Pair {
+                kind: 2,
+                num: 4294967296 * (c as u64) + (d as u64),
+            },
         }
-        Value::Label(b) => Pair {
-            kind: 1,
-            num: b as u64,
-        },
-        Value::Record(c, d) => Pair {
-            kind: 2,
-            num: 4294967296 * (c as u64) + (d as u64),
-        },
     }
 }

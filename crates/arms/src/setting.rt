@@ -8,7 +8,7 @@ use crate::arithmetic::{
 use crate::moves::{
     allocate_label, allocate_register, fetch_number, fetch_register, move_register, move_value,
 };
-use crate::{Code, Course, Registers};
+use crate::{Code, Registers, Way};
 
 impl Code<'_> {
     // The register that the instruction at pc sets. Each arm below reads it by itself: a read ahead of a match would keep that one and `turn`'s from
@@ -31,14 +31,14 @@ fn set_immediate(
     arm: u64,
     s: usize,
     v: u64,
-) -> Course
-    requires { CanSet code.now.cells.now code.now.code.now registers.old.nums registers.old.kinds depth pc arm s v }
-    ensures { (interval : ℕ) → SetsBy (context_of code.now.cells.now code.now.words.now interval depth) 2 arm result (get_or code.now.code.now (pc + 1) 0) s v
+) -> Way
+    requires { CanSet code.now.program.cells.now code.now.code.now registers.old.nums registers.old.kinds depth pc arm s v }
+    ensures { (interval : ℕ) → SetsBy (context_of code.now.program.cells.now code.now.words.now interval depth) 2 arm result (get_or code.now.code.now (pc + 1) 0) s v
         registers.old registers.new }
 {
     match arm {
         65 => move_value(registers, code.register_at(pc), v, 1),
-        75 => allocate_label(code.cells, registers, depth, code.register_at(pc), v),
+        75 => allocate_label(code, registers, depth, code.register_at(pc), v),
         97 => move_value(registers, code.register_at(pc), v, 0),
         98 => of_number::<Sum>(registers, code.register_at(pc), s, v),
         99 => of_number::<Difference>(registers, code.register_at(pc), s, v),
@@ -48,9 +48,9 @@ fn set_immediate(
         103 => of_number::<Order>(registers, code.register_at(pc), s, v),
         104 => of_number::<Sameness>(registers, code.register_at(pc), s, v),
         105 => fetch_number(code.words, registers, code.register_at(pc), v),
-        107 => Course::Fault(35),
-        66..=73 => Course::Fault(31),
-        _ => Course::Off,
+        107 => Way::Fault(35),
+        66..=73 => Way::Fault(31),
+        _ => Way::Off,
     }
 }
 
@@ -63,9 +63,9 @@ pub fn set_register(
     arm: u64,
     s: usize,
     v: u64,
-) -> Course
-    requires { CanSet code.now.cells.now code.now.code.now registers.old.nums registers.old.kinds depth pc arm s v }
-    ensures { (interval : ℕ) → SetsBy (context_of code.now.cells.now code.now.words.now interval depth) 1 arm result (get_or code.now.code.now (pc + 1) 0) s v
+) -> Way
+    requires { CanSet code.now.program.cells.now code.now.code.now registers.old.nums registers.old.kinds depth pc arm s v }
+    ensures { (interval : ℕ) → SetsBy (context_of code.now.program.cells.now code.now.words.now interval depth) 1 arm result (get_or code.now.code.now (pc + 1) 0) s v
         registers.old registers.new }
 {
     match arm {
@@ -78,13 +78,7 @@ pub fn set_register(
         39 => of_registers::<Order>(registers, code.register_at(pc), s, v as usize),
         40 => of_registers::<Sameness>(registers, code.register_at(pc), s, v as usize),
         41 => fetch_register(code.words, registers, code.register_at(pc), v as usize),
-        43 => allocate_register(
-            code.cells,
-            registers,
-            depth,
-            code.register_at(pc),
-            v as usize,
-        ),
+        43 => allocate_register(code, registers, depth, code.register_at(pc), v as usize),
         _ => set_immediate(code, registers, depth, pc, arm, s, v),
     }
 }

@@ -26,8 +26,8 @@ pub fn end_at(depth: u32, status: Status) -> End
 }
 
 // How the job has ended, read off slot 0.
-pub fn end_of(m: State) -> End
-    ensures { result ≡ ending m }
+pub fn end_of(m: &State) -> End
+    ensures { result ≡ ending m.now }
 {
     let t = m.tasks[0];
     end_at(t.depth, t.status)

@@ -11,7 +11,7 @@ use task::{Register, Task};
 
 // Slot k has tasks[k], the 16 registers of bank from 16·k on and the 32 values of stacks from 32·k on. Whether the job has ended, and how, is
 // read off slot 0.
-#[derive(Clone, Copy)]
+#[derive(Clone, Copy, Debug, PartialEq, Eq)]
 pub struct State {
     pub places: u64,
     pub interval: u16,
@@ -21,7 +21,8 @@ pub struct State {
     pub tasks: [Task; 64],
 }
 
-// How a job has ended: by halt, or by a fault with its number.
+// How a job has ended: by halt, or by a fault with its number. Not an Option: `end_at`, `is_end` and `end_number`, which may not change,
+// have the three as cases.
 #[derive(Clone, Copy, Debug, PartialEq, Eq)]
 pub enum End {
     NotEnded,

@@ -35,7 +35,7 @@ pub fn drive(
 {
     let before = state.work;
     let mut p = Position::nowhere(0, before);
-    // the joins that may be due
+    // the depth whose join may be due: no Option, since it counts down to 0, which no fork makes
     let mut due: u32 = 0;
     let mut side = 0usize;
     loop {

@@ -8,9 +8,9 @@ use task::running::is_running;
 use task::{Fork, Frame, Register, Status, Task, Value};
 
 // Our own crates alone call it, with a slot below the state's 64.
-pub fn frame_at(m: State, k: usize) -> Frame
+pub fn frame_at(m: &State, k: usize) -> Frame
     requires { k < 64 }
-    ensures { result ≡ at m k }
+    ensures { result ≡ at m.now k }
 {
     let mut registers = [Register {
         value: Value::Int(0),

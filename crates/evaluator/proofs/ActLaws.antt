@@ -7,6 +7,7 @@ use native.Mathlib.Omega.{arith}
 use lib.IntN.{ℤ}
 use Rattle.facts.proofs.Tests.{by_order}
 use Rattle.image.specs.Layout.{instruction_of, program_of}
+use Rattle.image.specs.Questions.{program_no}
 use Rattle.agreement.specs.Plain.{one, two, Rules}
 use Rattle.serial.specs.Serial.{to_come, held, onward, run}
 use Rattle.serial.proofs.Equations.{onward-runs}
@@ -30,7 +31,6 @@ use Rattle.arms.specs.declared.Pile.{Pile}
 use Rattle.evaluator.specs.declared.Rows.{Rows}
 use Rattle.arms.specs.Registers.{Sized}
 use Rattle.evaluator.specs.Banks.{bank_of, forks_of, Nested}
-use Rattle.arms.specs.Code.{Decodes}
 use Rattle.arms.specs.Stacks.{Stacked, stack_of}
 use Rattle.arms.specs.Turns.{frame_at, rules, executed_of, Starts, RunsUntil}
 use Rattle.evaluator.specs.Sides.{Good, CanStep, made_of}
@@ -66,9 +66,8 @@ module _ (cells : List ℕ) (words : List ℤ) (interval : ℕ) (h : Hand) (rows
 
   -- ---- by itself
 
-  pub starts : (code : List ℕ) → Decodes cells code
-      → Starts cells code rows.registers.nums rows.registers.kinds rows.pile.nums rows.pile.kinds h.places h.depth h.left h.beat h.pc h.low h.height
-  starts code d = record {
+  pub starts : Starts cells rows.registers.nums rows.registers.kinds rows.pile.nums rows.pile.kinds h.places h.depth h.left h.beat h.pc h.low h.height
+  starts = record {
     rank = p.rank;
     height = p.height;
     forks = forks_of rows.records h.depth;
@@ -80,8 +79,6 @@ module _ (cells : List ℕ) (words : List ℤ) (interval : ℕ) (h : Hand) (rows
       tags_full = p.full.tags_full;
       low_most = omega (arith, p.piled.own_low, low_most rows.sides h.depth, formed-here.has_depth, p.room);
     };
-    accepted_program = p.accepted_program;
-    decodes = d;
     sized = p.full.sized;
     on_place = p.on_place;
     inside_program = formed-here.pc_below;
@@ -135,7 +132,6 @@ module _ (cells : List ℕ) (words : List ℤ) (interval : ℕ) (h : Hand) (rows
       point = record {
         rank = p.rank;
         height = p.height;
-        accepted_program = p.accepted_program;
         room = p.room;
         limited = omega (arith, t.runs.fewer, p.limited);
         own_good = good-after;
@@ -176,7 +172,6 @@ module _ (cells : List ℕ) (words : List ℤ) (interval : ℕ) (h : Hand) (rows
       height = p.height;
       before = work_limit - h.left;
       stack = own_stack.values;
-      accepted_program = p.accepted_program;
       room = p.room;
       below_limit = omega (arith, some);
       good = good;
@@ -186,7 +181,7 @@ module _ (cells : List ℕ) (words : List ℤ) (interval : ℕ) (h : Hand) (rows
     pub height_most : h.height ≤ 32
     height_most = formed-here.height_most
 
-    module _ (e : Executed) (ee : e ≡ executed_of (program_of cells) words (chosen interval) f) (r : ℕ) (er : r ≡ (instruction_of cells (h.pc / 4)).r) where
+    module _ (accept : program_no cells ≡ 0) (e : Executed) (ee : e ≡ executed_of (program_of cells) words (chosen interval) f) (r : ℕ) (er : r ≡ (instruction_of cells (h.pc / 4)).r) where
       made_of_lem : (k : Kind) (n : ℕ) (d : Executed) → made_by k f n d ≡ made_of k f n d
       made_of_lem Stores n d = refl
       made_of_lem Goes n d = refl
@@ -206,7 +201,7 @@ module _ (cells : List ℕ) (words : List ℤ) (interval : ℕ) (h : Hand) (rows
 
       pub fork_room : e.kind ≡ Forks → h.depth < 6
       fork_room k =
-          let g = two_good cells words interval f h.left some p.limited refl p.accepted_program p.rank p.height p.room good _ _
+          let g = two_good cells words interval f h.left some p.limited refl accept p.rank p.height p.room good _ _
           (steps-to ∙ ap (λ y. made_of y f r e) k) in
           omega (arith, formed-here.has_depth, p.room, g.1)
 
@@ -238,13 +233,12 @@ module _ (cells : List ℕ) (words : List ℤ) (interval : ℕ) (h : Hand) (rows
             let s = pending_from (kept_frame rows) h.depth in
             let g : Good cells p.rank p.height (work_limit - z.left) (hand_frame z rows') =
             subst (λ n. Good cells p.rank p.height (work_limit - n) (hand_frame z rows')) (sym a.less)
-            (one-good cells words interval f h.left some p.limited refl p.accepted_program p.rank p.height p.room good (hand_frame z rows') st) in
+            (one-good cells words interval f h.left some p.limited refl accept p.rank p.height p.room good (hand_frame z rows') st) in
             let d : z.depth ≡ h.depth = omega (arith, formed-here.has_depth, good_depth cells p.rank p.height (work_limit - z.left) (hand_frame z rows') g) in
             record {
               point = record {
                 rank = p.rank;
                 height = p.height;
-                accepted_program = p.accepted_program;
                 room = p.room;
                 limited = omega (arith, a.less, p.limited);
                 own_good = g;
@@ -275,7 +269,7 @@ module _ (cells : List ℕ) (words : List ℤ) (interval : ℕ) (h : Hand) (rows
             let child-place : (kept_of rows'.sides h.depth).pc ≡ 4 * ((kept_of rows'.sides h.depth).pc / 4) = omega (arith, q) in
             let s = pending_from (kept_frame rows) h.depth in
             let c = kept_frame rows' h.depth in
-            let t = two_good cells words interval f h.left some p.limited refl p.accepted_program p.rank p.height p.room good (hand_frame z rows') c st in
+            let t = two_good cells words interval f h.left some p.limited refl accept p.rank p.height p.room good (hand_frame z rows') c st in
             let g : Good cells p.rank t.0 (work_limit - z.left) (hand_frame z rows') =
             subst (λ n. Good cells p.rank t.0 (work_limit - n) (hand_frame z rows')) (sym a.less) t.2 in
             let gc : Good cells p.rank t.0 (work_limit - z.left) c = subst (λ n. Good cells p.rank t.0 (work_limit - n) c) (sym a.less) t.3 in
@@ -285,7 +279,6 @@ module _ (cells : List ℕ) (words : List ℤ) (interval : ℕ) (h : Hand) (rows
               point = record {
                 rank = p.rank;
                 height = t.0;
-                accepted_program = p.accepted_program;
                 room = p.room;
                 limited = omega (arith, a.less, p.limited);
                 own_good = g;

@@ -11,6 +11,7 @@ use lib.IntN.{ℤ}
 use lib.ListN.{length, get_or, set, length-set}
 use borrow.Author.Tests.{eqb-true, lt-ltb}
 use Rattle.facts.proofs.Tests.{clash, both_true, by_order}
+use Rattle.image.specs.Questions.{program_no}
 use Rattle.image.specs.Layout.{version_of, block_count, block_of, program_of}
 use Rattle.agreement.specs.Plain.{Rules}
 use Rattle.serial.specs.Serial.{onward, run}
@@ -227,7 +228,6 @@ module _ (cells : List ℕ) (h : Hand) (rows : Rows) (p : Point cells h rows) (e
             point = record {
               rank = p.rank;
               height = p.height;
-              accepted_program = p.accepted_program;
               room = p.room;
               limited = p.limited;
               own_good = subst (Good cells p.rank p.height (work_limit - h.left)) (sym now_own) other-good;
@@ -328,7 +328,7 @@ module _ (cells : List ℕ) (h : Hand) (rows : Rows) (p : Point cells h rows) (e
         ∙ ap (λ (x : Fork). joined_by none (program_of cells) x.continuation (kept_frame rows d) (hand_frame h rows)) (sym innermost)
         ∙ ap (λ o. joined_by o (program_of cells) (get_or (forks_of rows.records (d + 1)) (d + 1 - 1) zero_fork).continuation (kept_frame rows d) (hand_frame h rows)) (sym first)
 
-    module _ (both : k.status ≡ Running → ⊥) (words : List ℤ) (interval : ℕ) (n : Status) (pc height : ℕ) (on : pc ≡ 4 * (pc / 4)) (g : Registers) (sized : Sized g.nums g.kinds)
+    module _ (accept : program_no cells ≡ 0) (both : k.status ≡ Running → ⊥) (words : List ℤ) (interval : ℕ) (n : Status) (pc height : ℕ) (on : pc ≡ 4 * (pc / 4)) (g : Registers) (sized : Sized g.nums g.kinds)
         (is_join : hand_frame (joined_of h k n pc height) (with_own rows g rows.pile) ≡ join (program_of cells) (kept_frame rows d) (hand_frame h rows)) where
       abbrev joint : Rows
       joint = with_own rows g rows.pile
@@ -343,11 +343,10 @@ module _ (cells : List ℕ) (h : Hand) (rows : Rows) (p : Point cells h rows) (e
             point = record {
               rank = p.rank;
               height = suc p.height;
-              accepted_program = p.accepted_program;
               room = p.room;
               limited = p.limited;
               own_good = subst (Good cells p.rank (suc p.height) (work_limit - h.left)) (sym is_join)
-                  (join-good cells words interval p.accepted_program p.rank p.height (work_limit - h.left) p.room (omega (arith, deep, formed_own.has_depth))
+                  (join-good cells words interval accept p.rank p.height (work_limit - h.left) p.room (omega (arith, deep, formed_own.has_depth))
                   (kept_frame rows d) (hand_frame h rows) other-good p.own_good);
               kept_good = λ i l. subst (Good cells p.rank (p.rank - (i + 1)) (work_limit - h.left)) (sym (same i (omega (arith, l, x)))) (p.kept_good i (omega (arith, l, deep)));
               full = record {

@@ -11,7 +11,8 @@ use borrow.Author.Tests.{eqb-true, ltb-true}
 use Rattle.facts.proofs.Tests.{both_true}
 use Rattle.image.specs.declared.Instruction.{Instruction}
 use Rattle.image.specs.Program.{Program}
-use Rattle.image.specs.Layout.{block_count, instruction_of, program_of}
+use Rattle.image.specs.Layout.{block_count, instruction_count, instruction_of, program_of}
+use Rattle.image.specs.Questions.{program_no}
 use Rattle.image.proofs.Accepted.{accepted, Accepted, InstructionAccepted}
 use Rattle.task.specs.declared.Value.{Value}
 use Rattle.task.specs.declared.Value.TheVariants.{Label, Record}
@@ -28,11 +29,21 @@ use Rattle.task.specs.Step.{register, operand, active_of, promotes}
 use Rattle.task.specs.Execute.{going, ending, entering, counted_active, answered, executed}
 use Rattle.task.proofs.Formation.{Formed, formed_is}
 use Rattle.task.proofs.StepKeeps.{operand-fits}
+use Rattle.arms.specs.declared.Way.{Way}
+use Rattle.arms.specs.declared.Way.TheVariants.{On, Off, Fault}
+use Rattle.arms.specs.Arms.{IfOn, IfOff}
 use Rattle.arms.specs.Registers.{value_of, registers_of, Sized, operand_by}
 use Rattle.arms.specs.Turns.{executed_of}
 use Rattle.evaluator.specs.Banks.{bank_of}
 use Rattle.evaluator.specs.Sides.{Side, frame_of, CanStep}
 use Rattle.arms.proofs.RegisterLaws.{value-at}
+
+-- ---- the instruction is left to others, where it is no fault and the task does not go on
+
+pub left_in : (way : Way) (P : Type 0) → IfOn way ⊥ → ((n : ℕ) → way ≡ Fault n → ⊥) → IfOff way P → P
+left_in On P q f h = absurd q
+left_in Off P q f h = h
+left_in (Fault n) P q f h = absurd (f n refl)
 
 -- ---- the operand by its kind, as two numbers
 
@@ -82,7 +93,7 @@ target_enters program choices b t h =
 
 -- ---- the instruction of a running task
 
-module _ (cells : List ℕ) (own : Side) (can : CanStep cells own) where
+module _ (cells : List ℕ) (accept : program_no cells ≡ 0) (own : Side) (can : CanStep cells own) where
   abbrev g : Frame
   g = frame_of own can.stack
 
@@ -90,10 +101,13 @@ module _ (cells : List ℕ) (own : Side) (can : CanStep cells own) where
   its = formed_is (program_of cells) can.rank can.height g can.good.its_is_formed
 
   pub ok : Accepted cells
-  ok = accepted cells can.accepted_program
+  ok = accepted cells accept
+
+  pub pc_below : own.task.pc < instruction_count cells
+  pc_below = its.pc_below
 
   pub here : InstructionAccepted cells own.task.pc
-  here = ok.instruction own.task.pc its.pc_below
+  here = ok.instruction own.task.pc pc_below
 
   pub place-below : own.task.pc < 1024
   place-below = omega (arith, its.pc_below, ok.few_instructions)

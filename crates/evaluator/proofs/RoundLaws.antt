@@ -11,6 +11,7 @@ use borrow.Author.Tests.{eqb-true, eqb-false, ltb-true}
 use Rattle.facts.proofs.Tests.{clash, both_true}
 use Rattle.image.specs.Program.{Program}
 use Rattle.image.specs.Layout.{version_of, program_of}
+use Rattle.image.specs.Questions.{program_no}
 use Rattle.image.proofs.Accepted.{accepted}
 use Rattle.agreement.specs.Plain.{eval}
 use Rattle.serial.specs.Serial.{onward, spent, done, run, within_budget}
@@ -127,7 +128,7 @@ start_full registers sized = record {
     all (suc (suc (suc (suc (suc zero))))) l = (refl, refl)
     all (suc (suc (suc (suc (suc (suc d)))))) l = absurd (omega (arith, l))
 
-module _ (cells code : List ℕ) (places budget : ℕ) (rows : Rows) (can : CanEvaluate cells code places budget rows.registers.nums rows.registers.kinds) (full : Full rows) where
+module _ (cells : List ℕ) (accept : program_no cells ≡ 0) (places budget : ℕ) (rows : Rows) (can : CanEvaluate cells places budget rows.registers.nums rows.registers.kinds) (full : Full rows) where
   abbrev first : Hand
   first = first_hand places budget
 
@@ -148,7 +149,7 @@ module _ (cells code : List ℕ) (places budget : ℕ) (rows : Rows) (can : CanE
     stack_full = refl;
     has_places = can.all_places;
     has_depth = omega arith;
-    pc_below = (accepted cells can.base.accepted_program).some_instruction;
+    pc_below = (accepted cells accept).some_instruction;
     its_status_fits = refl;
     its_forks_fit = λ i p. every-at (λ i. fork_fits (program_of cells) (ltb i 0) (get_or no_forks i zero_fork)) 6 0 (none-fit (program_of cells)) i (omega arith) (omega arith);
     values_fit = can.values_fit;
@@ -160,7 +161,6 @@ module _ (cells code : List ℕ) (places budget : ℕ) (rows : Rows) (can : CanE
   start_point e = subst (λ z. Point cells z rows) (sym e) (record {
     rank = can.rank;
     height = can.rank;
-    accepted_program = can.base.accepted_program;
     room = can.base.room;
     limited = can.base.limited;
     own_good = subst (Good cells can.rank can.rank (work_limit - budget)) (sym first_is)

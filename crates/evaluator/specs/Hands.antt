@@ -2,7 +2,6 @@
 -- (`Kept`), a bank and a stretch: what they mean as frames, and as a point of `serial`'s run.
 use Rattle.std.specs.Prelude.{◌≡◌, Bool, true, cond, List, [], ◌∷◌, ℕ, zero, suc, ◌+◌, ◌*◌, ◌-◌, ◌/◌, ◌^◌, ◌<◌, ◌≤◌, max, eqb, ℤ, length, get_or, set}
 use Rattle.image.specs.Layout.{program_of}
-use Rattle.image.specs.Questions.{program_no}
 use Rattle.agreement.specs.Plain.{Stepped, one, two}
 use Rattle.serial.specs.Serial.{Pending, onward, Outcome, spent, done, run}
 use Rattle.task.specs.declared.Register.{Register}
@@ -25,6 +24,7 @@ use Rattle.evaluator.specs.declared.Finished.{Finished}
 use Rattle.arms.specs.Registers.{value_of, registers_of, Sized, in_register}
 use Rattle.evaluator.specs.Banks.{bank_of, no_bank, bank_at, fork_of, forks_of, Nested}
 use Rattle.arms.specs.Stacks.{Stacked, stack_of}
+use Rattle.arms.specs.Arms.{IfOn}
 use Rattle.arms.specs.Turns.{rules, Ends}
 use Rattle.evaluator.specs.Sides.{Side, frame_of, open_of, Base, Good, made_of}
 
@@ -113,7 +113,6 @@ pub record Piled (h : Hand) (sides : List Kept) : Type 0 where
 pub record Point (cells : List ℕ) (h : Hand) (r : Rows) : Type 0 where
   pub rank : ℕ
   pub height : ℕ
-  pub accepted_program : program_no cells ≡ 0
   pub room : rank ≤ 6
   pub limited : h.left ≤ work_limit
   pub own_good : Good cells rank height (work_limit - h.left) (hand_frame h r)
@@ -144,13 +143,13 @@ first_hand places budget =
 
 -- ---- One instruction
 
--- where a running task's instructions by itself end: the budget is used up (0), or there is one that it does not carry out by itself
+-- where a running task's instructions by itself end: the budget is used up, or there is one that it does not carry out by itself
 pub record Rests (cells : List ℕ) (words : List ℤ) (interval : ℕ) (h : Hand) (z : Ran) (registers : List Register) : Type 0 where
   pub still_runs : z.hand.status ≡ Running
   pub fewer : z.hand.left ≤ h.left
-  pub when_spent : z.what ≡ 0 → z.hand.left ≡ 0
-  pub when_not : (z.what ≡ 0 → ⊥) → (0 < z.hand.left)
-      × Ends cells words interval z.hand.places z.hand.depth z.what (z.hand.pc / 4) (z.hand.beat - z.hand.left) registers
+  pub when_spent : IfOn z.way (z.hand.left ≡ 0)
+  pub when_not : IfOn z.way ⊥ → (0 < z.hand.left)
+      × Ends cells words interval z.hand.places z.hand.depth z.way (z.hand.pc / 4) (z.hand.beat - z.hand.left) registers
 
 -- the task in hand, where it runs
 abbrev pub hand_side : Hand → List ℕ → Registers → Side
@@ -317,9 +316,9 @@ abbrev pub weight : Hand → ℕ
 weight h = 16 * h.left + (2 * h.depth + ended_by h.status)
 
 -- what an evaluation may rest on: the job's 2 ^ rank places, its first registers
-pub record CanEvaluate (cells code : List ℕ) (places budget : ℕ) (nums kinds : List ℕ) : Type 0 where
+pub record CanEvaluate (cells : List ℕ) (places budget : ℕ) (nums kinds : List ℕ) : Type 0 where
   pub rank : ℕ
-  pub base : Base cells code rank budget
+  pub base : Base rank budget
   pub all_places : places ≡ 2 ^ rank
   pub values_fit : (i : ℕ) → value_fits (program_of cells) (in_register i (registers_of nums kinds)) ≡ true
 

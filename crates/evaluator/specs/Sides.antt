@@ -2,7 +2,6 @@
 -- instruction, whatever it is.
 use Rattle.std.specs.Prelude.{◌≡◌, Bool, true, false, cond, List, ℕ, ◌<◌, ◌≤◌, set}
 use Rattle.image.specs.Layout.{program_of}
-use Rattle.image.specs.Questions.{program_no}
 use Rattle.agreement.specs.Plain.{Stepped, one, two}
 use Rattle.serial.specs.Serial.{Open, to_come, finished}
 use Rattle.task.specs.declared.Register.{Register}
@@ -17,7 +16,6 @@ use Rattle.task.specs.Values.{record_of}
 use Rattle.task.specs.Formed.{formed, within}
 use Rattle.task.specs.Step.{counted, moved_to, ended, side, with_task, emptied, faulted, has_place, has_value, pushed, popped}
 use Rattle.arms.specs.declared.Registers.{Registers}
-use Rattle.arms.specs.Code.{Decodes}
 use Rattle.evaluator.specs.Banks.{bank_of}
 
 pub record Side : Type 0 where
@@ -39,10 +37,8 @@ open_of f = open_by (running f) f
 
 -- ---- Live tasks
 
--- the job: an accepted program, decoded, 2 ^ D places, a budget that no count overruns
-pub record Base (cells code : List ℕ) (D budget : ℕ) : Type 0 where
-  pub accepted_program : program_no cells ≡ 0
-  pub decodes : Decodes cells code
+-- the job: 2 ^ D places, a budget that no count overruns
+pub record Base (D budget : ℕ) : Type 0 where
   pub room : D ≤ 6
   pub limited : budget ≤ work_limit
 
@@ -59,7 +55,6 @@ pub record CanStep (cells : List ℕ) (own : Side) : Type 0 where
   pub height : ℕ
   pub before : ℕ
   pub stack : List Register
-  pub accepted_program : program_no cells ≡ 0
   pub room : rank ≤ 6
   pub below_limit : before < work_limit
   pub good : Good cells rank height before (frame_of own stack)

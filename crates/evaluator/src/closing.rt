@@ -1,29 +1,17 @@
 // The task in hand has ended its side of a fork: the other side's turn, or the join of both.
 ghost use Rattle.std.specs.Prelude.{◌≡◌, List, ℕ, ◌-◌, ◌<◌, ◌≤◌, ℤ};
 ghost use Rattle.task.specs.declared.Status.TheVariants.{Running};
-ghost use Rattle.task.specs.Frames.{fault_of};
-ghost use Rattle.task.specs.Step.{first_fault};
-ghost use Rattle.task.specs.Execute.{status_by};
 ghost use Rattle.evaluator.specs.Banks.{Exchanged};
 ghost use Rattle.evaluator.specs.Hands.{kept_of, Keeps, Point, LeadsTo, side_of, other_of, joined_of};
 
 use crate::{Hand, Kept, Rows};
-use image::layout;
+use image::program::Program;
 use task::Status;
-
-// The parent's fault if it has one, else the child's; without a fault the joined task runs.
-fn first_fault(parent: Status, child: Status) -> Status
-    ensures { result ≡ status_by (first_fault (fault_of parent) (fault_of child)) }
-{
-    match (parent, child) {
-        (Status::Faulted(n), _) | (_, Status::Faulted(n)) => Status::Faulted(n),
-        _ => Status::Running,
-    }
-}
+use task::joining::joined_status;
 
 impl Hand {
     // The side that is kept at the innermost fork, the child's, is taken in hand, and the parent's kept: the child's stack lies above the parent's.
-    // `evaluate` alone calls it, and ensures by `Point` what it requires.
+    // `advance` alone calls it, and ensures by `Point` what it requires.
     pub fn take_child(self, rows: &mut Rows) -> Hand
         requires { (0 < self.depth) × (self.depth ≤ 6) × (self.left ≤ self.spun) × (self.left ≤ 4294967295) ×
             ((kept_of rows.old.sides (self.depth - 1)).span ≤ 4294967295) × (self.low ≤ 192) }
@@ -75,21 +63,21 @@ impl Hand {
         }
     }
 
-    // Both sides have ended, the parent's is the kept one: their join is taken in hand, with the parent's stack. `evaluate` alone calls it.
-    pub fn join_parent(self, cells: &[u64], rows: &mut Rows) -> Hand
-        requires { Point cells.now self rows.old × (self.status ≡ Running → ⊥) × (0 < self.depth) × ((kept_of rows.old.sides (self.depth - 1)).status ≡ Running → ⊥) }
+    // Both sides have ended, the parent's is the kept one: their join is taken in hand, with the parent's stack. `advance` alone calls it.
+    pub fn join_parent(self, program: &Program, rows: &mut Rows) -> Hand
+        requires { Point program.now.cells.now self rows.old × (self.status ≡ Running → ⊥) × (0 < self.depth) × ((kept_of rows.old.sides (self.depth - 1)).status ≡ Running → ⊥) }
         ensures depth_lt_depth { (result.depth < self.depth) × (result.left ≡ self.left) }
-        ensures leads_to { (words : List ℤ) (interval : ℕ) → LeadsTo cells.now words interval self rows.old result rows.new }
+        ensures leads_to { (words : List ℤ) (interval : ℕ) → LeadsTo program.now.cells.now words interval self rows.old result rows.new }
     {
         let at = (self.depth - 1) as usize;
         let k = rows.sides[at];
-        let status = first_fault(k.status, self.status);
+        let status = joined_status(k.status, self.status);
         if let Status::Faulted(_) = status {
             return self.joined(k, status, 0, 0);
         }
         let b = (rows.records[at] / 4294967296) as usize;
-        let block = layout::block_of(cells, b);
-        let first = layout::first_of(cells, block.label as usize) as usize;
+        let block = program.block(b);
+        let first = program.first(block.label as usize) as usize;
         rows.join_registers(at, block.pairs, block.packed);
         self.joined(k, status, 4 * first, k.height)
     }

@@ -1,18 +1,19 @@
 // The instruction that the task in hand does not carry out by itself: a fault that its arm has found, or fork, join, halt, push or pop. Of the last
 // two the loop leaves those for which there is no place or no value; nothing here rests on that.
 ghost use Rattle.std.specs.Prelude.{◌≡◌, true, List, ℕ, ◌-◌, ◌/◌, ◌<◌, ◌≤◌, ℤ};
-ghost use Rattle.image.specs.Program.{Program};
+ghost use Rattle.image.specs.Program.{Program as SpecProgram};
 ghost use Rattle.image.specs.Layout.{program_of};
-ghost use Rattle.image.specs.Questions.{most_instructions, program_no};
+ghost use Rattle.image.specs.Questions.{most_instructions};
 ghost use Rattle.task.specs.declared.Value.{Value};
 ghost use Rattle.task.specs.declared.Register.{Register};
 ghost use Rattle.task.specs.declared.Fork.{Fork};
 ghost use Rattle.task.specs.Choices.{Choices, chosen};
-ghost use Rattle.task.specs.Effect.{fork, halt, meet, push};
+ghost use Rattle.task.specs.Effect.{fork, meet, push};
 ghost use Rattle.task.specs.Formed.{value_fits};
 ghost use Rattle.task.specs.Execute.{answered};
 ghost use Rattle.arms.specs.Registers.{value_of, operand_by};
 ghost use Rattle.evaluator.specs.Banks.{bank_of, forks_of, Nested};
+ghost use Rattle.arms.specs.Arms.{IfOn};
 ghost use Rattle.arms.specs.Turns.{executed_of, Ends};
 ghost use Rattle.evaluator.specs.Sides.{frame_of, CanStep};
 ghost use Rattle.evaluator.specs.Hands.{hand_side};
@@ -20,8 +21,10 @@ ghost use Rattle.evaluator.specs.Hands.{hand_side};
 use crate::fitting::does_fit;
 use crate::{Hand, Rows};
 use arms::rows::value_of;
-use arms::{Code, Pair, Registers};
-use image::{Instruction, layout};
+use arms::{Code, Pair, Registers, Way};
+use image::Instruction;
+use image::program::Program;
+use task::control::halt;
 use task::{Active, Executed, Kind, Value, results};
 
 // The operand's kind and bits.
@@ -48,12 +51,12 @@ fn operand_pair(registers: &Registers, x: Instruction) -> Pair
     }
 }
 
-// Opcode 12, of a task that has counted it: a record s that fits, a label v, two places. `ending` alone calls these four, with the values
+// Opcode 12, of a task that has counted it: a record s that fits, a label v, two places. `ending` alone calls these three, with the values
 // of a well-formed task.
-fn fork_under(cells: &[u64], records: &[u64; 6], s: Pair, v: Pair, t: Active) -> Executed
-    requires { (program_no cells.now ≡ 0) × (value_fits (program_of cells.now) (value_of v.kind v.num) ≡ true) × (t.pc < most_instructions) × (t.depth ≤ 6)
+fn fork_under(program: &Program, records: &[u64; 6], s: Pair, v: Pair, t: Active) -> Executed
+    requires { (value_fits (program_of program.now.cells.now) (value_of v.kind v.num) ≡ true) × (t.pc < most_instructions) × (t.depth ≤ 6)
         × Nested records.now t.depth }
-    ensures { (w : List ℤ) (c : Choices) → result ≡ answered (program_of cells.now) w c (value_of s.kind s.num) (value_of v.kind
+    ensures { (w : List ℤ) (c : Choices) → result ≡ answered (program_of program.now.cells.now) w c (value_of s.kind s.num) (value_of v.kind
         v.num) t (forks_of records.now t.depth) fork }
 {
     if s.kind < 2 {
@@ -69,7 +72,7 @@ fn fork_under(cells: &[u64], records: &[u64; 6], s: Pair, v: Pair, t: Active) ->
     if t.places < 2 {
         return results::fault(37);
     }
-    let child = layout::first_of(cells, v.num as usize) as u16;
+    let child = program.first(v.num as usize) as u16;
     Executed {
         kind: Kind::Forks,
         value: Value::Record((under / 4294967296) as u32, (under % 4294967296) as u32),
@@ -81,10 +84,10 @@ fn fork_under(cells: &[u64], records: &[u64; 6], s: Pair, v: Pair, t: Active) ->
 }
 
 // Opcode 15, likewise: to the continuation, which is a join target and so never promotes; or the task waits.
-fn meet_under(cells: &[u64], records: &[u64; 6], v: Pair, t: Active) -> Executed
-    requires { (program_no cells.now ≡ 0) × (value_fits (program_of cells.now) (value_of v.kind v.num) ≡ true) × (t.depth ≤ 6)
+fn meet_under(program: &Program, records: &[u64; 6], v: Pair, t: Active) -> Executed
+    requires { (value_fits (program_of program.now.cells.now) (value_of v.kind v.num) ≡ true) × (t.depth ≤ 6)
         × Nested records.now t.depth }
-    ensures { (w : List ℤ) (interval : ℕ) (s : Value) → result ≡ answered (program_of cells.now) w (chosen interval) s (value_of v.kind
+    ensures { (w : List ℤ) (interval : ℕ) (s : Value) → result ≡ answered (program_of program.now.cells.now) w (chosen interval) s (value_of v.kind
         v.num) t (forks_of records.now t.depth) meet }
 {
     if v.kind < 2 {
@@ -98,23 +101,13 @@ fn meet_under(cells: &[u64], records: &[u64; 6], v: Pair, t: Active) -> Executed
         return results::end(Kind::Waits, 0);
     }
     let b = (under / 4294967296) as usize;
-    results::go(layout::first_of(cells, b) as u16, t.counter)
-}
-
-// Opcode 14, likewise: no open fork at halt.
-fn halt_at(t: Active) -> Executed
-    ensures { (p : Program) (w : List ℤ) (c : Choices) (s v : Value) (o : List Fork) → result ≡ answered p w c s v t o halt }
-{
-    if t.depth != 0 {
-        return results::fault(38);
-    }
-    results::end(Kind::Halts, 0)
+    results::go(program.first(b) as u16, t.counter)
 }
 
 // Opcode 16, likewise: whether there is a place on the stack `apply` asks.
 fn push_of(v: Pair, t: Active) -> Executed
     requires { (v.kind ≡ 1 → v.num < 4294967296) × (t.pc < most_instructions) }
-    ensures { (p : Program) (w : List ℤ) (c : Choices) (s : Value) (o : List Fork) → result ≡ answered p w c s (value_of v.kind v.num) t o push }
+    ensures { (p : SpecProgram) (w : List ℤ) (c : Choices) (s : Value) (o : List Fork) → result ≡ answered p w c s (value_of v.kind v.num) t o push }
 {
     let value = value_of(v.kind, v.num);
     results::pass(Kind::Pushes, value, t)
@@ -123,18 +116,18 @@ fn push_of(v: Pair, t: Active) -> Executed
 impl Hand {
     // `act` alone calls it, and ensures `CanStep` and, by `Point`, `Nested`; `run_hand` ensures `Ends`. The call record and the interval are the
     // contract's: none of these instructions looks at them.
-    pub fn ending(self, code: &Code, what: u8, rows: &Rows) -> Executed
-        requires { CanStep code.now.cells.now (hand_side self rows.now.records rows.now.registers) × (self.left ≤ self.beat) × (what ≡ 0 → ⊥)
-            × Ends code.now.cells.now code.now.words.now code.now.interval self.places self.depth what (self.pc / 4) (self.beat - self.left) (bank_of rows.now.registers)
+    pub fn ending(self, code: &Code, way: Way, rows: &Rows) -> Executed
+        requires { CanStep code.now.program.cells.now (hand_side self rows.now.records rows.now.registers) × (self.left ≤ self.beat) × IfOn way ⊥
+            × Ends code.now.program.cells.now code.now.words.now code.now.interval self.places self.depth way (self.pc / 4) (self.beat - self.left) (bank_of rows.now.registers)
             × Nested rows.now.records self.depth }
-        ensures { (stack : List Register) → result ≡ executed_of (program_of code.now.cells.now) code.now.words.now (chosen code.now.interval)
+        ensures { (stack : List Register) → result ≡ executed_of (program_of code.now.program.cells.now) code.now.words.now (chosen code.now.interval)
             (frame_of (hand_side self rows.now.records rows.now.registers) stack) }
     {
-        if what != 1 {
-            return results::fault(what);
+        if let Way::Fault(n) = way {
+            return results::fault(n);
         }
         let at = self.pc / 4;
-        let x = layout::instruction_of(code.cells, at);
+        let x = code.program.instruction(at);
         let t = results::count(Active {
             places: self.places,
             pc: at as u16,
@@ -148,11 +141,11 @@ impl Hand {
         };
         let v = operand_pair(&rows.registers, x);
         match x.opcode {
-            12 => fork_under(code.cells, &rows.records, s, v, t),
-            15 => meet_under(code.cells, &rows.records, v, t),
+            12 => fork_under(&code.program, &rows.records, s, v, t),
+            15 => meet_under(&code.program, &rows.records, v, t),
             16 => push_of(v, t),
             17 => results::pass(Kind::Pops, Value::Int(0), t),
-            _ => halt_at(t),
+            _ => halt(t),
         }
     }
 }

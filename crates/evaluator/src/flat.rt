@@ -6,12 +6,11 @@ ghost use Rattle.serial.specs.Serial.{within_budget};
 ghost use Rattle.task.specs.declared.Status.TheVariants.{Running};
 ghost use Rattle.task.specs.Frames.{start_frame, work_limit};
 ghost use Rattle.arms.specs.Registers.{registers_of};
-ghost use Rattle.arms.specs.Code.{Decodes};
 ghost use Rattle.arms.specs.Turns.{rules};
 ghost use Rattle.evaluator.specs.Hands.{Point, LeadsTo, first_hand, over_by, weight, CanEvaluate, Finds, Closes};
 
 use crate::{Finished, Hand, Kept, Rows};
-use arms::{Code, Pile, Registers};
+use arms::{Code, Pile, Registers, Way};
 use task::Status;
 
 impl Hand {
@@ -43,29 +42,29 @@ impl Hand {
 
     // One round: a running task's instructions up to one that it does not carry out by itself, and that one; or what comes after the end of a side.
     fn advance(self, code: &Code, rows: &mut Rows) -> Hand
-        requires { Point code.now.cells.now self rows.old × Decodes code.now.cells.now code.now.code.now × (over_by self.status self.left self.depth ≡ false) }
+        requires { Point code.now.program.cells.now self rows.old × (over_by self.status self.left self.depth ≡ false) }
         ensures result_bound { weight result < weight self }
-        ensures leads_to { LeadsTo code.now.cells.now code.now.words.now code.now.interval self rows.old result rows.new }
+        ensures leads_to { LeadsTo code.now.program.cells.now code.now.words.now code.now.interval self rows.old result rows.new }
     {
         if let Status::Running = self.status {
             let ran = self.run_hand(code, rows);
-            if ran.what == 0 {
-                return ran.hand;
-            }
-            return ran.hand.act(code, ran.what, rows);
+            return match ran.way {
+                Way::On => ran.hand,
+                way => ran.hand.act(code, way, rows),
+            };
         }
         if let Status::Running = rows.sides[(self.depth - 1) as usize].status {
             return self.take_child(rows);
         }
-        self.join_parent(code.cells, rows)
+        self.join_parent(&code.program, rows)
     }
 }
 
 // All of them.
 fn run_all(code: &Code, first: Hand, rows: &mut Rows) -> Hand
-    requires { Point code.now.cells.now first rows.old × Decodes code.now.cells.now code.now.code.now }
+    requires { Point code.now.program.cells.now first rows.old }
     ensures depth_value { over_by result.status result.left result.depth ≡ true }
-    ensures leads_to { LeadsTo code.now.cells.now code.now.words.now code.now.interval first rows.old result rows.new }
+    ensures leads_to { LeadsTo code.now.program.cells.now code.now.words.now code.now.interval first rows.old result rows.new }
 {
     let mut hand = first;
     while !hand.is_over() {
@@ -74,15 +73,15 @@ fn run_all(code: &Code, first: Hand, rows: &mut Rows) -> Hand
     hand
 }
 
-// Our crates alone call it: with an accepted program decoded by `decode`, the job's places, its first registers, and a budget that is at most the
+// Our crates alone call it: with the job's places, its first registers, and a budget that is at most the
 // work's limit. It leaves the last task's registers, but for those of a faulted one, which are 16 integers 0; its stack is handed to nobody.
 pub fn evaluate(code: &Code, places: u64, budget: u64, registers: &mut Registers) -> Finished
-    requires { CanEvaluate code.now.cells.now code.now.code.now places budget registers.old.nums registers.old.kinds }
+    requires { CanEvaluate code.now.program.cells.now places budget registers.old.nums registers.old.kinds }
     ensures finds { Finds result registers.new.nums registers.new.kinds (within_budget budget (eval
-        (rules code.now.cells.now code.now.words.now code.now.interval) work_limit
+        (rules code.now.program.cells.now code.now.words.now code.now.interval) work_limit
         (start_frame places (registers_of registers.old.nums registers.old.kinds)))) }
     ensures left_value { result.status ≡ Running → result.left ≡ 0 }
-    ensures closes { Closes code.now.cells.now result registers.new.nums registers.new.kinds }
+    ensures closes { Closes code.now.program.cells.now result registers.new.nums registers.new.kinds }
 {
     let mut rows = Rows {
         // Row by row: the proof takes their lengths from reading them.

@@ -3,17 +3,16 @@ ghost use Rattle.std.specs.Prelude.{◌≡◌, ◌-◌, ◌/◌, ◌<◌, ◌≤
 ghost use Rattle.task.specs.Values.{record_of};
 ghost use Rattle.task.specs.declared.Status.TheVariants.{Running};
 ghost use Rattle.task.specs.declared.Kind.TheVariants.{Forks};
+ghost use Rattle.arms.specs.Arms.{IfOn};
 ghost use Rattle.arms.specs.Turns.{Starts, Ends};
 ghost use Rattle.evaluator.specs.Banks.{bank_of, fork_of};
 ghost use Rattle.evaluator.specs.Hands.{Keeps, Full, Piled, Point, LeadsTo, Rests};
 ghost use Rattle.evaluator.specs.Hands.{gone_on, ended_with, parent_of, child_of, Pushed, Popped, Applied};
 
 use crate::{Hand, Kept, Ran, Rows};
-use arms::rows::pair_of;
 use arms::stacking::{pop_to, push_on};
 use arms::turning::run_on;
-use arms::{Code, Going, Pile, Registers};
-use image::layout;
+use arms::{Code, Going, Pair, Pile, Registers, Way};
 use task::{Executed, Kind, Status, Value};
 
 // The record that a fork is opened under, as one number; no fork is opened under another value.
@@ -28,12 +27,12 @@ fn record_bits(v: Value) -> u64
 }
 
 impl Hand {
-    // The instructions by itself. `evaluate` alone calls it, with a running task.
+    // The instructions by itself. `advance` alone calls it, with a running task.
     pub fn run_hand(self, code: &Code, rows: &mut Rows) -> Ran
-        requires { Starts code.now.cells.now code.now.code.now rows.old.registers.nums rows.old.registers.kinds rows.old.pile.nums rows.old.pile.kinds
+        requires { Starts code.now.program.cells.now rows.old.registers.nums rows.old.registers.kinds rows.old.pile.nums rows.old.pile.kinds
             self.places self.depth self.left self.beat self.pc self.low self.height × (self.status ≡ Running) }
-        ensures rests { Rests code.now.cells.now code.now.words.now code.now.interval self result (bank_of rows.new.registers) }
-        ensures leads_to { Point code.now.cells.now self rows.old → LeadsTo code.now.cells.now code.now.words.now code.now.interval self rows.old result.hand
+        ensures rests { Rests code.now.program.cells.now code.now.words.now code.now.interval self result (bank_of rows.new.registers) }
+        ensures leads_to { Point code.now.program.cells.now self rows.old → LeadsTo code.now.program.cells.now code.now.words.now code.now.interval self rows.old result.hand
             rows.new }
     {
         let going = Going {
@@ -47,7 +46,7 @@ impl Hand {
         };
         let ran = run_on(code, &mut rows.registers, &mut rows.pile, going);
         Ran {
-            what: ran.what,
+            way: ran.way,
             hand: Hand {
                 status: Status::Running,
                 places: self.places,
@@ -138,7 +137,7 @@ impl Hand {
         requires { (self.low ≤ 192) × (0 < self.left) × (self.left ≤ 4294967295) }
         ensures { Pushed self e pile.old.nums pile.old.kinds result pile.new.nums pile.new.kinds }
     {
-        let p = pair_of(e.value);
+        let p = Pair::from(e.value);
         match push_on(pile, self.low, self.height, p.num, p.kind) {
             Some(height) => self.go_on(e.pc, e.counter, height),
             None => self.end_with(Status::Faulted(42), 0),
@@ -164,7 +163,7 @@ impl Hand {
     {
         match e.kind {
             Kind::Stores => {
-                let p = pair_of(e.value);
+                let p = Pair::from(e.value);
                 rows.registers.put(r as usize, p.num, p.kind);
                 self.go_on(e.pc, e.counter, self.height)
             }
@@ -178,16 +177,16 @@ impl Hand {
         }
     }
 
-    // The instruction that the task does not carry out by itself. `evaluate` alone calls it, with a running task and something left; `run_hand`
+    // The instruction that the task does not carry out by itself. `advance` alone calls it, with a running task and something left; `run_hand`
     // ensures `Ends`.
-    pub fn act(self, code: &Code, what: u8, rows: &mut Rows) -> Hand
-        requires { Point code.now.cells.now self rows.old × (self.status ≡ Running) × (0 < self.left) × (what ≡ 0 → ⊥)
-            × Ends code.now.cells.now code.now.words.now code.now.interval self.places self.depth what (self.pc / 4) (self.beat - self.left) (bank_of rows.old.registers) }
+    pub fn act(self, code: &Code, way: Way, rows: &mut Rows) -> Hand
+        requires { Point code.now.program.cells.now self rows.old × (self.status ≡ Running) × (0 < self.left) × IfOn way ⊥
+            × Ends code.now.program.cells.now code.now.words.now code.now.interval self.places self.depth way (self.pc / 4) (self.beat - self.left) (bank_of rows.old.registers) }
         ensures left_lt_left { result.left < self.left }
-        ensures leads_to { LeadsTo code.now.cells.now code.now.words.now code.now.interval self rows.old result rows.new }
+        ensures leads_to { LeadsTo code.now.program.cells.now code.now.words.now code.now.interval self rows.old result rows.new }
     {
-        let x = layout::instruction_of(code.cells, self.pc / 4);
-        let e = self.ending(code, what, rows);
+        let x = code.program.instruction(self.pc / 4);
+        let e = self.ending(code, way, rows);
         self.apply(x.r, e, rows)
     }
 }

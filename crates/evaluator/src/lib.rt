@@ -2,7 +2,7 @@
 // order is and proves that it finds what the plain evaluation finds.
 #![tactic(auto)]
 
-use arms::{Pile, Registers};
+use arms::{Pile, Registers, Way};
 use task::Status;
 
 mod banks;
@@ -27,10 +27,10 @@ pub struct Hand {
     pub height: u64,
 }
 
-// The task in hand after its instructions by itself, and what its next one is: the number of `Stopped`, of which `Ends` (crate arms) speaks.
+// The task in hand after its instructions by itself, and what its next one comes to, of which `Ends` (crate arms) speaks.
 #[derive(Clone, Copy)]
 pub struct Ran {
-    pub what: u8,
+    pub way: Way,
     pub hand: Hand,
 }
 

@@ -243,3 +243,10 @@ accepted cells e =
       block = λ b h. block_is cells b c.some_block (first-no_all (block_no cells) B 0 q.0 b (omega arith) (omega arith));
       instruction = λ i h. instruction_is cells i h (first-no_all (instruction_no cells) I 0 q.1 i (omega arith) (omega arith));
     }
+
+-- what the fields of an accepted program's records are read by
+pub block_stored : (cells : List ℕ) (b : ℕ) → program_no cells ≡ 0 → b < block_count cells → block_cell b + 6 ≤ length cells
+block_stored cells b e h = ((accepted cells e).block b h).is_stored
+
+pub instruction_stored : (cells : List ℕ) (i : ℕ) → program_no cells ≡ 0 → i < instruction_count cells → instruction_cell i + 5 ≤ length cells
+instruction_stored cells i e h = ((accepted cells e).instruction i h).is_stored

@@ -148,13 +148,6 @@ pub fn put_instruction(cells: &mut [u64], at: usize, x: Instruction)
     cells[at + 4] = x.operand;
 }
 
-// For crates above that widen a byte; this crate calls `u64::from`.
-pub fn wide(x: u8) -> u64
-    ensures { result ≡ x }
-{
-    u64::from(x)
-}
-
 // How many bytes a block record of the version has. Reader and writer work it out once.
 pub fn block_size(version: u64) -> usize
     ensures { result ≡ block_size version }

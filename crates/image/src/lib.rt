@@ -8,6 +8,7 @@ ghost use Rattle.image.specs.Refusals.{no_of};
 use refusal::Refusal;
 
 pub mod layout;
+pub mod program;
 pub mod questions;
 pub mod reader;
 pub mod refusal;

@@ -282,8 +282,8 @@ pub(crate) fn bounds_of(version: u64, blocks: u64) -> Bounds
     }
 }
 
-// Question 8, by comparing each field with its limit: no branch depends on which opcode it is, and 0, which
-// is none, has limits that nothing meets.
+// Question 8, by comparing each field with its limit. Of 1 to 17 no branch depends on which it is; 0, which is no opcode, has limits that
+// nothing meets.
 fn is_laid_out(bounds: &Bounds, x: Instruction) -> bool
     requires { Limited bounds.now.opcodes (blocks_by bounds.now.largest) bounds.now.largest }
     ensures { result ≡ laid_out bounds.now.opcodes (blocks_by bounds.now.largest) x }

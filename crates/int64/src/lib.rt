@@ -1,7 +1,7 @@
 // Signed numbers of 64 bits, in two's complement, and little-endian numbers in bytes.
 #![tactic(auto)]
 
-ghost use Rattle.std.specs.Prelude.{◌≡◌, ◌+◌, ◌*◌, ◌%◌, ◌^◌, ◌<◌, ◌≤◌, length, pos, ◌+ℤ◌, ◌-ℤ◌, ◌*ℤ◌, ◌≢◌, int_div, int_lt, int_rem};
+ghost use Rattle.std.specs.Prelude.{◌≡◌, ◌+◌, ◌*◌, ◌≤◌, length, pos, ◌+ℤ◌, ◌-ℤ◌, ◌*ℤ◌, ◌≢◌, int_div, int_lt, int_rem};
 ghost use Rattle.std.specs.Int.{w64};
 ghost use Rattle.std.proofs.Common.{of_z, to_z};
 ghost use Rattle.std.proofs.lemmas.List.Edits.{sets};
@@ -70,15 +70,18 @@ pub fn equal(a: i64, b: i64) -> bool
     a == b
 }
 
-// The number of the N bytes at `at`, the lowest first. The three doors below call, with 2, 4 and 8 for N.
+// The number of the N bytes at `at`, the lowest first. The three doors below call, with 2, 4 and 8 for N. From the last byte on, so that it is
+// compiled to one load: a copy into an array of eight is compiled to a test of where the array lies, and two loads.
 fn read<const N: usize>(bytes: &[u8], at: usize) -> u64
     requires size { N ≤ 8 }
     requires inside { at + N ≤ length bytes.now }
     ensures { NumberAt N bytes.now at result }
 {
-    let mut low = [0; 8];
-    low[..N].copy_from_slice(&bytes[at..at + N]);
-    u64::from_le_bytes(low)
+    let mut x = 0;
+    for i in 0..N {
+        x = 256 * x + u64::from(bytes[at + (N - 1 - i)]);
+    }
+    x
 }
 
 // The number of the 2 bytes at `at`, the lowest first. Here and below our crates alone call, with a place inside the buffer.

@@ -30,7 +30,6 @@ use Rattle.task.specs.Choices.{chosen}
 use Rattle.task.specs.Formed.{value_fits}
 use Rattle.evaluator.specs.declared.Finished.{Finished}
 use Rattle.arms.specs.Registers.{value_of, registers_of, Sized, in_register}
-use Rattle.arms.specs.Code.{Decodes}
 use Rattle.arms.specs.Turns.{Stacked, rules}
 use Rattle.evaluator.specs.Hands.{outcome_from, finished_of, CanEvaluate, Closes}
 use Rattle.arms.proofs.RegisterLaws.{label_at}
@@ -119,17 +118,15 @@ registers-more nums kinds l i a inside h e j b = by_order j i
 
 -- ---- What the evaluator asks
 
-module _ (cells code : List ℕ) (lent places n : ℕ) (registers : List ℤ) (can : CanRun cells lent places n registers) (nums : List ℕ)
+module _ (cells : List ℕ) (lent places n : ℕ) (registers : List ℤ) (can : CanRun cells lent places n registers) (nums : List ℕ)
     (bits : BitsOf registers nums) where
   first-registers : registers_of nums (replicate 16 0) ≡ integers registers
   first-registers = ap (λ m. registers_of nums (replicate m 0)) (sym can.sixteen) ∙ rows_mean registers nums bits
 
-  pub can_evaluate : Decodes cells code → CanEvaluate cells code places n nums (replicate 16 0)
-  can_evaluate decodes = record {
+  pub can_evaluate : CanEvaluate cells places n nums (replicate 16 0)
+  can_evaluate = record {
     rank = rank places;
     base = record {
-      accepted_program = can.accepted_program;
-      decodes = decodes;
       room = rank-small places can.its_places_allowed;
       limited = can.limited;
     };

@@ -1,6 +1,6 @@
 // The run of an accepted job by the plain evaluation: its program is decoded, its registers go into two rows of numbers, and the report is that of
 // what the evaluation came to. No slot is picked: `outcomes` proves that a run's report does not show the picks.
-ghost use Rattle.std.specs.Prelude.{◌≡◌, ◌≤◌, length};
+ghost use Rattle.std.specs.Prelude.{◌≡◌, length};
 ghost use Rattle.image.specs.Layout.{program_of};
 ghost use Rattle.serial.specs.Serial.{within_budget};
 ghost use Rattle.task.specs.Frames.{work_limit};
@@ -15,6 +15,7 @@ ghost use Rattle.job.specs.Evaluated.{BitsOf, LabelsFit, CanReport, CanRun};
 use arms::{Code, Registers};
 use drive::End;
 use evaluator::Finished;
+use image::program::Program;
 use report::Report;
 use task::{Register, Status, Value};
 
@@ -102,14 +103,15 @@ pub fn evaluate_job(
     requires { CanRun cells.now (length code.old) places n registers.now }
     ensures { result ≡ report_from n (within_budget n (evaluation_of (program_of cells.now) (chosen interval) places registers.now words.now work_limit)) }
 {
-    arms::decoding::decode(cells, code);
+    let program = Program { cells };
+    arms::decoding::decode(&program, code);
     let mut rows = Registers {
         nums: [0; 16],
         kinds: [0; 16],
     };
     bits_of(registers, &mut rows.nums);
     let job = Code {
-        cells,
+        program,
         code,
         words,
         interval,

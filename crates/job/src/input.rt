@@ -1,5 +1,5 @@
 // A job: what its bytes hold, and the questions put to it.
-ghost use Rattle.std.specs.Prelude.{◌≡◌, true, ◌+◌, ◌*◌, ◌<◌, ◌≤◌, length, replicate, IfOk};
+ghost use Rattle.std.specs.Prelude.{◌≡◌, true, ◌<◌, length, replicate, IfOk};
 ghost use Rattle.image.specs.Layout.{program_cells, cells_in};
 ghost use Rattle.image.specs.Refusals.{no_of};
 ghost use Rattle.job.specs.Job.{image_size, job_image, job_places, job_interval, job_registers, word_count, job_words};
@@ -51,7 +51,7 @@ impl<'a> Input<'a> {
         ensures { result ≡ job_places self.now.bytes.now }
     {
         let n = self.image_size();
-        image::layout::wide(self.bytes[2 + n])
+        u64::from(self.bytes[2 + n])
     }
 
     pub fn interval(&self) -> u64

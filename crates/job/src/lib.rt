@@ -39,7 +39,7 @@ const FEW_NUMBERS: usize = 512;
 
 const MOST_NUMBERS: usize = 4096;
 
-// The image check: 0, or the number of the first question, 1 to 9, that is answered with no.
+// The image check: Ok, or the refusal of the first question, 1 to 9, that is answered with no.
 pub fn tpal_image_check(image: &[u8]) -> Result<(), Refusal>
     ensures { no_of result ≡ image_no image.now }
 {
@@ -93,7 +93,7 @@ pub fn tpal_replay(job: &[u8], order: &[u8], state: &mut [u8]) -> Result<(), Ref
     let mut words = [0i64; MOST_WORDS];
     let count = job.input.word_count();
     let last = carry_out(&job, &mut words[..count], order);
-    state::writer::write_state(last, state);
+    state::writer::write_state(&last, state);
     Ok(())
 }
 
@@ -151,7 +151,7 @@ pub fn tpal_job_run(job: &[u8], budget: u64, out: &mut [u8]) -> Result<(), Refus
 }
 
 // What the dispatcher comes to for a job: the report of the state that it leaves, and the rounds begun.
-#[derive(Clone, Copy)]
+#[derive(Clone, Copy, Debug, PartialEq, Eq)]
 pub struct RoundsReport {
     pub report: Report,
     pub rounds: u64,
@@ -173,7 +173,7 @@ fn dispatch_job(job: &Accepted, words: &mut [i64], lanes: u64, rounds: u64) -> R
         unreachable!()
     };
     RoundsReport {
-        report: report::report_of(machine.state, ran.picks),
+        report: report::report_of(&machine.state, ran.picks),
         rounds: ran.rounds,
     }
 }

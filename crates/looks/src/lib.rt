@@ -48,9 +48,9 @@ pub fn walk(tasks: &[Task], from: Look) -> Look
 }
 
 // How many tasks a round with so many lanes takes.
-pub fn lanes_used(tasks: [Task; 64], lanes: u64) -> u64
-    ensures { result ≡ tasks_taken tasks lanes }
+pub fn lanes_used(tasks: &[Task], lanes: u64) -> u64
+    ensures { result ≡ tasks_taken tasks.now lanes }
 {
-    let last = walk(&tasks, Look { at: 0, lanes });
+    let last = walk(tasks, Look { at: 0, lanes });
     lanes - last.lanes
 }

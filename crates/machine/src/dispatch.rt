@@ -48,7 +48,7 @@ impl Machine {
     {
         ask_dispatch(cells, words.len(), lanes, &self.state)?;
         // the records are looked over in slot order: where no task is taken none runs, and the job has ended
-        if looks::lanes_used(self.state.tasks, lanes) == 0 {
+        if looks::lanes_used(&self.state.tasks, lanes) == 0 {
             return Ok(Rounds {
                 rounds: 0,
                 picks: 0,

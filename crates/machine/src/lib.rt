@@ -19,7 +19,7 @@ use image::refusal::Refusal;
 
 // A job's state, with the methods. A type's methods stand in its own crate, and the loop that they call is below them: so the state is a
 // type of the loop's crate, and this one is around it.
-#[derive(Clone, Copy)]
+#[derive(Clone, Copy, Debug, PartialEq, Eq)]
 pub struct Machine {
     pub state: State,
 }
@@ -40,7 +40,7 @@ pub struct Rounds {
 }
 
 // What a method hands back: the new state beside the answer. The state comes first, so that it is copied aligned.
-#[derive(Clone, Copy)]
+#[derive(Clone, Copy, Debug, PartialEq, Eq)]
 pub struct Answered<T> {
     pub machine: Machine,
     pub answer: Result<T, Refusal>,

@@ -1,7 +1,7 @@
 // Start: its questions, and the state that it makes.
 ghost use Rattle.std.specs.Prelude.{◌≡◌, ◌≤◌, length, MatchOption};
 ghost use Rattle.image.specs.Refusals.{no_of};
-ghost use Rattle.drive.specs.Settings.{rank, places_allowed, interval_allowed};
+ghost use Rattle.drive.specs.Settings.{rank, interval_allowed};
 ghost use Rattle.machine.specs.Starting.{settings_no, start_no_by, start_no, empty, fresh, started};
 
 use crate::Machine;

@@ -1,10 +1,10 @@
 // Whatever the order of picks: the statements stand in specs/, the theorems in proofs/. `replay` carries an order out.
 #![tactic(auto)]
 
-ghost use Rattle.std.specs.Prelude.{◌≡◌, length, OnOk, OnErr};
+ghost use Rattle.std.specs.Prelude.{◌≡◌, OnOk, OnErr};
 ghost use Rattle.image.specs.Refusals.{no_of};
 ghost use Rattle.machine.specs.Starting.{start_no, empty};
-ghost use Rattle.orders.specs.Demand.{Job, WhateverTheOrder, start_on, played};
+ghost use Rattle.orders.specs.Demand.{WhateverTheOrder, start_on};
 ghost use Rattle.orders.specs.Replay.{job_of, replayed};
 
 use drive::picks::drive;

@@ -7,7 +7,7 @@ use crate::{REPORT_BYTES, Report};
 use drive::End;
 use state::numbers::{write_numbers, write_registers};
 
-// An end's number and its fault's. No `From`: neither type is this crate's.
+// An end's number and its fault's. No `From`: neither type is this crate's, and a type around it would be no plainer.
 fn end_numbers(end: End) -> [u64; 2]
     ensures { result ≡ end_number end ∷ end_fault end ∷ [] }
 {

@@ -21,7 +21,7 @@ pub const ROUNDS_REPORT_BYTES: usize = 432;
 pub const TEXT_BYTES: usize = 1024;
 
 // Of a spent job, one that has not ended, the span is 0 and the registers are 16 integers 0.
-#[derive(Clone, Copy)]
+#[derive(Clone, Copy, Debug, PartialEq, Eq)]
 pub struct Report {
     pub end: End,
     pub picks: u64,
@@ -31,8 +31,8 @@ pub struct Report {
 }
 
 // The report of the state after a run that carried out so many picks.
-pub fn report_of(m: State, picks: u64) -> Report
-    ensures { result ≡ report_of m picks }
+pub fn report_of(m: &State, picks: u64) -> Report
+    ensures { result ≡ report_of m.now picks }
 {
     let end = end_of(m);
     let (span, registers) = match end {

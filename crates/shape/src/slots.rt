@@ -1,5 +1,5 @@
 // The code of each slot, by its task record, the grade of its registers and the reach of its stack.
-ghost use Rattle.std.specs.Prelude.{◌≡◌, ◌&&◌, ◌-◌, ◌≤◌, eqb, leb};
+ghost use Rattle.std.specs.Prelude.{◌≡◌, ◌&&◌, ◌≤◌, eqb, leb};
 ghost use Rattle.image.specs.Layout.{program_of, version_of};
 ghost use Rattle.task.specs.Formed.{formed, is_vacant};
 ghost use Rattle.shape.specs.Codes.{Stored, Answers, code_of, CodedTasks};

@@ -29,7 +29,8 @@ fn stands_below(bytes: &[u8], at: usize, room: u64) -> bool
     int64::read_u64(bytes, at) < room
 }
 
-// The value that the three numbers are, if they are one. No `TryFrom`, here and for a status: neither type is this crate's.
+// The value that the three numbers are, if they are one. No `TryFrom`, here and for a status: neither type is this
+// crate's, and a type around it would be no plainer.
 #[inline(always)]
 #[tactic(auto, unfolding(crate::specs::Reading::is_value, crate::specs::Reading::value_of))]
 fn value_of(kind: u64, a: u64, b: u64) -> Option<Value>

@@ -1,5 +1,5 @@
 // The state's bytes, written.
-ghost use Rattle.std.specs.Prelude.{◌≡◌, [], ◌∷◌, ◌+◌, ◌*◌, ◌≤◌, length, get_or};
+ghost use Rattle.std.specs.Prelude.{◌≡◌, [], ◌∷◌, ◌+◌, ◌≤◌, length, get_or};
 ghost use Rattle.std.proofs.lemmas.List.Edits.{sets};
 ghost use Rattle.image.specs.Layout.{rows};
 ghost use Rattle.task.specs.Frames.{zero_fork};
@@ -12,7 +12,7 @@ use crate::{HEIGHT_AT, REGISTERS_AT, STACK_AT};
 use drive::State;
 use task::{Fork, Status, Task};
 
-// A status's number and its fault's. No `From`: neither type is this crate's.
+// A status's number and its fault's. No `From`: neither type is this crate's, and a type around it would be no plainer.
 fn status_numbers(s: Status) -> [u64; 2]
     ensures { result ≡ status_number s ∷ fault_number s ∷ [] }
 {
@@ -60,10 +60,10 @@ fn write_slots(m: &State, out: &mut [u8])
 }
 
 // The whole state. `job` and `steps` call it with a buffer of its length, after question 15.
-pub fn write_state(m: State, out: &mut [u8])
+pub fn write_state(m: &State, out: &mut [u8])
     requires { length out.old ≡ state_length }
-    ensures { out.new ≡ state_bytes m }
+    ensures { out.new ≡ state_bytes m.now }
 {
     write_numbers(out, 0, [m.places, m.interval as u64, m.work as u64]);
-    write_slots(&m, out);
+    write_slots(m, out);
 }

@@ -51,7 +51,8 @@ fn ask_lent(program: &[u8], words: &[u8], others: bool, lent: &[u8]) -> Result<(
     Err(Refusal::Shape)
 }
 
-// The pick itself, whose words go to the lent slice. `pick` alone calls it, where all is ready.
+// The pick itself, whose words go to the lent slice. `pick` alone calls it, where all is ready. `run_on` and `start_on` begin alike: one function
+// for that would be lent the same four buffers, and be no shorter than its calls.
 fn pick_on(
     program: &[u8],
     words: &[u8],
@@ -82,7 +83,7 @@ pub fn pick(program: &[u8], words: &[u8], slot: u64, lent: &mut [u8]) -> Result<
         state: state::reader::read_state(lent),
     };
     pick_on(program, words, &mut held[..count], slot, &mut machine)?;
-    state::writer::write_state(machine.state, lent);
+    state::writer::write_state(&machine.state, lent);
     Ok(())
 }
 
@@ -126,8 +127,8 @@ pub fn run(
         state: state::reader::read_state(lent),
     };
     let ran = run_on(program, words, &mut held[..count], budget, &mut machine)?;
-    state::writer::write_state(machine.state, lent);
-    let r = report::report_of(machine.state, ran.picks);
+    state::writer::write_state(&machine.state, lent);
+    let r = report::report_of(&machine.state, ran.picks);
     report::bytes::write_report(r, out);
     Ok(())
 }

@@ -1,7 +1,7 @@
 // A job started, over bytes.
 ghost use Rattle.std.specs.Prelude.{◌≡◌, ◌&&◌, ◌*◌, ◌%◌, eqb, leb, length};
 ghost use Rattle.image.specs.Refusals.{no_of};
-ghost use Rattle.machine.specs.Starting.{start_no, start_no_by, started, empty};
+ghost use Rattle.machine.specs.Starting.{start_no, start_no_by, started};
 ghost use Rattle.state.specs.State.{state_length};
 ghost use Rattle.steps.specs.Buffers.{cells_of, integers_of, program_bytes};
 ghost use Rattle.steps.specs.Calls.{started_no, state_after_start};
@@ -91,6 +91,6 @@ pub fn start(
         &mut held[..count],
         &mut machine,
     )?;
-    state::writer::write_state(machine.state, lent);
+    state::writer::write_state(&machine.state, lent);
     Ok(())
 }

@@ -13,7 +13,6 @@ pub mod StepKeeps
 pub mod JoinKeeps
 pub mod Pairs
 pub mod Vacancy
-pub mod Endings
 pub mod Start
 pub mod Counts
 pub mod Spans

@@ -12,6 +12,7 @@ use crate::results::{count, fault, store};
 use crate::stacking::{pop, push};
 use crate::{Active, Executed, Fork, Value};
 use image::Instruction;
+use image::program::Program;
 
 // The value of operand v, where `held` is the value of the register that an operand of kind 1 names. The machine's loop calls it, with an
 // instruction of an accepted program. The kind is the image's number, as `selected` (specs/Execute.antt), which may not change, reads it.
@@ -41,6 +42,7 @@ pub fn execute(
     requires { Ready cells.now s v active }
     ensures { result ≡ executed (program_of cells.now) words.now (chosen interval) x s v active forks }
 {
+    let program = Program { cells };
     let t = count(active);
     let opcode = x.opcode;
     match opcode {
@@ -53,12 +55,12 @@ pub fn execute(
         7 => less(s, v, t),
         8 => equal(s, v, t),
         9 => fetch(words, v, t),
-        10 => branch(cells, interval, s, v, t),
-        11 => allocate(cells, v, t),
-        12 => fork(cells, s, v, t, forks),
-        13 => jump(cells, interval, v, t),
+        10 => branch(&program, interval, s, v, t),
+        11 => allocate(&program, v, t),
+        12 => fork(&program, s, v, t, forks),
+        13 => jump(&program, interval, v, t),
         14 => halt(t),
-        15 => meet(cells, interval, v, t, forks),
+        15 => meet(&program, interval, v, t, forks),
         16 => push(v, t),
         17 => pop(t),
         _ => fault(8),

@@ -1,7 +1,7 @@
-// Opcodes 12 and 15: fork and join, under a record that fits the task. The program has been accepted.
+// Opcodes 12 and 15: fork and join, under a record that fits the task.
 ghost use Rattle.std.specs.Prelude.{◌≡◌, true, List, ℤ, ◌<◌, ◌≤◌, IfSome, IfNone};
 ghost use Rattle.image.specs.Layout.{program_of};
-ghost use Rattle.image.specs.Questions.{most_instructions, program_no};
+ghost use Rattle.image.specs.Questions.{most_instructions};
 ghost use Rattle.std.specs.List.{list_all};
 ghost use Rattle.task.specs.declared.Fork.{Fork};
 ghost use Rattle.task.specs.Choices.{Choices, chosen};
@@ -12,6 +12,7 @@ ghost use Rattle.task.specs.Execute.{answered};
 use crate::control::{enter, first_of};
 use crate::results::{end, fault, pass};
 use crate::{Active, Executed, Fork, Kind, Value};
+use image::program::Program;
 
 // Whether open forks all belong to a record.
 fn all_belong(opened: &[Fork], under: Fork) -> bool
@@ -49,12 +50,12 @@ fn fitting(v: Value, depth: u32, forks: [Fork; 6]) -> Option<Fork>
     Some(under)
 }
 
-// Both sides gain an open fork under s, which the machine opens. Execute alone calls it, with an accepted program; the shape test has put
-// pc and v's label inside it, and the depth below 7.
+// Both sides gain an open fork under s, which the machine opens. Execute alone calls it; the shape test has put pc and v's label inside the
+// program, and the depth below 7.
 #[tactic(auto, unfolding(crate::specs::Effect::asked))]
-pub fn fork(cells: &[u64], s: Value, v: Value, t: Active, forks: [Fork; 6]) -> Executed
-    requires { (program_no cells.now ≡ 0) × (value_fits (program_of cells.now) v ≡ true) × (t.pc < most_instructions) × (t.depth ≤ 6) }
-    ensures { (w : List ℤ) (c : Choices) → result ≡ answered (program_of cells.now) w c s v t forks fork }
+pub fn fork(program: &Program, s: Value, v: Value, t: Active, forks: [Fork; 6]) -> Executed
+    requires { (value_fits (program_of program.now.cells.now) v ≡ true) × (t.pc < most_instructions) × (t.depth ≤ 6) }
+    ensures { (w : List ℤ) (c : Choices) → result ≡ answered (program_of program.now.cells.now) w c s v t forks fork }
 {
     let Some(_) = fitting(s, t.depth, forks) else {
         return fault(36);
@@ -66,22 +67,22 @@ pub fn fork(cells: &[u64], s: Value, v: Value, t: Active, forks: [Fork; 6]) -> E
         return fault(37);
     }
     Executed {
-        child: first_of(cells, b as usize),
+        child: first_of(program, b as usize),
         ..pass(Kind::Forks, s, t)
     }
 }
 
 // The record's depth equal to the task's: to the continuation. Otherwise the task waits. As above.
 #[tactic(auto, unfolding(crate::specs::Effect::asked))]
-pub fn meet(cells: &[u64], interval: u64, v: Value, t: Active, forks: [Fork; 6]) -> Executed
-    requires { (program_no cells.now ≡ 0) × (value_fits (program_of cells.now) v ≡ true) × (t.depth ≤ 6) }
-    ensures { (w : List ℤ) (s : Value) → result ≡ answered (program_of cells.now) w (chosen interval) s v t forks meet }
+pub fn meet(program: &Program, interval: u64, v: Value, t: Active, forks: [Fork; 6]) -> Executed
+    requires { (value_fits (program_of program.now.cells.now) v ≡ true) × (t.depth ≤ 6) }
+    ensures { (w : List ℤ) (s : Value) → result ≡ answered (program_of program.now.cells.now) w (chosen interval) s v t forks meet }
 {
     let Some(under) = fitting(v, t.depth, forks) else {
         return fault(36);
     };
     if under.depth == t.depth {
-        return enter(cells, interval, under.continuation, t);
+        return enter(program, interval, under.continuation, t);
     }
     end(Kind::Waits, 0)
 }

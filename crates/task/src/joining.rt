@@ -1,5 +1,5 @@
 // The task that two ended sides of a fork make.
-ghost use Rattle.std.specs.Prelude.{◌≡◌, ◌+◌, ◌≤◌, ◌<◌};
+ghost use Rattle.std.specs.Prelude.{◌≡◌, ◌+◌, ◌≤◌};
 ghost use Rattle.image.specs.Layout.{program_of};
 ghost use Rattle.task.specs.Frames.{fault_of};
 ghost use Rattle.task.specs.Step.{first_fault, outward_task};
@@ -7,10 +7,10 @@ ghost use Rattle.task.specs.Execute.{Joinable, status_by, joint_of};
 
 use crate::control::first_of;
 use crate::{Fork, Joint, Status, Task};
-use image::layout::block_of;
+use image::program::Program;
 
 // The parent's fault if it has one, else the child's; without a fault the joined task runs.
-fn joined_status(parent: Status, child: Status) -> Status
+pub fn joined_status(parent: Status, child: Status) -> Status
     ensures { result ≡ status_by (first_fault (fault_of parent) (fault_of child)) }
 {
     match (parent, child) {
@@ -49,6 +49,7 @@ pub fn joined(cells: &[u64], p: Task, c: Task) -> Joint
     requires { Joinable cells.now p c }
     ensures { result ≡ joint_of (program_of cells.now) p c }
 {
+    let program = Program { cells };
     let ours = p.status;
     let theirs = c.status;
     let status = joined_status(ours, theirs);
@@ -64,8 +65,8 @@ pub fn joined(cells: &[u64], p: Task, c: Task) -> Joint
     let at = (p.depth - 1) as usize;
     let forks = p.forks;
     let under = forks[at];
-    let block = block_of(cells, under.continuation as usize);
-    let pc = first_of(cells, block.label as usize);
+    let block = program.block(under.continuation as usize);
+    let pc = first_of(&program, block.label as usize);
     let task = close(Status::Running, pc, p.height, p, c);
     Joint {
         task,

@@ -2,7 +2,7 @@
 #![tactic(auto)]
 
 mod arithmetic;
-mod control;
+pub mod control;
 pub mod execution;
 mod forking;
 pub mod joining;

@@ -51,6 +51,7 @@ fn read_all<R: Read>(input: &mut R, buf: &mut [u8]) -> io::Result<usize>
     ensures bytes { IfOk result (λ n. IfSome (R.remaining input.old) (λ xs. take n buf.new ≡ take (length buf.old) xs)) }
 {
     let mut done = 0usize;
+    // no `for`: `done` moves on by what a read brings, which may be any number
     while done < buf.len() {
         let more = read_at(input, buf, done)?;
         if more == 0 {

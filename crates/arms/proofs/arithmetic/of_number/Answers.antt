@@ -1,7 +1,7 @@
 -- `of_number` meets its contract.
 use Rattle.std.proofs.Common.{rules}
 use mathlib.Core.Path.{sym, subst}
-use Rattle.arms.specs.declared.Course.TheVariants.{On, Fault}
+use Rattle.arms.specs.declared.Way.TheVariants.{On, Fault}
 use Rattle.arms.specs.Registers.{Sized, registers_of}
 use Rattle.arms.specs.Arms.{Sets}
 use Rattle.arms.proofs.RegisterLaws.{still_sized}

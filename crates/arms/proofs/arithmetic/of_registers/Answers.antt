@@ -1,7 +1,7 @@
 -- `of_registers` meets its contract.
 use Rattle.std.proofs.Common.{rules}
 use mathlib.Core.Path.{sym, subst}
-use Rattle.arms.specs.declared.Course.TheVariants.{Fault}
+use Rattle.arms.specs.declared.Way.TheVariants.{Fault}
 use Rattle.arms.specs.Registers.{Sized, registers_of}
 use Rattle.arms.specs.Arms.{Sets}
 use Rattle.arms.proofs.RegisterLaws.{integer-at}

@@ -7,4 +7,4 @@ use Rattle.arms.proofs.decoding.decode.Given as goal
 
 abbrev pub invariant-loop-i : goal.invariant-loop-i
 invariant-loop-i l =
-    (length l.code ≡ length l.initial.code) × ((j : ℕ) → j < l.i → DecodedAt l.cells l.code j)
+    (length l.code ≡ length l.initial.code) × ((j : ℕ) → j < l.i → DecodedAt l.program.cells.now l.code j)

@@ -11,22 +11,19 @@ use Rattle.arms.proofs.ValueLaws.{pair_record}
 use Rattle.arms.proofs.SetLaws.{unset, sets, no_target, gives_record}
 use Rattle.arms.proofs.moves.allocate_label.Goals as goal
 
-pub annotation_of-requires : goal.annotation_of-requires
-annotation_of-requires c = ((accepted c.args.cells.now c.requires.0).block _ c.requires.1).is_stored
-
-pub returns-then-annotation_of-ne2 : goal.returns-then-annotation_of-ne2
-returns-then-annotation_of-ne2 c =
+pub returns-then-annotation-ne2 : goal.returns-then-annotation-ne2
+returns-then-annotation-ne2 c =
     let sized : Sized c.args.registers.now.nums c.args.registers.now.kinds = search rules in
     λ w k s. (
       sized,
-      λ t o q. unset 35 (omega arith) (no_target (program_of c.args.cells.now) w k (s (registers_of c.args.registers.now.nums c.args.registers.now.kinds)) t o c.args.v (λ z. c.if-annotation_of-ne2.true (c.annotation_of.ensures ∙ z))),
+      λ t o q. unset 35 (omega arith) (no_target (program_of c.args.code.now.program.cells.now) w k (s (registers_of c.args.registers.now.nums c.args.registers.now.kinds)) t o c.args.v (λ z. c.if-annotation-ne2.true (c.annotation.ensures ∙ z))),
     )
 
 pub overflow_mul-v : goal.overflow_mul-v
-overflow_mul-v c = omega (arith, c.requires.1, (accepted c.args.cells.now c.requires.0).few_blocks)
+overflow_mul-v c = omega (arith, c.requires.0, (accepted c.args.code.now.program.cells.now c.args.code.now.program.accepted).few_blocks)
 
 pub overflow_add-v : goal.overflow_add-v
-overflow_add-v c = omega (arith, c.requires.1, c.requires.2, (accepted c.args.cells.now c.requires.0).few_blocks)
+overflow_add-v c = omega (arith, c.requires.0, c.requires.1, (accepted c.args.code.now.program.cells.now c.args.code.now.program.accepted).few_blocks)
 
 pub returns : goal.returns
 returns c =
@@ -36,7 +33,7 @@ returns c =
     let put = c.put.ensures in
     λ w k s. (
       still_sized nums kinds c.args.r _ _ sized put.nums_after put.kinds_after,
-      λ t o q. sets nums kinds c.args.r _ 2 _ (pair_record c.args.v c.args.depth (omega (arith, c.requires.2)) refl)
-          (gives_record (program_of c.args.cells.now) w k (s (registers_of c.args.registers.now.nums c.args.registers.now.kinds)) t o c.args.v c.args.depth
-          (sym c.annotation_of.ensures ∙ c.if-annotation_of-ne2.false) q) put.nums_after put.kinds_after,
+      λ t o q. sets nums kinds c.args.r _ 2 _ (pair_record c.args.v c.args.depth (omega (arith, c.requires.1)) refl)
+          (gives_record (program_of c.args.code.now.program.cells.now) w k (s (registers_of c.args.registers.now.nums c.args.registers.now.kinds)) t o c.args.v c.args.depth
+          (sym c.annotation.ensures ∙ c.if-annotation-ne2.false) q) put.nums_after put.kinds_after,
     )

@@ -21,8 +21,8 @@ returns-then-registers-v-ne1 c =
     let sized : Sized nums kinds = search rules in
     λ w k s. (
       sized,
-      λ t o q. unset 35 (omega arith) (ap (λ u. effect_of (program_of c.args.cells.now) w k (s (registers_of c.args.registers.now.nums c.args.registers.now.kinds)) u t o jralloc) (value-at nums kinds c.args.v sized c.requires.3)
-          ∙ no_label (program_of c.args.cells.now) w k (s (registers_of c.args.registers.now.nums c.args.registers.now.kinds)) t o (get_or kinds c.args.v 0) (get_or nums c.args.v 0) c.if-registers-v-ne1.true),
+      λ t o q. unset 35 (omega arith) (ap (λ u. effect_of (program_of c.args.code.now.program.cells.now) w k (s (registers_of c.args.registers.now.nums c.args.registers.now.kinds)) u t o jralloc) (value-at nums kinds c.args.v sized c.requires.2)
+          ∙ no_label (program_of c.args.code.now.program.cells.now) w k (s (registers_of c.args.registers.now.nums c.args.registers.now.kinds)) t o (get_or kinds c.args.v 0) (get_or nums c.args.v 0) c.if-registers-v-ne1.true),
     )
 
 pub allocate_label-requires : goal.allocate_label-requires
@@ -30,8 +30,8 @@ allocate_label-requires c =
     let nums = c.args.registers.now.nums in
     let kinds = c.args.registers.now.kinds in
     let sized : Sized nums kinds = search rules in
-    let fits = sym (ap (value_fits (program_of c.args.cells.now)) (value-at nums kinds c.args.v sized c.requires.3)) ∙ c.requires.4 in
-    (c.requires.0, label_inside c.args.cells.now (get_or kinds c.args.v 0) _ c.if-registers-v-ne1.false fits, c.requires.1, c.requires.2)
+    let fits = sym (ap (value_fits (program_of c.args.code.now.program.cells.now)) (value-at nums kinds c.args.v sized c.requires.2)) ∙ c.requires.3 in
+    (label_inside c.args.code.now.program.cells.now (get_or kinds c.args.v 0) _ c.if-registers-v-ne1.false fits, c.requires.0, c.requires.1)
 
 pub returns : goal.returns
 returns c =
@@ -39,4 +39,4 @@ returns c =
     let kinds = c.args.registers.now.kinds in
     let sized : Sized nums kinds = search rules in
     let one = c.allocate_label.ensures in
-    λ w k s. ((one w k s).0, λ t o q. rw (label_at nums kinds c.args.v sized c.requires.3 c.if-registers-v-ne1.false) ((one w k s).1 t o q))
+    λ w k s. ((one w k s).0, λ t o q. rw (label_at nums kinds c.args.v sized c.requires.2 c.if-registers-v-ne1.false) ((one w k s).1 t o q))

@@ -7,7 +7,7 @@ use Rattle.arms.proofs.turning.run_on.Given as goal
 abbrev pub invariant-loop-left : goal.invariant-loop-left
 invariant-loop-left l =
     Sized l.registers.nums l.registers.kinds × SameBelow l.task.low l.initial.pile.nums l.initial.pile.kinds l.pile.nums l.pile.kinds ×
-    Runs l.code.cells.now l.code.words.now l.code.interval l.task.places l.task.depth l.task.pc l.task.beat l.task.left
+    Runs l.code.program.cells.now l.code.words.now l.code.interval l.task.places l.task.depth l.task.pc l.task.beat l.task.left
     (stack_of l.initial.pile.nums l.initial.pile.kinds l.task.low l.task.height) (registers_of l.initial.registers.nums l.initial.registers.kinds)
     l.pc l.beat l.left (stack_of l.pile.nums l.pile.kinds l.task.low l.height) (registers_of l.registers.nums l.registers.kinds)
 

@@ -60,7 +60,6 @@ use Rattle.drive.proofs.picks.drive.Goals as goal
 use Rattle.drive.proofs.picks.drive.Goals.{At-loop-due, Else-not-has_room, In-loop-k}
 use Rattle.drive.proofs.picks.drive.Goals.{After-instruction_of-x, Joined-does_store, After-picked_on-p}
 use Rattle.drive.proofs.picks.drive.Goals.{In-loop-met, After-width_of-in-loop-met}
-use Rattle.drive.proofs.picks.drive.Goals.{In-Ok}
 use Rattle.drive.proofs.picks.drive.Goals.{After-picked_on-p-in-Ok, Joined-does_stack, Joined-due-gt0}
 use Rattle.drive.proofs.picks.drive.Goals.{then-does_store, else-does_store, then-is_running-2, else-is_running-2}
 use Rattle.drive.proofs.picks.drive.Goals.{then-does_stack+in-Err, else-does_stack, then-due-gt0+else-not-has_room+else-not-both_ended}

@@ -20,7 +20,7 @@ loop-i-init c = copied_none zero_register _ _ _ _
 pub loop-i-preserved : goal.loop-i-preserved
 loop-i-preserved c =
     let l = c.loop-i in
-    rw l.invariant (copied_next zero_register zeros c.args.m.bank 0 (16 * c.args.k) l.i l.i _ (omega arith) refl)
+    rw l.invariant (copied_next zero_register zeros c.args.m.now.bank 0 (16 * c.args.k) l.i l.i _ (omega arith) refl)
 
 pub loop-j-init : goal.loop-j-init
 loop-j-init c = copied_none zero_register _ _ _ _
@@ -28,13 +28,13 @@ loop-j-init c = copied_none zero_register _ _ _ _
 pub loop-j-preserved : goal.loop-j-preserved
 loop-j-preserved c =
     let l = c.loop-j in
-    rw l.invariant (copied_next zero_register empty_stack c.args.m.stacks 0 (32 * c.args.k) l.j l.j _ (omega arith) refl)
+    rw l.invariant (copied_next zero_register empty_stack c.args.m.now.stacks 0 (32 * c.args.k) l.j l.j _ (omega arith) refl)
 
 pub returns : goal.returns
 returns c =
     let l = c.loop-j in
     let o = c.loop-i in
-    let m = c.args.m in
+    let m = c.args.m.now in
     let k = c.args.k in
     let registers : o.registers ≡ reads zero_register m.bank (16 * k) 16 = whole_copy zeros m.bank (16 * k) 16 o.i refl (omega arith) o.invariant in
     let stack : l.stack ≡ reads zero_register m.stacks (32 * k) stack_length =

@@ -15,7 +15,7 @@ pop_value-requires c =
 pub returns-in-Stores : goal.returns-in-Stores
 returns-in-Stores c =
     let q = c.requires in
-    let p = c.pair_of-p in
+    let p = c.from-p in
     let w = c.put.ensures in
     applied_stores c.args.self c.args.rows.now c.args.r c.args.e q.0 q.2 q.4 p.result.num p.result.kind c.in-Stores.is p.ensures w.nums_after w.kinds_after c.go_on.ensures
 

@@ -12,7 +12,7 @@ use Rattle.evaluator.proofs.ending.fork_under.Goals as goal
 
 pub returns-then-not-does_fit : goal.returns-then-not-does_fit
 returns-then-not-does_fit c =
-    let cells = c.args.cells.now in
+    let cells = c.args.program.now.cells.now in
     let s = value_of c.args.s.kind c.args.s.num in
     let v = value_of c.args.v.kind c.args.v.num in
     let l = forks_of c.args.records.now c.args.t.depth in
@@ -22,7 +22,7 @@ returns-then-not-does_fit c =
 
 pub returns-then-v-ne1 : goal.returns-then-v-ne1
 returns-then-v-ne1 c =
-    let cells = c.args.cells.now in
+    let cells = c.args.program.now.cells.now in
     let s = value_of c.args.s.kind c.args.s.num in
     let v = value_of c.args.v.kind c.args.v.num in
     let l = forks_of c.args.records.now c.args.t.depth in
@@ -32,7 +32,7 @@ returns-then-v-ne1 c =
 
 pub returns-then-t-lt2 : goal.returns-then-t-lt2
 returns-then-t-lt2 c =
-    let cells = c.args.cells.now in
+    let cells = c.args.program.now.cells.now in
     let s = value_of c.args.s.kind c.args.s.num in
     let v = value_of c.args.v.kind c.args.v.num in
     let l = forks_of c.args.records.now c.args.t.depth in
@@ -41,22 +41,21 @@ returns-then-t-lt2 c =
     λ w k. c.fault-then-t-lt2.ensures ∙ fork-no_places w k cells s v c.args.t l p f.ensures c.if-not-does_fit.false (label_is c.args.v.kind c.args.v.num c.if-v-ne1.false)
     c.if-t-lt2.true
 
-pub first_of-child-requires : goal.first_of-child-requires
-first_of-child-requires c =
-    let cells = c.args.cells.now in
-    let b = label_inside cells c.args.v.kind c.args.v.num c.if-v-ne1.false c.requires.1 in
-    omega (arith, ((accepted cells c.requires.0).block c.args.v.num b).is_stored)
+pub first-child-requires : goal.first-child-requires
+first-child-requires c =
+    let cells = c.args.program.now.cells.now in
+    label_inside cells c.args.v.kind c.args.v.num c.if-v-ne1.false c.requires.0
 
 pub overflow_cast-child : goal.overflow_cast-child
 overflow_cast-child c =
-    let cells = c.args.cells.now in
-    let b = label_inside cells c.args.v.kind c.args.v.num c.if-v-ne1.false c.requires.1 in
-    let ok = accepted cells c.requires.0 in
-    omega (arith, c.first_of-child.ensures, (ok.block c.args.v.num b).first_below, ok.few_instructions)
+    let cells = c.args.program.now.cells.now in
+    let b = label_inside cells c.args.v.kind c.args.v.num c.if-v-ne1.false c.requires.0 in
+    let ok = accepted cells c.args.program.now.accepted in
+    omega (arith, c.first-child.ensures, (ok.block c.args.v.num b).first_below, ok.few_instructions)
 
 pub returns : goal.returns
 returns c =
-    let cells = c.args.cells.now in
+    let cells = c.args.program.now.cells.now in
     let s = value_of c.args.s.kind c.args.s.num in
     let v = value_of c.args.v.kind c.args.v.num in
     let l = forks_of c.args.records.now c.args.t.depth in
@@ -64,4 +63,4 @@ returns c =
     let f = c.does_fit in
     λ w k. opens w k cells s v c.args.t l p f.ensures c.if-not-does_fit.false
     (label_is c.args.v.kind c.args.v.num c.if-v-ne1.false) c.if-t-lt2.false
-    c.first_of-child.ensures
+    c.first-child.ensures

@@ -9,15 +9,13 @@ pub run_all-z-requires : goal.run_all-z-requires
 run_all-z-requires c =
     let code = c.args.code.now in
     let registers = c.args.registers.now in
-    let sized : Sized registers.nums registers.kinds = search rules in (
-      start_point code.cells.now code.code.now c.args.places c.args.budget (start_rows registers) c.requires (start_full registers sized) c.first.ensures,
-      c.requires.base.decodes,
-    )
+    let sized : Sized registers.nums registers.kinds = search rules in
+    start_point code.program.cells.now code.program.accepted c.args.places c.args.budget (start_rows registers) c.requires (start_full registers sized) c.first.ensures
 
 pub returns : goal.returns
 returns c =
     let code = c.args.code.now in
-    let cells = code.cells.now in
+    let cells = code.program.cells.now in
     let words = code.words.now in
     let registers = c.args.registers.now in
     let sized : Sized registers.nums registers.kinds = search rules in
@@ -28,7 +26,7 @@ returns c =
       finds = (
         _,
         ends_as cells words code.interval z.result z.new.rows x.point over ∙ sym x.its_same_end
-            ∙ start-found cells code.code.now c.args.places c.args.budget (start_rows registers) c.requires (start_full registers sized) words code.interval c.first.ensures,
+            ∙ start-found cells code.program.accepted c.args.places c.args.budget (start_rows registers) c.requires (start_full registers sized) words code.interval c.first.ensures,
       );
       left_value = end_spent cells words code.interval z.result z.new.rows x.point over;
       closes = closes cells words code.interval z.result z.new.rows x.point over;

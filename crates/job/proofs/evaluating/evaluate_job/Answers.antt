@@ -11,13 +11,12 @@ use Rattle.job.proofs.PlainRun.{can_evaluate, found_is, can_report}
 
 pub evaluate-z-requires : goal.evaluate-z-requires
 evaluate-z-requires c =
-    can_evaluate c.args.cells.now _ (length c.args.code.now) c.args.places c.args.n c.args.registers.now c.requires _ c.bits_of.ensures
-    c.decode.ensures
+    can_evaluate c.args.cells.now (length c.args.code.now) c.args.places c.args.n c.args.registers.now c.requires _ c.bits_of.ensures
 
 pub report_from-requires : goal.report_from-requires
 report_from-requires c =
     let z = c.evaluate-z in
-    let found = found_is c.args.cells.now c.args.code.now (length c.args.code.now) c.args.places c.args.n c.args.registers.now c.requires _
+    let found = found_is c.args.cells.now (length c.args.code.now) c.args.places c.args.n c.args.registers.now c.requires _
     c.bits_of.ensures
     c.args.words.now c.args.interval z.ensures.finds.1 in
     can_report c.args.cells.now c.args.n z.result z.ensures.finds.0 _ _
@@ -29,6 +28,6 @@ returns c =
     let z = c.evaluate-z in
     c.report_from.ensures z.ensures.finds.0
     ∙ ap (report_from c.args.n)
-    (found_is c.args.cells.now c.args.code.now (length c.args.code.now) c.args.places c.args.n c.args.registers.now c.requires _
+    (found_is c.args.cells.now (length c.args.code.now) c.args.places c.args.n c.args.registers.now c.requires _
     c.bits_of.ensures
     c.args.words.now c.args.interval z.ensures.finds.1)

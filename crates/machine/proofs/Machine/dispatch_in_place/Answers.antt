@@ -1,4 +1,4 @@
--- `dispatch` meets its contract.
+-- `dispatch_in_place` meets its contract.
 use Rattle.std.proofs.Common.{[], ◌∷◌}
 use Rattle.machine.proofs.Machine.dispatch_in_place.Goals as goal
 use mathlib.Core.Path.{sym, ap, ◌∙◌}

@@ -1,4 +1,4 @@
--- `pick` meets its contract.
+-- `pick_in_place` meets its contract.
 use Rattle.std.proofs.Common.{[], ◌∷◌}
 use Rattle.machine.proofs.Machine.pick_in_place.Goals as goal
 use mathlib.Core.Path.{sym, ◌∙◌}

@@ -1,4 +1,4 @@
--- `run` meets its contract.
+-- `run_in_place` meets its contract.
 use Rattle.std.proofs.Common.{[], ◌∷◌}
 use Rattle.machine.proofs.Machine.run_in_place.Goals as goal
 use mathlib.Core.Path.{sym, ap, ◌∙◌}

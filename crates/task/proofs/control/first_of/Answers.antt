@@ -3,10 +3,7 @@ use Rattle.task.proofs.control.first_of.Goals as goal
 use native.Mathlib.Omega.{arith}
 use Rattle.image.proofs.Accepted.{accepted}
 
-pub first_of-requires : goal.first_of-requires
-first_of-requires c = ((accepted c.args.cells.now c.requires.0).block _ c.requires.1).is_stored
-
 pub overflow_cast-result : goal.overflow_cast-result
 overflow_cast-result c =
-    let k = accepted c.args.cells.now c.requires.0 in
-    omega (arith, c.first_of.ensures, (k.block _ c.requires.1).first_below, k.few_instructions)
+    let k = accepted c.args.program.now.cells.now c.args.program.now.accepted in
+    omega (arith, c.first.ensures, (k.block _ c.requires).first_below, k.few_instructions)

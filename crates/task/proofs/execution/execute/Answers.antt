@@ -38,19 +38,14 @@ push-requires c = counted_pc _ c.count-t.ensures c.requires
 pub pop-requires : goal.pop-requires
 pop-requires c = counted_pc _ c.count-t.ensures c.requires
 
-pub branch-cells-requires : goal.branch-cells-requires
-branch-cells-requires c = (c.requires.accepted_program, c.requires.v_fits, counted_pc _ c.count-t.ensures c.requires)
+pub branch-program-requires : goal.branch-program-requires
+branch-program-requires c = (c.requires.v_fits, counted_pc _ c.count-t.ensures c.requires)
 
 pub allocate-requires : goal.allocate-requires
-allocate-requires c = (c.requires.accepted_program, c.requires.v_fits, counted_pc _ c.count-t.ensures c.requires)
+allocate-requires c = (c.requires.v_fits, counted_pc _ c.count-t.ensures c.requires)
 
 pub fork-requires : goal.fork-requires
-fork-requires c = (
-  c.requires.accepted_program,
-  c.requires.v_fits,
-  counted_pc _ c.count-t.ensures c.requires,
-  counted_depth _ c.count-t.ensures c.requires,
-)
+fork-requires c = (c.requires.v_fits, counted_pc _ c.count-t.ensures c.requires, counted_depth _ c.count-t.ensures c.requires)
 
 pub returns-in-1 : goal.returns-in-1
 returns-in-1 c = sends _ _ _ _ _ _ _ _ c.count-t.ensures 1 c.in-1.is _ c.store.ensures
@@ -98,7 +93,7 @@ returns-in-9 c =
 pub returns-in-10 : goal.returns-in-10
 returns-in-10 c =
     let a = c.args in
-    sends _ _ _ _ _ _ _ _ c.count-t.ensures 10 c.in-10.is _ (c.branch-cells.ensures a.words.now a.forks)
+    sends _ _ _ _ _ _ _ _ c.count-t.ensures 10 c.in-10.is _ (c.branch-program.ensures a.words.now a.forks)
 
 pub returns-in-11 : goal.returns-in-11
 returns-in-11 c =
