@@ -1,4 +1,4 @@
-// The one loop that carries out picks, in the state that it is lent, where it stands. It is told a course; what an instruction does to the state
+// The one loop that carries out picks, in a copy of the state that it is lent. It is told a course; what an instruction does to the state
 // is the rest. A turn of the outer loop is one look at a join that is due; or a walk along the stretch, over every pick after which the task runs
 // on alone, and then the pick that stopped it, a fork or an ended side, or the next stretch. At its end the register moves are made that it has
 // planned. An ended side leaves `due`, the depth whose join is looked at next, and `side`, the slot that it is looked at from.
@@ -13,7 +13,7 @@ ghost use Rattle.drive.specs.Driving.{starts_in, driven};
 use crate::{Counts, State, ending, registers, slots, writes};
 use task::running::is_running;
 use task::{Active, Kind};
-use turns::course::{Course, Position};
+use turns::course::{Course, Next, Position};
 use turns::rows::Row;
 use turns::{moves, records, stacking, walk};
 
@@ -21,18 +21,14 @@ use turns::{moves, records, stacking, walk};
 pub const NO_ORDER: [u8; 1] = [0];
 
 // The picks of a course. Pick, run, dispatcher, `orders` and `job` call it, after the questions that ensure its `requires`.
-pub fn drive(
-    cells: &[u64],
-    words: &[i64],
-    state: &mut State,
-    order: &[u8],
-    course: Course,
-) -> Counts
-    requires { (program_no cells.now ≡ 0) × (length cells.now ≡ program_cells) × (shape (program_of cells.now) state.old ≡ true) × (starts_in course state.old ≡ true) }
-    ensures state_after { state.new ≡ (driven cells.now words.now state.old order.now course).state }
-    ensures picks { result.picks ≡ (driven cells.now words.now state.old order.now course).picks }
-    ensures rounds { result.rounds ≡ (driven cells.now words.now state.old order.now course).rounds }
+pub fn drive(cells: &[u64], words: &[i64], lent: &mut State, order: &[u8], course: Course) -> Counts
+    requires { (program_no cells.now ≡ 0) × (length cells.now ≡ program_cells) × (shape (program_of cells.now) lent.old ≡ true) × (starts_in course lent.old ≡ true) }
+    ensures state_after { lent.new ≡ (driven cells.now words.now lent.old order.now course).state }
+    ensures picks { result.picks ≡ (driven cells.now words.now lent.old order.now course).picks }
+    ensures rounds { result.rounds ≡ (driven cells.now words.now lent.old order.now course).rounds }
 {
+    // a copy, so that what the loop reads and writes of it lies at fixed places: lent, it took a quarter more time for a round's pick
+    let mut state = *lent;
     let before = state.work;
     let mut p = Position::nowhere(0, before);
     // the depth whose join may be due: no Option, since it counts down to 0, which no fork makes
@@ -54,7 +50,7 @@ pub fn drive(
             }
             side = q;
             due -= 1;
-            writes::join_sides(cells, state, q, c)
+            writes::join_sides(cells, &mut state, q, c)
         } else {
             // a walk, over the picks after which the task runs on
             let mut stop = None;
@@ -122,11 +118,12 @@ pub fn drive(
                     row.slots,
                 );
                 match next {
-                    Some(first) => p = first,
-                    None => {
+                    Next::First(first) => p = first,
+                    Next::Over(begun) => {
+                        *lent = state;
                         return Counts {
                             picks: (state.work - before) as u64,
-                            rounds: course.rounds(p.begun),
+                            rounds: course.rounds(begun),
                         };
                     }
                 }
@@ -143,7 +140,7 @@ pub fn drive(
                 let pops = stacking::does_pop(kind);
                 match stacking::entry_of(pops, own.height) {
                     Ok(entry) => {
-                        writes::move_value(cells, state, k, pops, entry, e);
+                        writes::move_value(cells, &mut state, k, pops, entry, e);
                         p = p.picked_on(state.places, state.work, own.places);
                         continue;
                     }
@@ -156,14 +153,14 @@ pub fn drive(
             let record = state.tasks[k];
             if let Kind::Forks = kind {
                 p = p.stopped_at(state.places, record.places / 2);
-                writes::open_fork(state, k, e)
+                writes::open_fork(&mut state, k, e)
             } else {
                 due = record.depth;
                 side = k;
                 p = p.stopped_at(state.places, record.places);
-                writes::end_side(state, k, kind, fault)
+                writes::end_side(&mut state, k, kind, fault)
             }
         };
-        registers::make_moves(state, &plan);
+        registers::make_moves(&mut state, &plan);
     }
 }

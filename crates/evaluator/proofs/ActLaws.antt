@@ -5,8 +5,8 @@ use mathlib.Core.List.{List, ◌∷◌}
 use Prim.Native.Nat.{ℕ, suc, ◌+◌, ◌*◌, ◌-◌, ◌/◌, ◌<◌, ◌≤◌}
 use native.Mathlib.Omega.{arith}
 use lib.IntN.{ℤ}
-use Rattle.facts.proofs.Tests.{by_order}
-use Rattle.image.specs.Layout.{instruction_of, program_of}
+use Rattle.facts.proofs.Tests.{both_true, by_order}
+use Rattle.image.specs.Layout.{version_of, instruction_of, program_of}
 use Rattle.image.specs.Questions.{program_no}
 use Rattle.agreement.specs.Plain.{one, two, Rules}
 use Rattle.serial.specs.Serial.{to_come, held, onward, run}
@@ -19,10 +19,10 @@ use Rattle.task.specs.declared.Kind.TheVariants.{Stores, Goes, Pushes, Pops, Wai
 use Rattle.task.specs.declared.Executed.{Executed}
 use Rattle.task.specs.Frames.{is_running, work_limit}
 use Rattle.task.specs.Choices.{chosen}
-use Rattle.task.specs.Formed.{formed, within}
+use Rattle.task.specs.Formed.{fault_listed, formed, within}
 use Rattle.task.specs.Step.{step}
 use Rattle.task.proofs.Executing.{made_by, step-executed}
-use Rattle.task.proofs.Formation.{Formed, formed_is}
+use Rattle.task.proofs.Formation.{Formed, formed_is, listed-within}
 use Rattle.arms.specs.declared.Stopped.{Stopped}
 use Rattle.evaluator.specs.declared.Hand.{Hand}
 use Rattle.evaluator.specs.declared.Kept.{Kept}
@@ -198,6 +198,15 @@ module _ (cells : List ℕ) (words : List ℤ) (interval : ℕ) (h : Hand) (rows
           ∙ ap (λ (d : Executed). made_by d.kind f (instruction_of cells (h.pc / 4)).r d) (sym ee)
           ∙ ap (λ n. made_by e.kind f n e) (sym er)
           ∙ made_of_lem e.kind r e
+
+      -- a fault's number is one of the list
+      pub fault_least : e.kind ≡ Faults → 3 ≤ e.fault
+      fault_least k =
+          let g = one-good cells words interval f h.left some p.limited refl accept p.rank p.height p.room good _
+          (steps-to ∙ ap (λ y. made_of y f r e) k) in
+          let x = formed_is (program_of cells) p.rank p.height _ g.its_is_formed in
+          let y = listed-within (version_of cells) e.fault (both_true (fault_listed (version_of cells) e.fault) _ x.its_status_fits).0 in
+          omega (arith, y.0)
 
       pub fork_room : e.kind ≡ Forks → h.depth < 6
       fork_room k =

@@ -49,9 +49,12 @@ module _ (cells : List ℕ) (words : List ℤ) (interval : ℕ) where
   pub leads_on : {h i j : Hand} {r s t : Rows} → LeadsTo cells words interval h r i s → LeadsTo cells words interval i s j t → LeadsTo cells words interval h r j t
   leads_on x y = record { point = y.point; its_same_end = x.its_same_end ∙ y.its_same_end }
 
+  pub leads_none : {h : Hand} {r : Rows} → Point cells h r → LeadsTo cells words interval h r h r
+  leads_none p = record { point = p; its_same_end = refl }
+
 -- ---- over or not
 
-over_runs : (w : Status) (left depth : ℕ) → w ≡ Running → eqb left 0 ≡ over_by w left depth
+pub over_runs : (w : Status) (left depth : ℕ) → w ≡ Running → eqb left 0 ≡ over_by w left depth
 over_runs w left depth e = rw e
 
 pub over-ended : (w : Status) (left depth : ℕ) → (w ≡ Running → ⊥) → eqb depth 0 ≡ over_by w left depth

@@ -68,6 +68,9 @@ impl Hand {
         requires { Point program.now.cells.now self rows.old × (self.status ≡ Running → ⊥) × (0 < self.depth) × ((kept_of rows.old.sides (self.depth - 1)).status ≡ Running → ⊥) }
         ensures depth_lt_depth { (result.depth < self.depth) × (result.left ≡ self.left) }
         ensures leads_to { (words : List ℤ) (interval : ℕ) → LeadsTo program.now.cells.now words interval self rows.old result rows.new }
+        ensures same_records { rows.new.records ≡ rows.old.records }
+        ensures same_sides { rows.new.sides ≡ rows.old.sides }
+        ensures same_pile { rows.new.pile ≡ rows.old.pile }
     {
         let at = (self.depth - 1) as usize;
         let k = rows.sides[at];

@@ -34,6 +34,9 @@ impl Hand {
         ensures rests { Rests code.now.program.cells.now code.now.words.now code.now.interval self result (bank_of rows.new.registers) }
         ensures leads_to { Point code.now.program.cells.now self rows.old → LeadsTo code.now.program.cells.now code.now.words.now code.now.interval self rows.old result.hand
             rows.new }
+        ensures same_banks { rows.new.banks ≡ rows.old.banks }
+        ensures same_records { rows.new.records ≡ rows.old.records }
+        ensures same_sides { rows.new.sides ≡ rows.old.sides }
     {
         let going = Going {
             places: self.places,

@@ -87,6 +87,11 @@ module _ (f : ℕ → ℕ) (to i : ℕ) where
   unfolding first_no
   no_more h = rw (none h)
 
+  -- the last one decides alone
+  pub closes : i + 1 ≡ to → first_no f (to - i) i ≡ f i
+  unfolding first_no
+  closes h = let one : to - i ≡ 1 = omega (arith, h) in rw one (or_else_none (f i))
+
 -- all of them were answered with yes
 pub first-no_all : (f : ℕ → ℕ) (n i : ℕ) → first_no f n i ≡ 0 → (j : ℕ) → i ≤ j → j < i + n → f j ≡ 0
 unfolding first_no

@@ -139,6 +139,9 @@ module _ (bytes : List ℕ) (ok : header_no bytes ≡ 0) where
           let s = walk_ends (block_no (cells_in bytes)) B b w.walking q in
           (s.0, blocks-stopped s.1)
 
+      pub block_length : length cells ≡ length lent
+      block_length = laid_length lays lent cells (block_cells_in bytes b) (block_cell 0) w.laid
+
     -- ---- instructions
 
     pub instructions-begin : (start : ℕ) → start ≡ block_place Ver B → AtInstruction bytes lays lent lent start (instruction_cell 0) 0

@@ -77,7 +77,7 @@ pub fn instruction_count(cells: &[u64]) -> u64
     cells[INSTRUCTION_COUNT]
 }
 
-// The fields of block b that control looks at, each by itself. `task` and `shape` alone call them, with a block of an accepted program.
+// The fields of block b that control looks at, each by itself. `Program` and `shape` alone call them, with a block of an accepted program.
 pub fn first_of(cells: &[u64], b: usize) -> u64
     requires { block_cell b + 6 ≤ length cells.now }
     ensures { result ≡ (block_of cells.now b).first }

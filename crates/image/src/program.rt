@@ -23,7 +23,8 @@ impl<'a> Program<'a> {
         Ok(Program { cells })
     }
 
-    // A block of the program, whole, and the fields that control looks at, each by itself.
+    // A block of the program, whole, and the fields that control looks at, each by itself. `task`, `arms` and `evaluator` alone call these and the
+    // next, with a block or an instruction that the program has: one that a task stands at, or that a label or a record of it names.
     pub fn block(&self, b: usize) -> Block
         requires { b < block_count self.now.cells.now }
         ensures { result ≡ block_of self.now.cells.now b }

@@ -25,17 +25,37 @@ const NONE: Fields = Fields {
     v: false,
 };
 
-const R: Fields = Fields { r: true, ..NONE };
+const R: Fields = Fields {
+    r: true,
+    s: false,
+    v: false,
+};
 
-const V: Fields = Fields { v: true, ..NONE };
+const V: Fields = Fields {
+    r: false,
+    s: false,
+    v: true,
+};
 
-const RV: Fields = Fields { r: true, ..V };
+const RV: Fields = Fields {
+    r: true,
+    s: false,
+    v: true,
+};
 
-const SV: Fields = Fields { s: true, ..V };
+const SV: Fields = Fields {
+    r: false,
+    s: true,
+    v: true,
+};
 
-const RSV: Fields = Fields { r: true, ..SV };
+const RSV: Fields = Fields {
+    r: true,
+    s: true,
+    v: true,
+};
 
-static FIELDS: [Fields; 17] = [
+const FIELDS: [Fields; 17] = [
     RV, // 1 r := v
     RSV, // 2 r := s + v
     RSV, // 3 r := s - v
@@ -75,6 +95,41 @@ const NO_OPCODE: Limits = Limits {
     least: 1,
     most: 0,
 };
+
+// Of a row of the table; a field that the opcode does not have is 0. A macro, since a constant's value calls no function.
+macro_rules! limits {
+    ($row:expr) => {
+        Limits {
+            r: LAST_REGISTER * ($row.r as u64),
+            s: LAST_REGISTER * ($row.s as u64),
+            least: $row.v as u64,
+            most: LAST_KIND * ($row.v as u64),
+        }
+    };
+}
+
+// The limits of 0, which is none, and of the opcodes 1 to 17, worked out of the table once, when the crate is checked: so a question about an
+// instruction works out none, and no branch depends on which opcode it is.
+static LIMITS: [Limits; 18] = [
+    NO_OPCODE,
+    limits!(FIELDS[0]),
+    limits!(FIELDS[1]),
+    limits!(FIELDS[2]),
+    limits!(FIELDS[3]),
+    limits!(FIELDS[4]),
+    limits!(FIELDS[5]),
+    limits!(FIELDS[6]),
+    limits!(FIELDS[7]),
+    limits!(FIELDS[8]),
+    limits!(FIELDS[9]),
+    limits!(FIELDS[10]),
+    limits!(FIELDS[11]),
+    limits!(FIELDS[12]),
+    limits!(FIELDS[13]),
+    limits!(FIELDS[14]),
+    limits!(FIELDS[15]),
+    limits!(FIELDS[16]),
+];
 
 // Question 3.
 #[tactic(auto, unfolding(crate::specs::Questions::version_no))]
@@ -219,29 +274,12 @@ fn ask_block(cells: &[u64], b: usize) -> Result<(), Refusal>
     )
 }
 
-impl Fields {
-    // A field that the opcode does not have is 0.
-    fn limits(self) -> Limits
-        ensures { result ≡ limit_row (flags_of self) }
-    {
-        Limits {
-            r: LAST_REGISTER * u64::from(self.r),
-            s: LAST_REGISTER * u64::from(self.s),
-            least: u64::from(self.v),
-            most: LAST_KIND * u64::from(self.v),
-        }
-    }
-}
-
 // The limits of the opcodes 1 to 17, by the table, and of 0, which is none.
 fn limits_of(opcode: u64) -> Limits
     requires { opcode ≤ 17 }
     ensures { result ≡ limits_of opcode }
 {
-    if opcode == 0 {
-        return NO_OPCODE;
-    }
-    FIELDS[opcode as usize - 1].limits()
+    LIMITS[opcode as usize]
 }
 
 // The largest operand of each kind: absent, register, label, integer. The crate itself calls it, for a program that has a block.
@@ -282,8 +320,8 @@ pub(crate) fn bounds_of(version: u64, blocks: u64) -> Bounds
     }
 }
 
-// Question 8, by comparing each field with its limit. Of 1 to 17 no branch depends on which it is; 0, which is no opcode, has limits that
-// nothing meets.
+// Question 8, by comparing each field with its limit: no branch depends on which opcode it is, and 0, which is none, has limits that nothing
+// meets.
 fn is_laid_out(bounds: &Bounds, x: Instruction) -> bool
     requires { Limited bounds.now.opcodes (blocks_by bounds.now.largest) bounds.now.largest }
     ensures { result ≡ laid_out bounds.now.opcodes (blocks_by bounds.now.largest) x }

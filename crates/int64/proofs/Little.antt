@@ -1,5 +1,5 @@
 -- Little-endian numbers: sizes, reading what was written and back, and numbers of m + n bytes by their parts.
-use Rattle.std.proofs.Common.{◌≡◌, ℕ, zero, suc, ◌+◌, ◌-◌, ◌*◌, ◌/◌, ◌%◌, ◌^◌, ◌<◌, ◌≤◌, List, ◌∷◌, ◌++◌, length, get_or, take, drop, refl, ap, ◌∙◌, ap₂, add-zero, suc-add, zero-add, arith, length-drop, append_assoc, drop-cons, drop-drop, get_or-append-add}
+use Rattle.std.proofs.Common.{◌≡◌, ℕ, zero, suc, ◌+◌, ◌-◌, ◌*◌, ◌/◌, ◌%◌, ◌^◌, ◌<◌, ◌≤◌, List, ◌∷◌, ◌++◌, length, get_or, take, drop, sym, refl, ap, ◌∙◌, ap₂, add-zero, mul_assoc, suc-add, mul-le-mul_left, zero-add, mul-suc, arith, pow-add, length-drop, append_assoc, drop-cons, drop-drop, get_or-append-add}
 use native.Mathlib.Nat.{pow-succ', div-div-eq-div-mul}
 use lib.ListN.{get_or-append}
 use lib.Seq.{sets, sets-eq}
@@ -7,7 +7,7 @@ use Rattle.std.specs.Int.{w64, from_le_bytes, to_le_bytes}
 use Rattle.std.proofs.lemmas.List.{length-take-le, get_or-append_right, get_or-take, get_or-drop}
 use borrow.Rule.Slice.PartMut.{put_mid}
 use Rattle.int64.specs.Little.{little, bytes_of, NumberAt}
-use Rattle.int64.proofs.Stores.{one_further, get_d_sets-inside}
+use Rattle.int64.proofs.Stores.{one_further, sets-append, get_d_sets-inside}
 
 -- ---- sizes
 
@@ -74,6 +74,42 @@ bytes_of_little (suc n) bs at h b =
     let low : (get_or bs at 0 + 256 * r) % 256 ≡ get_or bs at 0 = omega (arith, h at) in
     let high : (get_or bs at 0 + 256 * r) / 256 ≡ r = omega (arith, h at) in
     rw (low, high, drop-cons bs at 0 (omega arith)) (ap (λ (t : List ℕ). get_or bs at 0 ∷ t) (bytes_of_little n bs (suc at) h (omega arith)))
+
+-- ---- numbers of m + n bytes
+
+pub little_add : (m n : ℕ) (bs : List ℕ) (at : ℕ) → little (m + n) bs at ≡ little m bs at + 256 ^ m * little n bs (at + m)
+unfolding little
+little_add zero n bs at = rw (zero-add n, add-zero at) (omega arith)
+little_add (suc m) n bs at =
+    let r : ℕ = little n bs (suc at + m) in
+    let p : 256 ^ suc m * r ≡ 256 * (256 ^ m * r) = rw (pow-succ' 256 m) (mul_assoc 256 (256 ^ m) r) in
+    rw (suc-add m n, one_further at m, p, little_add m n bs (suc at)) (omega arith)
+
+pub bytes_of_add : (m n x : ℕ) → bytes_of (m + n) x ≡ bytes_of m x ++ bytes_of n (x / 256 ^ m)
+unfolding bytes_of
+bytes_of_add zero n x = ap₂ bytes_of (zero-add n) (let e : x ≡ x / 1 = omega arith in e)
+bytes_of_add (suc m) n x =
+    rw (suc-add m n, bytes_of_add m n (x / 256), div-div-eq-div-mul x 256 (256 ^ m), pow-succ' 256 m)
+
+parts_below : (P Q r s : ℕ) → r < P → s < Q → r + P * s < P * Q
+parts_below P Q r s h k =
+    let e : P * suc s ≤ P * Q = mul-le-mul_left P k in
+    omega (arith, e, mul-suc P s)
+
+pub number_add : (m n : ℕ) (bs : List ℕ) (at r s : ℕ) → NumberAt m bs at r → NumberAt n bs (at + m) s → NumberAt (m + n) bs at (r + 256 ^ m * s)
+number_add m n bs at r s a b =
+    record {
+      equal = ap₂ (λ (x y : ℕ). x + 256 ^ m * y) a.equal b.equal ∙ sym (little_add m n bs at);
+      below = rw (pow-add 256 m n) (parts_below (256 ^ m) (256 ^ n) r s a.below b.below);
+    }
+
+-- the low m bytes, and then the next n behind them
+pub stored_add : (m n x at : ℕ) (l l₁ l₂ : List ℕ) → l₁ ≡ sets l at (bytes_of m x) → l₂ ≡ sets l₁ (at + m) (bytes_of n (x / 256 ^ m)) → l₂ ≡ sets l at (bytes_of (m + n) x)
+stored_add m n x at l l₁ l₂ e₁ e₂ =
+    let ys : List ℕ = bytes_of n (x / 256 ^ m) in
+    e₂ ∙ ap₂ (λ (t : List ℕ) (k : ℕ). sets t (at + k) ys) e₁ (sym (length_bytes_of m x))
+    ∙ sets-append l at (bytes_of m x) ys
+    ∙ ap (sets l at) (sym (bytes_of_add m n x))
 
 -- ---- numbers of n bytes in a longer one
 

@@ -24,8 +24,8 @@ use drive::State;
 use image::layout::PROGRAM_CELLS;
 use image::refusal::Refusal;
 use input::Accepted;
-use machine::Machine;
 use machine::start::MOST_WORDS;
+use machine::{Answered, Machine};
 use report::{REPORT_BYTES, ROUNDS_REPORT_BYTES, Report, TEXT_BYTES};
 use state::STATE_BYTES;
 
@@ -54,7 +54,7 @@ pub fn tpal_image_rewrite(image: &[u8], out: &mut [u8]) -> Result<(), Refusal>
     image::rewrite(image, out)
 }
 
-// The order carried out on an accepted job, whose words go to the lent slice. Its start is not refused.
+// The order carried out on an accepted job, whose words go to the lent slice.
 fn carry_out(job: &Accepted, words: &mut [i64], order: &[u8]) -> State
     requires { length words.old ≡ word_count job.now.input.bytes.now }
     ensures { result ≡ replay_of job.now.input.bytes.now order.now }
@@ -63,19 +63,8 @@ fn carry_out(job: &Accepted, words: &mut [i64], order: &[u8]) -> State
     job.input.read_words(words);
     let places = job.input.places();
     let interval = job.input.interval();
-    let mut machine = Machine::blank();
-    let Ok(()) = orders::replay(
-        job.cells,
-        places,
-        interval,
-        &registers,
-        words,
-        order,
-        &mut machine,
-    ) else {
-        unreachable!()
-    };
-    machine.state
+    let replayed = orders::replay(job.cells, places, interval, &registers, words, order);
+    replayed.machine.state
 }
 
 // Starts a job, given by its bytes, and carries out one pick for each byte of the order; then writes the whole state into `state`, which
@@ -168,10 +157,8 @@ fn dispatch_job(job: &Accepted, words: &mut [i64], lanes: u64, rounds: u64) -> R
     let places = job.input.places();
     let interval = job.input.interval();
     let state = machine::start::fresh_state(places, interval as u16, &registers);
-    let mut machine = Machine { state };
-    let Ok(ran) = machine.dispatch_in_place(job.cells, words, lanes, rounds) else {
-        unreachable!()
-    };
+    let Answered { machine, answer } = Machine { state }.dispatch(job.cells, words, lanes, rounds);
+    let Ok(ran) = answer else { unreachable!() };
     RoundsReport {
         report: report::report_of(&machine.state, ran.picks),
         rounds: ran.rounds,

@@ -1,5 +1,5 @@
 -- What a dispatcher that is not refused is like, and what each way through it hands back.
-use mathlib.Core.Path.{◌≡◌}
+use mathlib.Core.Path.{◌≡◌, refl}
 use mathlib.Core.Bool.{true, false}
 use mathlib.Core.List.{List, []}
 use Prim.Native.Nat.{ℕ, ◌-◌, ◌<◌, ◌≤◌}
@@ -75,7 +75,8 @@ module _ (cells : List ℕ) (words : List ℤ) (lanes : ℕ) (m : State) where
 
     -- no task was taken: none runs, so the job has ended, and no round begins
     pub dispatch-idle : dispatch_no cells words lanes m ≡ 0 → Sized m → tasks_taken m.tasks lanes ≡ 0
-        → record { no = 0; ended = job_ended m; rounds = 0; picks = 0; machine = record { state = m } } ≡ dispatched cells words m lanes budget
+        → (record { no = 0; ended = job_ended m; rounds = 0; picks = 0; machine = record { state = m } } ≡ dispatched cells words m lanes budget)
+        × (job_ended m ≡ true)
     unfolding dispatched
     dispatch-idle passes sized none =
         let x = dispatch-passed passes in
@@ -84,7 +85,7 @@ module _ (cells : List ℕ) (words : List ℤ) (lanes : ℕ) (m : State) where
         (λ k b. taken_none m.tasks lanes x.some_lanes none k) in
         let still = stays cells words (rounds lanes) (work_limit - m.work) (begun m (record { slots = []; done = 0; budget = budget }))
         (rounds_stop lanes m _ (rw over)) in
-        rw (passes, still)
+        (rw (passes, still) refl, over)
 
     pub dispatch-answered : dispatch_no cells words lanes m ≡ 0 → (order : List ℕ) → let d = driven cells words m order (Rounds lanes budget) in
         record { no = 0; ended = job_ended d.state; rounds = d.rounds; picks = d.picks; machine = record { state = d.state } } ≡ dispatched cells words m lanes budget

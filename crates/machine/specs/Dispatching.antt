@@ -1,5 +1,7 @@
 -- The dispatcher: rounds on 1 to 8 lanes, at most so many.
-use Rattle.std.specs.Prelude.{Bool, false, cond, ◌&&◌, List, ℕ, eqb, leb, ℤ, length}
+use Rattle.std.specs.Prelude.{Bool, false, cond, ◌&&◌, List, ℕ, eqb, leb, ℤ, length, Ok, Err, Result}
+use Rattle.image.specs.declared.refusal.Refusal.{Refusal}
+use Rattle.image.specs.Refusals.{number}
 use Rattle.image.specs.Layout.{program_of}
 use Rattle.image.specs.Questions.{ask, or_else}
 use Rattle.drive.specs.declared.State.{State}
@@ -7,6 +9,8 @@ use Rattle.drive.specs.Ending.{job_ended}
 use Rattle.drive.specs.Shape.{shape}
 use Rattle.drive.specs.Courses.{Run}
 use Rattle.drive.specs.Rounds.{Rounding, rounds_from}
+use Rattle.machine.specs.declared.Machine.{Machine}
+use Rattle.machine.specs.declared.Rounds.{Rounds}
 use Rattle.machine.specs.Dispatched.{Dispatched}
 use Rattle.machine.specs.Picking.{call_no}
 
@@ -30,3 +34,8 @@ dispatched_by refusal m r =
 
 unfoldable pub dispatched : List ℕ → List ℤ → State → ℕ → ℕ → Dispatched
 dispatched cells words m lanes budget = dispatched_by (dispatch_no cells words lanes m) m (rounds_from cells words m lanes budget)
+
+-- what the code hands back: a refused dispatcher 0 rounds and 0 picks, and not that the job has ended
+abbrev pub dispatched_of : Machine → Result Rounds Refusal → Dispatched
+dispatched_of machine (Ok r) = record { machine = machine; rounds = r.rounds; picks = r.picks; no = 0; ended = r.ended }
+dispatched_of machine (Err r) = record { machine = machine; rounds = 0; picks = 0; no = number r; ended = false }

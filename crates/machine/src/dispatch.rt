@@ -1,7 +1,7 @@
 // The dispatcher: its questions, put once, and the loop over the slots in rounds.
-ghost use Rattle.std.specs.Prelude.{◌≡◌, IfOk};
+ghost use Rattle.std.specs.Prelude.{◌≡◌};
 ghost use Rattle.image.specs.Refusals.{no_of};
-ghost use Rattle.machine.specs.Dispatching.{lanes_allowed, dispatch_no_by, dispatched};
+ghost use Rattle.machine.specs.Dispatching.{lanes_allowed, dispatch_no_by, dispatched, dispatched_of};
 
 use crate::{Machine, Rounds, pick};
 use drive::{State, picks};
@@ -40,11 +40,7 @@ impl Machine {
         lanes: u64,
         budget: u64,
     ) -> Result<Rounds, Refusal>
-        ensures value { no_of result ≡ (dispatched cells.now words.now self.old.state lanes budget).no }
-        ensures state_after { self.new ≡ (dispatched cells.now words.now self.old.state lanes budget).machine }
-        ensures rounds { IfOk result (λ r. (r.rounds ≡ (dispatched cells.now words.now self.old.state lanes budget).rounds)
-            × (r.picks ≡ (dispatched cells.now words.now self.old.state lanes budget).picks)
-            × (r.ended ≡ (dispatched cells.now words.now self.old.state lanes budget).ended)) }
+        ensures { dispatched_of self.new result ≡ dispatched cells.now words.now self.old.state lanes budget }
     {
         ask_dispatch(cells, words.len(), lanes, &self.state)?;
         // the records are looked over in slot order: where no task is taken none runs, and the job has ended

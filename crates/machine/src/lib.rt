@@ -2,12 +2,12 @@
 // changes the state where it stands, and leaves it as it was where it is refused.
 #![tactic(auto)]
 
-ghost use Rattle.std.specs.Prelude.{◌≡◌, IfOk};
+ghost use Rattle.std.specs.Prelude.{◌≡◌};
 ghost use Rattle.image.specs.Refusals.{no_of};
 ghost use Rattle.machine.specs.Starting.{start_no, started};
 ghost use Rattle.machine.specs.Picking.{pick_no, picked};
-ghost use Rattle.machine.specs.Running.{outcome};
-ghost use Rattle.machine.specs.Dispatching.{dispatched};
+ghost use Rattle.machine.specs.Running.{outcome, outcome_of};
+ghost use Rattle.machine.specs.Dispatching.{dispatched, dispatched_of};
 
 pub mod dispatch;
 pub mod pick;
@@ -77,10 +77,7 @@ impl Machine {
 
     // Passes over the slots until the job has ended, the budget's picks are carried out, or the work stands at its limit.
     pub fn run(self, cells: &[u64], words: &[i64], budget: u64) -> Answered<Ran>
-        ensures value { no_of result.answer ≡ (outcome cells.now words.now self.state budget).no }
-        ensures state_value { result.machine ≡ (outcome cells.now words.now self.state budget).machine }
-        ensures ran { IfOk result.answer (λ r. (r.picks ≡ (outcome cells.now words.now self.state budget).picks)
-            × (r.ended ≡ (outcome cells.now words.now self.state budget).ended)) }
+        ensures { outcome_of result.machine result.answer ≡ outcome cells.now words.now self.state budget }
     {
         let mut machine = self;
         let answer = machine.run_in_place(cells, words, budget);
@@ -90,11 +87,7 @@ impl Machine {
     // Rounds on so many lanes, each a pick of the first tasks that run at its start, until the job has ended, the budget's rounds are begun, or
     // the work stands at its limit.
     pub fn dispatch(self, cells: &[u64], words: &[i64], lanes: u64, budget: u64) -> Answered<Rounds>
-        ensures value { no_of result.answer ≡ (dispatched cells.now words.now self.state lanes budget).no }
-        ensures state_value { result.machine ≡ (dispatched cells.now words.now self.state lanes budget).machine }
-        ensures rounds { IfOk result.answer (λ r. (r.rounds ≡ (dispatched cells.now words.now self.state lanes budget).rounds)
-            × (r.picks ≡ (dispatched cells.now words.now self.state lanes budget).picks)
-            × (r.ended ≡ (dispatched cells.now words.now self.state lanes budget).ended)) }
+        ensures { dispatched_of result.machine result.answer ≡ dispatched cells.now words.now self.state lanes budget }
     {
         let mut machine = self;
         let answer = machine.dispatch_in_place(cells, words, lanes, budget);

@@ -1,7 +1,6 @@
 // The budgeted run: its questions, put once, and the loop over the slots.
-ghost use Rattle.std.specs.Prelude.{◌≡◌, IfOk};
-ghost use Rattle.image.specs.Refusals.{no_of};
-ghost use Rattle.machine.specs.Running.{outcome};
+ghost use Rattle.std.specs.Prelude.{◌≡◌};
+ghost use Rattle.machine.specs.Running.{outcome, outcome_of};
 
 use crate::{Machine, Ran, pick};
 use drive::picks;
@@ -16,10 +15,7 @@ impl Machine {
         words: &[i64],
         budget: u64,
     ) -> Result<Ran, Refusal>
-        ensures value { no_of result ≡ (outcome cells.now words.now self.old.state budget).no }
-        ensures state_after { self.new ≡ (outcome cells.now words.now self.old.state budget).machine }
-        ensures ran { IfOk result (λ r. (r.picks ≡ (outcome cells.now words.now self.old.state budget).picks)
-            × (r.ended ≡ (outcome cells.now words.now self.old.state budget).ended)) }
+        ensures { outcome_of self.new result ≡ outcome cells.now words.now self.old.state budget }
     {
         pick::ask_state(cells, words.len(), &self.state)?;
         let counts = picks::drive(

@@ -1,19 +1,18 @@
 // Whatever the order of picks: the statements stand in specs/, the theorems in proofs/. `replay` carries an order out.
 #![tactic(auto)]
 
-ghost use Rattle.std.specs.Prelude.{◌≡◌, OnOk, OnErr};
+ghost use Rattle.std.specs.Prelude.{◌≡◌};
 ghost use Rattle.image.specs.Refusals.{no_of};
 ghost use Rattle.machine.specs.Starting.{start_no, empty};
 ghost use Rattle.orders.specs.Demand.{WhateverTheOrder, start_on};
 ghost use Rattle.orders.specs.Replay.{job_of, replayed};
 
 use drive::picks::drive;
-use image::refusal::Refusal;
-use machine::Machine;
+use machine::{Answered, Machine};
 use turns::course::Course;
 
-// Starts a job in the lent machine and carries out one pick for each byte of the order, refused ones passed over. The refusal is start's, which
-// leaves the machine as it was. Otherwise whatever the order, demand 3 holds of the state.
+// Starts a job and carries out one pick for each byte of the order, refused ones passed over. The refusal is start's; a refused start hands
+// back a blank state. Otherwise whatever the order, demand 3 holds of the state.
 pub fn replay(
     cells: &[u64],
     places: u64,
@@ -21,15 +20,22 @@ pub fn replay(
     registers: &[i64],
     words: &[i64],
     order: &[u8],
-    machine: &mut Machine,
-) -> Result<(), Refusal>
-    ensures value { no_of result ≡ start_no cells.now places interval registers.now words.now }
-    ensures state_after { OnOk result (machine.new.state ≡ replayed 0 (job_of cells.now places interval registers.now words.now) order.now) }
-    ensures whatever_the_order { OnOk result (WhateverTheOrder (job_of cells.now places interval registers.now words.now)
-        (start_on (job_of cells.now places interval registers.now words.now) (empty 0 0)) order.now) }
-    ensures refused { OnErr result (machine.new ≡ machine.old) }
+) -> Answered<()>
+    ensures value { no_of result.answer ≡ start_no cells.now places interval registers.now words.now }
+    ensures state_value { result.machine.state ≡ replayed (no_of result.answer) (job_of cells.now places interval registers.now words.now) order.now }
+    ensures whatever_the_order { no_of result.answer ≡ 0 → WhateverTheOrder (job_of cells.now places interval registers.now words.now)
+        (start_on (job_of cells.now places interval registers.now words.now) (empty 0 0)) order.now }
 {
-    machine.start_in_place(cells, places, interval, registers, words)?;
+    let Answered {
+        mut machine,
+        answer,
+    } = Machine::blank().start(cells, places, interval, registers, words);
+    if let Err(refusal) = answer {
+        return Answered {
+            machine,
+            answer: Err(refusal),
+        };
+    }
     drive(cells, words, &mut machine.state, order, Course::Listed);
-    Ok(())
+    Answered { machine, answer }
 }

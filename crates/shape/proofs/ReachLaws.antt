@@ -14,7 +14,7 @@ use Rattle.task.specs.declared.Value.TheVariants.{Int, Label, Record}
 use Rattle.task.specs.declared.Register.{Register}
 use Rattle.task.specs.declared.Task.{Task}
 use Rattle.task.specs.Frames.{zero_register}
-use Rattle.task.specs.Formed.{every, value_fits, is_zero, entry_fits, stack_fits}
+use Rattle.task.specs.Formed.{every, value_fits, is_zero, entry_fits, stack_fits, stack_empty}
 use Rattle.task.specs.Stretches.{reads}
 use Rattle.task.proofs.EveryLaws.{every-at, every_from, every-alike}
 use Rattle.task.proofs.StretchLaws.{length-reads, get_d_reads}
@@ -110,3 +110,6 @@ module _ (program : Program) where
         by-test (leb t.height 32)
         (λ e. rw (e, r.all_fit t.height (leb-true t.height 32 e)))
         (λ e. rw e)
+
+    pub reach-empty : stack_empty (framed t registers stack) ≡ eqb t.height 0 && eqb n 0
+    reach-empty = ap (λ b. eqb t.height 0 && b) r.all_zero

@@ -5,9 +5,10 @@ use mathlib.Core.Bool.{Bool, true, false, ◌&&◌}
 use mathlib.Core.List.{List}
 use native.Mathlib.Omega.{arith}
 use lib.Dec.{eqb, ltb, leb}
-use lib.ListN.{length, get_or}
+use lib.ListN.{length, get_or, set}
+use lib.Seq.{get_or-set_same, get_or-set_other}
 use borrow.Author.Tests.{eq-eqb, lt-ltb, le-ltb}
-use Rattle.facts.proofs.Tests.{never}
+use Rattle.facts.proofs.Tests.{by_order, never}
 use Rattle.image.specs.Program.{Program}
 use Rattle.task.specs.declared.Register.{Register}
 use Rattle.task.specs.declared.Task.{Task}
@@ -19,6 +20,15 @@ use Rattle.task.proofs.Vacancy.{vacant_is}
 use Rattle.shape.specs.Codes.{Graded, Reached, framed}
 use Rattle.task.proofs.EveryLaws.{every-alike}
 use Rattle.shape.proofs.ReachLaws.{reach-fits}
+
+-- what holds of each element before k, and of the one stored at k, holds before k + 1
+pub below_set : (P : ℕ → ℕ → Type 0) (l : List ℕ) (k v : ℕ) → k < length l → ((j : ℕ) → j < k → P j (get_or l j 0)) → P k v
+    → (j : ℕ) → j < k + 1 → P j (get_or (set l k v) j 0)
+below_set P l k v inside before here j h =
+    by_order j k
+    (λ (b : j < k). rw (get_or-set_other l k j v 0 (λ e. omega arith)) (before j b))
+    (λ (e : j ≡ k). rw (e, get_or-set_same l k v 0 inside) here)
+    (λ (a : k < j). absurd (omega arith))
 
 -- at depth 0 no entry is in use
 closed : (program : Program) (t : Task) → t.depth ≡ 0 → forks_fit program t ≡ every (λ i. is_zero_fork (get_or t.forks i zero_fork)) 6 0

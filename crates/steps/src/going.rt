@@ -1,9 +1,9 @@
 // A job gone on with, over bytes: one pick, or a run.
-ghost use Rattle.std.specs.Prelude.{◌≡◌, true, ◌&&◌, ◌*◌, ◌/◌, eqb, leb, length, IfOk, IfErr, OnOk};
+ghost use Rattle.std.specs.Prelude.{◌≡◌, true, ◌&&◌, ◌*◌, ◌/◌, eqb, leb, length, IfErr, OnOk};
 ghost use Rattle.image.specs.Refusals.{number, no_of};
 ghost use Rattle.machine.specs.Starting.{most_words};
 ghost use Rattle.machine.specs.Picking.{pick_no, picked};
-ghost use Rattle.machine.specs.Running.{outcome};
+ghost use Rattle.machine.specs.Running.{outcome, outcome_of};
 ghost use Rattle.report.specs.Report.{report_length};
 ghost use Rattle.state.specs.State.{state_length};
 ghost use Rattle.state.specs.Reading.{stands_state};
@@ -14,7 +14,7 @@ use crate::buffers;
 use image::layout::PROGRAM_CELLS;
 use image::refusal::Refusal;
 use machine::start::MOST_WORDS;
-use machine::{Machine, Ran};
+use machine::{Answered, Machine, Ran};
 use report::REPORT_BYTES;
 use state::STATE_BYTES;
 
@@ -58,16 +58,16 @@ fn pick_on(
     words: &[u8],
     held: &mut [i64],
     slot: u64,
-    machine: &mut Machine,
-) -> Result<(), Refusal>
+    machine: Machine,
+) -> Answered<()>
     requires { (length program.now ≡ program_bytes) × (length words.now ≡ 8 * length held.old) }
-    ensures value { no_of result ≡ pick_no (cells_of program.now) (integers_of words.now) machine.old.state slot }
-    ensures state_after { machine.new.state ≡ picked (cells_of program.now) (integers_of words.now) machine.old.state slot }
+    ensures value { no_of result.answer ≡ pick_no (cells_of program.now) (integers_of words.now) machine.state slot }
+    ensures state_value { result.machine.state ≡ picked (cells_of program.now) (integers_of words.now) machine.state slot }
 {
     let mut cells = [0u64; PROGRAM_CELLS];
     buffers::read_cells(program, &mut cells);
     state::numbers::read_integers(words, 0, held);
-    machine.pick_in_place(&cells, held, slot)
+    machine.pick(&cells, held, slot)
 }
 
 // One instruction of the slot's task, on the state that the lent bytes stand for; they then are the new state's. A refusal leaves them as
@@ -79,10 +79,11 @@ pub fn pick(program: &[u8], words: &[u8], slot: u64, lent: &mut [u8]) -> Result<
     ask_lent(program, words, lent.len() == STATE_BYTES, lent)?;
     let mut held = [0i64; MOST_WORDS];
     let count = words.len() / 8;
-    let mut machine = Machine {
+    let machine = Machine {
         state: state::reader::read_state(lent),
     };
-    pick_on(program, words, &mut held[..count], slot, &mut machine)?;
+    let Answered { machine, answer } = pick_on(program, words, &mut held[..count], slot, machine);
+    answer?;
     state::writer::write_state(&machine.state, lent);
     Ok(())
 }
@@ -93,18 +94,15 @@ fn run_on(
     words: &[u8],
     held: &mut [i64],
     budget: u64,
-    machine: &mut Machine,
-) -> Result<Ran, Refusal>
+    machine: Machine,
+) -> Answered<Ran>
     requires { (length program.now ≡ program_bytes) × (length words.now ≡ 8 * length held.old) }
-    ensures value { no_of result ≡ (outcome (cells_of program.now) (integers_of words.now) machine.old.state budget).no }
-    ensures state_after { machine.new ≡ (outcome (cells_of program.now) (integers_of words.now) machine.old.state budget).machine }
-    ensures ran { IfOk result (λ r. (r.picks ≡ (outcome (cells_of program.now) (integers_of words.now) machine.old.state budget).picks)
-        × (r.ended ≡ (outcome (cells_of program.now) (integers_of words.now) machine.old.state budget).ended)) }
+    ensures { outcome_of result.machine result.answer ≡ outcome (cells_of program.now) (integers_of words.now) machine.state budget }
 {
     let mut cells = [0u64; PROGRAM_CELLS];
     buffers::read_cells(program, &mut cells);
     state::numbers::read_integers(words, 0, held);
-    machine.run_in_place(&cells, held, budget)
+    machine.run(&cells, held, budget)
 }
 
 // Passes over the slots on the state that the lent bytes stand for; they then are the new state's, and `out` the report. A refusal leaves
@@ -123,10 +121,11 @@ pub fn run(
     ask_lent(program, words, both_fit(lent.len(), out.len()), lent)?;
     let mut held = [0i64; MOST_WORDS];
     let count = words.len() / 8;
-    let mut machine = Machine {
+    let machine = Machine {
         state: state::reader::read_state(lent),
     };
-    let ran = run_on(program, words, &mut held[..count], budget, &mut machine)?;
+    let Answered { machine, answer } = run_on(program, words, &mut held[..count], budget, machine);
+    let ran = answer?;
     state::writer::write_state(&machine.state, lent);
     let r = report::report_of(&machine.state, ran.picks);
     report::bytes::write_report(r, out);

@@ -9,8 +9,8 @@ ghost use Rattle.steps.specs.Calls.{started_no, state_after_start};
 use crate::buffers;
 use image::layout::PROGRAM_CELLS;
 use image::refusal::Refusal;
-use machine::Machine;
 use machine::start::MOST_WORDS;
+use machine::{Answered, Machine};
 use state::STATE_BYTES;
 
 // Whether each buffer has its length, and the words no more than their most. Of the buffers only their lengths count.
@@ -43,18 +43,18 @@ fn start_on(
     registers: &[u8],
     words: &[u8],
     held: &mut [i64],
-    machine: &mut Machine,
-) -> Result<(), Refusal>
+    machine: Machine,
+) -> Answered<()>
     requires { (length program.now ≡ program_bytes) × (length registers.now ≡ 128) × (length words.now ≡ 8 * length held.old) }
-    ensures value { no_of result ≡ start_no (cells_of program.now) places interval (integers_of registers.now) (integers_of words.now) }
-    ensures state_after { machine.new.state ≡ started machine.old.state (cells_of program.now) places interval (integers_of registers.now) (integers_of words.now) }
+    ensures value { no_of result.answer ≡ start_no (cells_of program.now) places interval (integers_of registers.now) (integers_of words.now) }
+    ensures state_value { result.machine.state ≡ started machine.state (cells_of program.now) places interval (integers_of registers.now) (integers_of words.now) }
 {
     let mut cells = [0u64; PROGRAM_CELLS];
     buffers::read_cells(program, &mut cells);
     let mut first = [0i64; 16];
     state::numbers::read_integers(registers, 0, &mut first);
     state::numbers::read_integers(words, 0, held);
-    machine.start_in_place(&cells, places, interval, &first, held)
+    machine.start(&cells, places, interval, &first, held)
 }
 
 // Starts a job and writes its state into the lent buffer, 83,992 bytes; a refusal leaves the buffer as it was.
@@ -81,16 +81,16 @@ pub fn start(
     }
     let mut held = [0i64; MOST_WORDS];
     let count = words.len() / 8;
-    let mut machine = Machine::blank();
-    start_on(
+    let Answered { machine, answer } = start_on(
         program,
         places,
         interval,
         registers,
         words,
         &mut held[..count],
-        &mut machine,
-    )?;
+        Machine::blank(),
+    );
+    answer?;
     state::writer::write_state(&machine.state, lent);
     Ok(())
 }

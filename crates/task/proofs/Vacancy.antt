@@ -38,7 +38,7 @@ zero_value (Label b) e = clash e refl
 zero_value (Record c d) e = clash e refl
 
 -- 16 registers that pass the test are 16 integers 0
-zero_registers : (f : Frame) → length f.registers ≡ 16 → registers_zero f ≡ true → f.registers ≡ zeros
+pub zero_registers : (f : Frame) → length f.registers ≡ 16 → registers_zero f ≡ true → f.registers ≡ zeros
 zero_registers f full e =
     ext_get_or zero_register f.registers zeros (full ∙ sym (length-replicate 16 zero_register))
     (λ i p. at i (omega arith) ∙ sym (get_or-replicate 16 i zero_register zero_register (omega arith)))

@@ -4,6 +4,8 @@ use Rattle.task.specs.Frames.{work_limit}
 use Rattle.turns.specs.declared.course.Course.{Course}
 use Rattle.turns.specs.declared.course.Course.TheVariants.{Passes, Listed, Rounds}
 use Rattle.turns.specs.declared.course.Position.{Position}
+use Rattle.turns.specs.declared.course.Next.{Next}
+use Rattle.turns.specs.declared.course.Next.TheVariants.{First, Over}
 use Rattle.turns.specs.Rows.{slot_in}
 
 -- the next stretch's first position. Or it is over: there is none
@@ -11,7 +13,7 @@ pub record Stretch : Type 0 where
   pub over : Bool
   pub first : Position
 
--- as the code answers it
+-- its first position alone
 abbrev pub first_of : Stretch → Option Position
 first_of s = cond s.over None (Some s.first)
 
@@ -21,6 +23,11 @@ nowhere begun until = record { slot = 0; ahead = 0; until = until; begun = begun
 
 abbrev pub done : ℕ → Stretch
 done begun = record { over = true; first = nowhere begun 0 }
+
+-- as the code answers it
+abbrev pub stretch_of : Next → Stretch
+stretch_of (First p) = record { over = false; first = p }
+stretch_of (Over begun) = done begun
 
 -- one without a row, from this slot on
 abbrev pub walk_from : ℕ → ℕ → ℕ → ℕ → Stretch

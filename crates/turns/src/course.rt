@@ -1,6 +1,6 @@
 // The course that the loop follows. It consists of stretches, each a walk over slots, and the loop asks for the next one when a walk is over.
 ghost use Rattle.std.specs.Prelude.{◌≡◌, drop};
-ghost use Rattle.turns.specs.Stretches.{stop_at, nowhere, first_of, walk_from, next_pass, next_listed, next_round, next_stretch, lanes_of, rounds_of};
+ghost use Rattle.turns.specs.Stretches.{stop_at, nowhere, stretch_of, walk_from, next_pass, next_listed, next_round, next_stretch, lanes_of, rounds_of};
 
 use crate::rows;
 
@@ -28,8 +28,15 @@ pub struct Position {
     pub last: u64,
 }
 
+// The next stretch's first position; or it is over, so many stretches begun.
+#[derive(Clone, Copy, Debug, PartialEq, Eq)]
+pub enum Next {
+    First(Position),
+    Over(usize),
+}
+
 impl Position {
-    // Before the first stretch.
+    // Before the first stretch, and behind the last.
     pub fn nowhere(begun: usize, until: u32) -> Position
         ensures { result ≡ nowhere begun until }
     {
@@ -67,42 +74,42 @@ fn stop_at(work: u32, picks: u64) -> u32
     task::WORK_LIMIT
 }
 
-fn next_pass(slot: usize, picks: u64, begun: usize, places: u64, work: u32) -> Option<Position>
-    ensures { result ≡ first_of (next_pass slot picks begun places work) }
+fn next_pass(slot: usize, picks: u64, begun: usize, places: u64, work: u32) -> Next
+    ensures { stretch_of result ≡ next_pass slot picks begun places work }
 {
     if begun != 0 {
-        return None;
+        return Next::Over(begun);
     }
-    Some(Position::walking(slot, places, stop_at(work, picks), 1))
+    Next::First(Position::walking(slot, places, stop_at(work, picks), 1))
 }
 
 // A byte that names no slot of the state (question 21) is passed over.
-fn next_listed(order: &[u8], begun: usize, places: u64, work: u32) -> Option<Position>
-    ensures { result ≡ first_of (next_listed (drop begun order.now) begun places work) }
+fn next_listed(order: &[u8], begun: usize, places: u64, work: u32) -> Next
+    ensures { stretch_of result ≡ next_listed (drop begun order.now) begun places work }
 {
     for at in begun..order.len() {
         let slot = u64::from(order[at]);
         if slot < places {
-            return Some(Position::walking(slot as usize, 1, stop_at(work, 1), at + 1));
+            return Next::First(Position::walking(slot as usize, 1, stop_at(work, 1), at + 1));
         }
     }
-    None
+    Next::Over(begun.max(order.len()))
 }
 
 // Rounds begin where the job has not ended and the work is below its limit.
-fn next_round(rounds: u64, begun: usize, work: u32, ended: bool, row: u64) -> Option<Position>
-    ensures { result ≡ first_of (next_round rounds begun work ended row) }
+fn next_round(rounds: u64, begun: usize, work: u32, ended: bool, row: u64) -> Next
+    ensures { stretch_of result ≡ next_round rounds begun work ended row }
 {
     if ended {
-        return None;
+        return Next::Over(begun);
     }
     if task::WORK_LIMIT <= work {
-        return None;
+        return Next::Over(begun);
     }
     if rounds <= begun as u64 {
-        return None;
+        return Next::Over(begun);
     }
-    Some(Position {
+    Next::First(Position {
         slot: rows::slot_in(row),
         ahead: 1,
         until: task::WORK_LIMIT,
@@ -114,7 +121,7 @@ fn next_round(rounds: u64, begun: usize, work: u32, ended: bool, row: u64) -> Op
 }
 
 impl Course {
-    // The first position of the next stretch, where there is one. The row is that of the state, and counts along rounds alone.
+    // The row is that of the state, and counts along rounds alone.
     pub fn next_stretch(
         self,
         order: &[u8],
@@ -123,8 +130,8 @@ impl Course {
         work: u32,
         ended: bool,
         row: u64,
-    ) -> Option<Position>
-        ensures { result ≡ first_of (next_stretch self order.now begun places work ended row) }
+    ) -> Next
+        ensures { stretch_of result ≡ next_stretch self order.now begun places work ended row }
     {
         match self {
             Course::Passes(slot, picks) => next_pass(slot, picks, begun, places, work),

@@ -17,23 +17,34 @@ pub fn does_pop(kind: Kind) -> bool
     matches!(kind, Kind::Pops)
 }
 
-// The entry that a push fills or a pop empties. Or the stack's question is answered with no: the fault, 42 for a push on a full stack, 43 for a
-// pop from an empty one. Drive alone calls it, with the height of a stack of the state.
-pub fn entry_of(pops: bool, height: u32) -> Result<usize, u8>
-    requires { height ≤ stack_length }
-    ensures entry { IfOk result (λ e. (stack_no pops height ≡ 0) × (e ≡ entry_of pops height) × (e < stack_length)) }
+// The stack's question, of any height: the fault where it is answered with no, 42 for a push on a full stack, 43 for a pop from an empty one.
+pub fn ask_stack(pops: bool, height: u32) -> Result<(), u8>
+    ensures answered { IfOk result (λ z. stack_no pops height ≡ 0) }
     ensures fault { IfErr result (λ no. (stack_no pops height ≡ no) × (0 < no)) }
 {
     if pops {
         if height == 0 {
             return Err(43);
         }
-        return Ok((height - 1) as usize);
+        return Ok(());
     }
     if height < 32 {
-        return Ok(height as usize);
+        return Ok(());
     }
     Err(42)
+}
+
+// The entry that a push fills or a pop empties, or the fault. Drive alone calls it, with the height of a stack of the state.
+pub fn entry_of(pops: bool, height: u32) -> Result<usize, u8>
+    requires { height ≤ stack_length }
+    ensures entry { IfOk result (λ e. (stack_no pops height ≡ 0) × (e ≡ entry_of pops height) × (e < stack_length)) }
+    ensures fault { IfErr result (λ no. (stack_no pops height ≡ no) × (0 < no)) }
+{
+    ask_stack(pops, height)?;
+    if pops {
+        return Ok((height - 1) as usize);
+    }
+    Ok(height as usize)
 }
 
 // The record of the task that goes on. Drive alone calls it, where the stack has that entry and the work is below its limit.

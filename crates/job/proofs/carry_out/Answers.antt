@@ -1,19 +1,17 @@
 -- `carry_out` meets its contract.
-use Rattle.std.proofs.Common.{◌∙◌, arith}
+use Rattle.std.proofs.Common.{ap, ◌∙◌}
 use Rattle.job.proofs.carry_out.Goals as goal
-use Rattle.image.proofs.Refusals.{number_positive}
+use Rattle.orders.specs.Replay.{job_of, replayed}
 use Rattle.job.proofs.Replaying.{starts, replay_agrees}
-
-pub unreachable-requires : goal.unreachable-requires
-unreachable-requires c =
-    let job = c.args.job.now in
-    let none =
-    c.in_default.ensures.value
-    ∙ starts job.input.bytes.now job.accepted job.read c.places-places.ensures c.interval-interval.ensures c.registers-registers.ensures c.read_words.ensures in
-    omega (arith, number_positive c.in_default.field-0, none)
 
 pub returns : goal.returns
 returns c =
     let job = c.args.job.now in
+    let made = c.replay-replayed in
+    let none =
+    made.ensures.value
+    ∙ starts job.input.bytes.now job.accepted job.read c.places-places.ensures c.interval-interval.ensures c.registers-registers.ensures c.read_words.ensures in
+    let j = job_of job.cells.now c.places-places.result c.interval-interval.result c.registers-registers.result c.read_words.new.out in
     replay_agrees job.input.bytes.now job.accepted job.read c.places-places.ensures c.interval-interval.ensures c.registers-registers.ensures
-    c.read_words.ensures c.args.order.now _ c.in-Ok.ensures.state_after
+    c.read_words.ensures c.args.order.now made.result.machine.state
+    (made.ensures.state_value ∙ ap (λ n. replayed n j c.args.order.now) none)

@@ -27,7 +27,7 @@ use Rattle.task.specs.declared.Executed.{Executed}
 use Rattle.task.proofs.Executing.{after}
 use Rattle.task.proofs.Sizes.{length-by}
 use Rattle.turns.specs.declared.course.Position.{Position}
-use Rattle.turns.specs.Stretches.{Stretch, next_stretch, lanes_of, rounds_of}
+use Rattle.turns.specs.Stretches.{Stretch, first_of, next_stretch, lanes_of, rounds_of}
 use Rattle.turns.specs.Rows.{packed}
 use Rattle.turns.specs.Walk.{walks_on, picked_on, width}
 use Rattle.turns.specs.Kinds.{stack_no}
@@ -43,7 +43,7 @@ use Rattle.drive.proofs.InPlace.{stored_at}
 use Rattle.drive.proofs.Intervals.{interval_fits}
 use Rattle.drive.proofs.Issuing.{Fetched, stores_issued, goes-issued, stacks-issued}
 use Rattle.drive.proofs.Planning.{ahead, Planned, then_less, then_grows, planned_below, planned_as, join_planned, EndsBy}
-use Rattle.drive.proofs.Planning.{ends_by, refused-by, end_planned, stacked_on, fork_room, fork_planned, next_goes, next_none, rounds_kept}
+use Rattle.drive.proofs.Planning.{ends_by, refused-by, end_planned, stacked_on, fork_room, fork_planned, next_goes, next_none}
 use Rattle.drive.proofs.Positions.{Walks, Goes, goes, Kept, picked-kept, Comes}
 use Rattle.drive.proofs.RowLaws.{Gathers, Looks, looks, unit_most, gather-begins, gather-passes, gather-takes, gather-ends}
 use Rattle.drive.proofs.Readiness.{its-instruction, s_small, r_small, label_small, left_read, right_read, ready}
@@ -69,10 +69,10 @@ use Rattle.drive.proofs.picks.drive.Goals.{else-due-gt0+else-loop-k-test+in-Some
 -- ---- the loop's head: a turn begins there
 
 abbrev given-of : At-loop-due → Given
-given-of c = given c.args.cells.now c.args.words.now c.args.state.now c.args.order.now c.args.course
+given-of c = given c.args.cells.now c.args.words.now c.args.lent.now c.args.order.now c.args.course
 
 allowed_of : (c : At-loop-due) → GivenAllowed (given-of c)
-allowed_of c = shape_allowed c.args.cells.now c.args.state.now c.requires.0 c.requires.2
+allowed_of c = shape_allowed c.args.cells.now c.args.lent.now c.requires.0 c.requires.2
 
 turns_at : (c : At-loop-due) → Turns (given-of c) c.loop-due.state c.loop-due.p c.loop-due.due c.loop-due.side
 turns_at c = c.loop-due.invariant.0
@@ -136,12 +136,12 @@ at-w : (w : Walk) → At (g-of w) w.m w.p
 at-w w = walk_at (allowed-w w) (turns_at w.turn) w.none_due w.leads
 
 few_places : (w : Walk) → w.m.places ≤ 64
-few_places w = omega (arith, (at-w w).fits.its_places, places_most w.turn.args.state.now.places (allowed-w w).its_places_allowed)
+few_places w = omega (arith, (at-w w).fits.its_places, places_most w.turn.args.lent.now.places (allowed-w w).its_places_allowed)
 
 slot-inside : (w : Walk) → w.p.slot < 64
 slot-inside w = omega (arith, (at-w w).slot_below, few_places w)
 
-below-g : (w : Walk) → w.p.slot < w.turn.args.state.now.places
+below-g : (w : Walk) → w.p.slot < w.turn.args.lent.now.places
 below-g w = omega (arith, (at-w w).slot_below, (at-w w).fits.its_places)
 
 -- its places at most
@@ -446,13 +446,13 @@ fork-slots h is =
 -- ---- what a turn has planned
 
 planned-at : (c : Joined-due-gt0) → let a = c.args in
-    let g = given a.cells.now a.words.now a.state.now a.order.now a.course in
+    let g = given a.cells.now a.words.now a.lent.now a.order.now a.course in
     let j = c.if-due-gt0 in
     Planned g (ahead g c.loop-due.state c.loop-due.p c.loop-due.due) j.state j.plan j.p j.due j.side
 planned-at c =
     let a = c.args in
-    let g = given a.cells.now a.words.now a.state.now a.order.now a.course in
-    let allowed = shape_allowed a.cells.now a.state.now c.requires.0 c.requires.2 in
+    let g = given a.cells.now a.words.now a.lent.now a.order.now a.course in
+    let allowed = shape_allowed a.cells.now a.lent.now c.requires.0 c.requires.2 in
     let h = c.loop-due in
     let head = h.invariant.0 in
     elim c.if-due-gt0.branch [
@@ -512,13 +512,13 @@ planned-at c =
 pub loop-due-init : goal.loop-due-init
 loop-due-init c =
     let a = c.args in
-    let g = given a.cells.now a.words.now a.state.now a.order.now a.course in
-    let sized : Sized a.state.now = record { of_bank = search (rules, length-by); of_stacks = search (rules, length-by); of_tasks = search (rules, length-by) } in
-    let allowed = shape_allowed a.cells.now a.state.now c.requires.0 c.requires.2 in
-    let fits = shape-fits a.cells.now a.state.now sized c.requires.2 in
-    let few : a.state.now.work ≤ work_limit = search rules in (
+    let g = given a.cells.now a.words.now a.lent.now a.order.now a.course in
+    let sized : Sized a.lent.now = record { of_bank = search (rules, length-by); of_stacks = search (rules, length-by); of_tasks = search (rules, length-by) } in
+    let allowed = shape_allowed a.cells.now a.lent.now c.requires.0 c.requires.2 in
+    let fits = shape-fits a.cells.now a.lent.now sized c.requires.2 in
+    let few : a.lent.now.work ≤ work_limit = search rules in (
       none-due g allowed 0 0 refl (omega arith)
-          (subst⁻¹ (At g a.state.now) c.nowhere-p.ensures (at_first g fits allowed c.requires.3 few)),
+          (subst⁻¹ (At g a.lent.now) c.nowhere-p.ensures (at_first g fits allowed c.requires.3 few)),
       omega arith,
       few,
     )
@@ -645,7 +645,7 @@ operand-v-requires c =
 pub overflow_cast-state : goal.overflow_cast-state
 overflow_cast-state c =
     let w = walk (goal.at.overflow_cast-state c).At-loop-due c.if-due-gt0.false c.loop-k.invariant.0 in
-    omega (arith, interval_fits c.args.state.now.interval (allowed-w w).its_interval_allowed, (at-w w).fits.its_interval)
+    omega (arith, interval_fits c.args.lent.now.interval (allowed-w w).its_interval_allowed, (at-w w).fits.its_interval)
 
 pub execute-e-requires : goal.execute-e-requires
 execute-e-requires c =
@@ -756,7 +756,7 @@ loop-k-preserved c =
 pub loop-met-init : goal.loop-met-init
 loop-met-init c =
     let a = c.args in
-    let few = lanes_few a.course a.state.now c.requires.3 in (
+    let few = lanes_few a.course a.lent.now c.requires.3 in (
       subst⁻¹ (Gathers c.loop-k.state (lanes_of a.course) 0) (c.new-row.ensures ∙ ap (λ n. record { slots = 0; unit = 1; lanes = n }) c.lanes.ensures)
           (gather-begins c.loop-k.state (lanes_of a.course) few),
       omega arith,
@@ -803,7 +803,7 @@ loop-due-smaller-in_default c =
     let ends = c.has_ended-ended.ensures ∙ ap is_end c.end_at.ensures in
     let still = none_left c.loop-k.stop c.in_default.not-Some in
     let comes = comes_at w (c.is_some.ensures ∙ still) (sym c.walks_on.ensures ∙ c.loop-k-test.false) ends row refl in
-    let less = (next_goes (g-of w) (at-w w) comes c.in-Some-next.ensures).1 in
+    let less = (next_goes (g-of w) (at-w w) comes (ap first_of c.in-First.ensures)).1 in
     omega (arith, less, walked-less w)
 
 pub loop-due-preserved-in_default : goal.loop-due-preserved-in_default
@@ -815,7 +815,7 @@ loop-due-preserved-in_default c =
     let still = none_left c.loop-k.stop c.in_default.not-Some in
     let comes = comes_at w (c.is_some.ensures ∙ still) (sym c.walks_on.ensures ∙ c.loop-k-test.false) ends row refl in
     let no_due : c.loop-due.due ≡ 0 = omega (arith, c.if-due-gt0.false) in (
-      none-due (given-of t) (allowed_of t) _ _ no_due (turns_at t).side_below (next_goes (g-of w) (at-w w) comes c.in-Some-next.ensures).0,
+      none-due (given-of t) (allowed_of t) _ _ no_due (turns_at t).side_below (next_goes (g-of w) (at-w w) comes (ap first_of c.in-First.ensures)).0,
       omega (arith, (at-w w).all_picks),
       (at-w w).work_most,
     )
@@ -825,20 +825,19 @@ overflow_sub-result c =
     let w = walk (goal.at.overflow_sub-result c).At-loop-due c.if-due-gt0.false c.loop-k.invariant.0 in
     omega (arith, (at-w w).all_picks)
 
-pub returns-in-None : goal.returns-in-None
-returns-in-None c =
-    let w = walk (goal.at.returns-in-None c).At-loop-due c.if-due-gt0.false c.loop-k.invariant.0 in
+pub returns-in-Over : goal.returns-in-Over
+returns-in-Over c =
+    let w = walk (goal.at.returns-in-Over c).At-loop-due c.if-due-gt0.false c.loop-k.invariant.0 in
     let g = g-of w in
     let row = gather-ends c.loop-met.invariant.0 (sym c.looks_on.ensures ∙ c.loop-met-test.false) in
     let ends = c.has_ended-ended.ensures ∙ ap is_end c.end_at.ensures in
     let still = none_left c.loop-k.stop c.in_default.not-Some in
     let comes = comes_at w (c.is_some.ensures ∙ still) (sym c.walks_on.ensures ∙ c.loop-k-test.false) ends row refl in
-    let is = next_none g (at-w w) comes c.in-None.ensures in
-    let same = rounds_kept g.course g.order w.p.begun w.m.places w.m.work c.has_ended-ended.result c.loop-met.row.slots in
+    let is = next_none g (at-w w) comes (ap first_of c.in-Over.ensures) in
     record {
       state_after = sym (ap (λ (d : Driven). d.state) is.0);
       picks = sym (ap (λ (d : Driven). d.picks) is.0);
-      rounds = c.rounds.ensures ∙ sym (ap (λ (d : Driven). d.rounds) is.0 ∙ same is.1);
+      rounds = c.rounds.ensures ∙ ap (λ (s : Stretch). rounds_of g.course s.first.begun) c.in-Over.ensures ∙ sym (ap (λ (d : Driven). d.rounds) is.0);
     }
 
 pub overflow_add-state-else-due-gt0 : goal.overflow_add-state-else-due-gt0

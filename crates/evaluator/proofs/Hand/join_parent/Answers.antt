@@ -49,6 +49,9 @@ returns-in-Faulted c =
       leads_to = λ words interval.
           join_leads cells h rows q.0 q.1 d deep c.args.program.now.accepted q.3 words interval (Faulted n) 0 0 refl rows.registers q.0.full.sized
           (joint-faulted cells h rows q.0 q.1 d deep n first) e;
+      same_records = refl;
+      same_sides = refl;
+      same_pile = refl;
     }
 
 pub block-block-requires : goal.block-block-requires
@@ -127,4 +130,7 @@ returns c =
       leads_to = λ words interval. leads_same cells words interval m.same_banks m.same_records m.same_sides m.same_pile
           (join_leads cells h rows q.0 q.1 d deep c.args.program.now.accepted q.3 words interval Running pc k.height (omega arith) now.registers m.sized
           (joint-running cells h rows q.0 q.1 d deep none-first q.3 pc (omega (arith, f)) now.registers w) e);
+      same_records = m.same_records;
+      same_sides = m.same_sides;
+      same_pile = m.same_pile;
     }

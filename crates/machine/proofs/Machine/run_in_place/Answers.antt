@@ -1,28 +1,21 @@
 -- `run_in_place` meets its contract.
 use Rattle.std.proofs.Common.{[], ◌∷◌}
+use Rattle.std.proofs.lemmas.Result.{err_from_is_err_and}
 use Rattle.machine.proofs.Machine.run_in_place.Goals as goal
 use mathlib.Core.Path.{sym, ap, ◌∙◌}
-use Rattle.image.proofs.Refusals.{refused, exit_no}
+use Rattle.image.proofs.Refusals.{refused}
 use Rattle.drive.specs.Ending.{job_ended}
-use Rattle.drive.specs.declared.State.{State}
 use Rattle.drive.proofs.ShapeLaws.{shape_allowed}
 use Rattle.drive.proofs.Owning.{places_some}
-use Rattle.machine.specs.Outcome.{Outcome}
 use Rattle.machine.proofs.PickLaws.{state_passed, whole_length}
 use Rattle.machine.proofs.Picked.{run-refused, run-answered, starts_in_lem}
 
-pub returns-in_err-ask_state-clause-value : goal.returns-in_err-ask_state-clause-value
-returns-in_err-ask_state-clause-value c =
+pub returns-in_err-ask_state : goal.returns-in_err-ask_state
+returns-in_err-ask_state c =
     let a = c.args in
     let r = c.in_err-ask_state.field-0.0 in
-    exit_no _ r c.from_residual.ensures.1
-    ∙ ap (λ (o : Outcome). o.no) (run-refused a.cells.now a.words.now a.self.now.state a.budget _ c.in_err-ask_state.ensures (refused r))
-
-pub returns-in_err-ask_state-clause-state_after : goal.returns-in_err-ask_state-clause-state_after
-returns-in_err-ask_state-clause-state_after c =
-    let a = c.args in
-    let r = c.in_err-ask_state.field-0.0 in
-    ap (λ (o : Outcome). o.machine) (run-refused a.cells.now a.words.now a.self.now.state a.budget _ c.in_err-ask_state.ensures (refused r))
+    let p = err_from_is_err_and c.from_residual.result c.from_residual.ensures.1 in
+    rw (p.1, p.2) (run-refused a.cells.now a.words.now a.self.now.state a.budget _ c.in_err-ask_state.ensures (refused r))
 
 pub drive-counts-requires : goal.drive-counts-requires
 drive-counts-requires c =
@@ -37,11 +30,5 @@ returns c =
     let a = c.args in
     let ran = run-answered a.cells.now a.words.now a.self.now.state a.budget (sym c.in_ok-ask_state.ensures) (0 ∷ []) in
     let d = c.drive-counts.ensures in
-    record {
-      value = ap (λ (o : Outcome). o.no) ran;
-      state_after = ap (λ (s : State). record { state = s }) d.state_after ∙ ap (λ (o : Outcome). o.machine) ran;
-      ran = (
-        d.picks ∙ ap (λ (o : Outcome). o.picks) ran,
-        c.has_ended.ensures.value ∙ ap job_ended d.state_after ∙ ap (λ (o : Outcome). o.ended) ran,
-      );
-    }
+    let ended = c.has_ended.ensures.value ∙ ap job_ended d.state_after in
+    (λ i. record { no = 0; ended = ended i; picks = d.picks i; machine = record { state = d.state_after i } }) ∙ ran

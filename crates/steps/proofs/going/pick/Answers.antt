@@ -3,6 +3,7 @@ use Rattle.std.proofs.Common.{sym, ap, ◌∙◌}
 use Rattle.std.proofs.lemmas.Result.{err_from_is_err_and}
 use Rattle.state.specs.State.{state_bytes}
 use Rattle.steps.proofs.going.pick.Goals as goal
+use Rattle.image.specs.Refusals.{no_of}
 use Rattle.image.proofs.Refusals.{no_decides}
 use Rattle.machine.specs.Picking.{pick_no, picked}
 use Rattle.steps.specs.Buffers.{cells_of, integers_of}
@@ -21,14 +22,14 @@ returns-in_err-ask_lent c =
       lent_after = call_refused r _ _ answer;
     })
 
-pub returns-in_err-pick_on : goal.returns-in_err-pick_on
-returns-in_err-pick_on c =
+pub returns-in_err-answer : goal.returns-in_err-answer
+returns-in_err-answer c =
     let a = c.args in
-    let p = err_from_is_err_and c.from_residual-in_err-pick_on.result c.from_residual-in_err-pick_on.ensures.1 in
-    let r = c.in_err-pick_on.field-0.0 in
+    let p = err_from_is_err_and c.from_residual-in_err-answer.result c.from_residual-in_err-answer.ensures.1 in
+    let r = c.in_err-answer.field-0.0 in
     let ready = when_ready a.program.now a.words.now a.lent.now _ c.in_ok-ask_lent.ensures.ready in
     let answer =
-    c.in_err-pick_on.ensures.value
+    ap no_of (sym c.in_err-answer.was) ∙ c.pick_on-answer.ensures.value
     ∙ ap (λ m. pick_no (cells_of a.program.now) (integers_of a.words.now) m a.slot) c.read_state.ensures
     ∙ sym (pick-ready a.program.now a.words.now a.lent.now a.slot ready) in
     rw (p.1, p.2) (record {
@@ -43,9 +44,9 @@ returns c =
     let accepted =
     pick-ready a.program.now a.words.now a.lent.now a.slot ready
     ∙ ap (λ m. pick_no (cells_of a.program.now) (integers_of a.words.now) m a.slot) (sym c.read_state.ensures)
-    ∙ sym c.in_ok-pick_on.ensures.value in
+    ∙ sym c.pick_on-answer.ensures.value ∙ ap no_of c.in_ok-answer.was in
     let state =
-    c.in_ok-pick_on.ensures.state_after
+    c.pick_on-answer.ensures.state_value
     ∙ ap (λ m. picked (cells_of a.program.now) (integers_of a.words.now) m a.slot) c.read_state.ensures in
     record {
       value = sym accepted;

@@ -8,4 +8,4 @@ returns c =
     let a = c.args in
     let cells = c.read_cells.ensures ∙ program_read a.program.now c.requires.0 in
     let held = c.read_integers.ensures ∙ integers_read a.words.now _ c.requires.1 in
-    rw (← cells, ← held) c.pick_in_place.ensures
+    rw (← cells, ← held) c.pick.ensures

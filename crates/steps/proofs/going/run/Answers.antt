@@ -5,7 +5,7 @@ use Rattle.steps.proofs.going.run.Goals as goal
 use Rattle.image.proofs.Refusals.{no_decides}
 use Rattle.report.specs.Report.{report_of, report_bytes}
 use Rattle.state.specs.State.{state_bytes}
-use Rattle.machine.specs.Running.{outcome}
+use Rattle.machine.specs.Running.{outcome, outcome_of}
 use Rattle.steps.specs.Buffers.{cells_of, integers_of}
 use Rattle.steps.specs.Calls.{ran_no, lent_no, is_ready}
 use Rattle.steps.proofs.Answers.{call_refused, call_accepted}
@@ -31,7 +31,8 @@ returns-in_err-ran c =
     let r = c.in_err-ran.field-0.0 in
     let found = ap (λ t. is_ready a.program.now a.words.now t a.lent.now) (sym c.both_fit.ensures) ∙ c.in_ok-ask_lent.ensures.ready in
     let answer =
-    c.in_err-ran.ensures.value
+    ap (λ answer. (outcome_of c.run_on-answer.result.machine answer).no) (sym c.in_err-ran.was)
+    ∙ ap (λ o. o.no) c.run_on-answer.ensures
     ∙ ap (λ m. (outcome (cells_of a.program.now) (integers_of a.words.now) m a.budget).no) c.read_state.ensures
     ∙ run_number a.program.now a.words.now a.lent.now (length a.out.now) a.budget (when_ready a.program.now a.words.now a.lent.now _ found) in
     rw (p.1, p.2) (record {
@@ -45,12 +46,12 @@ returns c =
     let a = c.args in
     let found = ap (λ t. is_ready a.program.now a.words.now t a.lent.now) (sym c.both_fit.ensures) ∙ c.in_ok-ask_lent.ensures.ready in
     let came = ap (λ m. outcome (cells_of a.program.now) (integers_of a.words.now) m a.budget) c.read_state.ensures in
-    let ran = c.in_ok-ran.ensures in
+    let ran = ap (outcome_of c.run_on-answer.result.machine) (sym c.in_ok-ran.was) ∙ c.run_on-answer.ensures ∙ came in
     let answer =
-    ran.value ∙ ap (λ o. o.no) came
+    ap (λ o. o.no) ran
     ∙ run_number a.program.now a.words.now a.lent.now (length a.out.now) a.budget (when_ready a.program.now a.words.now a.lent.now _ found) in
-    let machine = ran.state_after ∙ ap (λ o. o.machine) came in
-    let picks = ran.ran.0 ∙ ap (λ o. o.picks) came in
+    let machine = ap (λ o. o.machine) ran in
+    let picks = ap (λ o. o.picks) ran in
     let report = c.report_of-r.ensures ∙ (λ i. report_of (machine i).state (picks i)) in
     record {
       value = answer;

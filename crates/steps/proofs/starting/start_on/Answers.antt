@@ -10,4 +10,4 @@ returns c =
     let cells = c.read_cells.ensures ∙ program_read a.program.now p.0 in
     let first = c.read_integers.ensures ∙ integers_read a.registers.now 16 p.1 in
     let held = c.read_integers-2.ensures ∙ integers_read a.words.now _ p.2 in
-    rw (← cells, ← first, ← held) c.start_in_place.ensures
+    rw (← cells, ← first, ← held) c.start.ensures

@@ -1,0 +1,17 @@
+-- `ask_cells_in` meets its contract.
+use Rattle.std.proofs.Common.{◌*◌, ℕ, arith}
+use Rattle.std.proofs.lemmas.List.{length-take-le}
+use Rattle.image.specs.Questions.{program_no}
+use Rattle.state.specs.Reading.{table, number_at}
+use Rattle.steps.proofs.buffers.ask_cells_in.Goals as goal
+use mathlib.Core.Path.{ap, ◌∙◌}
+use Rattle.steps.proofs.Cells.{questions_front}
+
+pub returns : goal.returns
+returns c =
+    let bytes = c.args.program.now in
+    let n = c.cells_in-count in
+    c.ask_read.ensures
+    ∙ ap (λ (k : ℕ). program_no (table (λ i. number_at bytes (8 * i)) k))
+    (length-take-le n.result c.args.cells.now (omega (arith, n.ensures.1, c.requires)))
+    ∙ questions_front bytes n.result n.ensures.0 n.ensures.2
