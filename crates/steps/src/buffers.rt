@@ -56,19 +56,11 @@ fn ask_read(program: &[u8], cells: &mut [u64]) -> Result<(), Refusal>
     image::questions::ask_program(cells)
 }
 
-// The program's questions, 3, 4 and 6 to 9, put to a buffer of any length: no question looks beyond the cells that a program has room for. They
-// go to the lent slice. `ask_cells` and `write_program` call it, with cells of their own.
-pub fn ask_cells_in(program: &[u8], cells: &mut [u64]) -> Result<(), Refusal>
-    requires { length cells.old ≡ program_cells }
-    ensures { no_of result ≡ program_no (cells_of program.now) }
-{
-    let count = cells_in(program.len());
-    ask_read(program, &mut cells[..count])
-}
-
+// The program's questions, 3, 4 and 6 to 9, put to a buffer of any length: no question looks beyond the cells that a program has room for.
 pub fn ask_cells(program: &[u8]) -> Result<(), Refusal>
     ensures { no_of result ≡ program_no (cells_of program.now) }
 {
     let mut cells = [0u64; PROGRAM_CELLS];
-    ask_cells_in(program, &mut cells)
+    let count = cells_in(program.len());
+    ask_read(program, &mut cells[..count])
 }

@@ -27,12 +27,11 @@ pub fn write_program(program: &[u8], image: &mut [u8]) -> Result<(), Refusal>
     ensures value { no_of result ≡ written_no program.now (length image.old) }
     ensures image_after { image.new ≡ image_after program.now image.old }
 {
-    // one buffer for both ways: with cells of its own the question took twice the stack
-    let mut cells = [0u64; PROGRAM_CELLS];
     if program.len() != PROGRAM_BYTES {
-        buffers::ask_cells_in(program, &mut cells)?;
+        buffers::ask_cells(program)?;
         return Err(Refusal::Buffer);
     }
+    let mut cells = [0u64; PROGRAM_CELLS];
     buffers::read_cells(program, &mut cells);
     image::writer::write(&cells, image)
 }

@@ -6,11 +6,11 @@ use Rattle.image.specs.declared.refusal.Refusal.TheVariants.{Buffer}
 use Rattle.steps.proofs.Cells.{program_read}
 use Rattle.steps.proofs.Answers.{call_refused, write_refused, write_too_long, write_answered}
 
-pub returns-in_err-ask_cells_in : goal.returns-in_err-ask_cells_in
-returns-in_err-ask_cells_in c =
+pub returns-in_err-ask_cells : goal.returns-in_err-ask_cells
+returns-in_err-ask_cells c =
     let p = err_from_is_err_and c.from_residual.result c.from_residual.ensures.1 in
-    let r = c.in_err-ask_cells_in.field-0.0 in
-    let answer = write_refused c.args.program.now (length c.args.image.now) r c.in_err-ask_cells_in.ensures in
+    let r = c.in_err-ask_cells.field-0.0 in
+    let answer = write_refused c.args.program.now (length c.args.image.now) r c.in_err-ask_cells.ensures in
     rw (p.1, p.2) (record {
       value = answer;
       image_after = call_refused r _ _ answer;
@@ -19,7 +19,7 @@ returns-in_err-ask_cells_in c =
 pub returns-then-program-ne-PROGRAM_BYTES : goal.returns-then-program-ne-PROGRAM_BYTES
 returns-then-program-ne-PROGRAM_BYTES c =
     let a = c.args in
-    let answer = write_too_long a.program.now (length a.image.now) (sym c.in_ok-ask_cells_in.ensures) c.if-program-ne-PROGRAM_BYTES.true in
+    let answer = write_too_long a.program.now (length a.image.now) (sym c.in_ok-ask_cells.ensures) c.if-program-ne-PROGRAM_BYTES.true in
     record {
       value = answer;
       image_after = call_refused Buffer _ _ answer;
