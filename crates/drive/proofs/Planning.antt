@@ -1,9 +1,10 @@
 -- What a turn of the loop has written and planned: with its moves made, the next turn holds. One statement for each kind of turn.
 use mathlib.Core.Path.{◌≡◌, refl, sym, ap, ap₂, ◌∙◌, subst⁻¹}
-use mathlib.Core.Bool.{true, false, cond}
+use mathlib.Core.Bool.{Bool, true, false, cond}
 use mathlib.Core.List.{List}
 use Prim.Native.Nat.{ℕ, ◌+◌, ◌-◌, ◌*◌, ◌/◌, ◌%◌, ◌<◌, ◌≤◌}
 use native.Mathlib.Omega.{arith}
+use lib.Dec.{leb}
 use lib.ListN.{get_or, set}
 use lib.Seq.{get_or-set_same, get_or-set_other}
 use Rattle.facts.proofs.Tests.{clash, by-test}
@@ -26,12 +27,14 @@ use Rattle.drive.specs.Writes.{with_task_at, tasks_joined}
 use Rattle.drive.specs.Moves.{paired_at, cleared_at, moved, PlanFits}
 use Rattle.turns.specs.declared.moves.Moves.{Moves}
 use Rattle.turns.specs.declared.course.Position.{Position}
+use Rattle.turns.specs.declared.course.Course.{Course}
+use Rattle.turns.specs.declared.course.Course.TheVariants.{Passes, Listed, Rounds}
 use Rattle.std.specs.Prelude.{Option, Some, None, is_some}
 use Rattle.drive.specs.Slots.{at, ticked, slots_of}
 use Rattle.drive.specs.Issue.{issued}
 use Rattle.turns.specs.Moving.{fork_moves, end_moves, join_moves}
 use Rattle.turns.specs.Kinds.{status_of, height_left, stacks_it, pops_it, stack_no}
-use Rattle.turns.specs.Stretches.{Stretch, first_of, rounds_of}
+use Rattle.turns.specs.Stretches.{Stretch, first_of, next_stretch, rounds_of}
 use Rattle.turns.specs.Walk.{picked_on, stopped_at}
 use Rattle.drive.proofs.Models.{Allowed}
 use Rattle.drive.proofs.ShapeLaws.{Fits}
@@ -228,6 +231,18 @@ module _ (g : Given) (allowed : GivenAllowed g) where
               forks g allowed a s.walks s.runs_there issued-is (ap (λ (o : Task). is_running o.status) mine) half (ap (λ (o : Task). o.places) mine) r.1
 
 -- ---- the next stretch, or the end
+
+-- where the stretches are over, as many rounds are begun as were before
+pub rounds_kept : (course : Course) (order : List ℕ) (begun places work : ℕ) (ended : Bool) (row : ℕ)
+    → (next_stretch course order begun places work ended row).over ≡ true
+    → rounds_of course (next_stretch course order begun places work ended row).first.begun ≡ rounds_of course begun
+rounds_kept (Passes slot picks) order begun places work ended row over = refl
+rounds_kept Listed order begun places work ended row over = refl
+rounds_kept (Rounds lanes rounds) order begun places work true row over = refl
+rounds_kept (Rounds lanes rounds) order begun places work false row over =
+    by-test (leb work_limit work)
+    (λ t. rw t refl)
+    (λ t. by-test (leb rounds begun) (λ u. rw (t, u) refl) (λ u. let none = rw (t, u) at over in clash none refl))
 
 module _ (g : Given) {m : State} {p : Position} (a : At g m p) {s : Stretch}
     (c : Comes (result g) m a.picks p.begun (most_stretches g.course g.order) (rounds_of g.course) (λ q. At g m q) s) where
